@@ -1,1 +1,4 @@
 pub mod ListView
+pub mod Places
+pub mod Span
+pub mod Address

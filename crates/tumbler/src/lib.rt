@@ -3,6 +3,10 @@
 
 mod list;
 mod memory;
+mod span;
+mod tumbler;
 
 pub use list::{List, Text};
 pub use memory::Memory;
+pub use span::Span;
+pub use tumbler::{BadTumbler, MOST_PLACES, Tumbler};

@@ -1,0 +1,36 @@
+-- The forms of addresses.
+use Rattle.std.specs.Prelude.{◌≡◌, ℕ, ◌<◌, ◌≤◌, ◌⊎◌, List, [], ◌∷◌, ◌++◌, length, All}
+
+-- a field is one or more places, none of them 0
+pub record IsField (field : List ℕ) : Type 0 where
+  pub filled : 0 < length field
+  pub full : All (λ p. 0 < p) field
+
+-- an account is a node field, one 0 and a user field, in at most 12 places
+pub record IsAccount (places : List ℕ) : Type 0 where
+  pub node : List ℕ
+  pub user : List ℕ
+  pub parts : places ≡ node ++ 0 ∷ user
+  pub node_field : IsField node
+  pub user_field : IsField user
+  pub short : length places ≤ 12
+
+-- a document of an account is that account, one 0 and a document field, in at most 20 places
+pub record IsDocumentOf (places account : List ℕ) : Type 0 where
+  pub field : List ℕ
+  pub parts : places ≡ account ++ 0 ∷ field
+  pub account_address : IsAccount account
+  pub document_field : IsField field
+  pub short : length places ≤ 20
+
+abbrev pub IsDocument : List ℕ → Type 0
+IsDocument places = (account : List ℕ) × IsDocumentOf places account
+
+-- a content byte is `document.0.1.n`, and a link that was made in the document is `document.0.2.n`, n from 1
+pub record IsMadeIn (places document : List ℕ) : Type 0 where
+  pub part : ℕ
+  pub number : ℕ
+  pub parts : places ≡ document ++ 0 ∷ part ∷ number ∷ []
+  pub byte_or_link : (part ≡ 1) ⊎ (part ≡ 2)
+  pub counted : 0 < number
+  pub document_address : IsDocument document
