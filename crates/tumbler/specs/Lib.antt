@@ -2,3 +2,4 @@ pub mod ListView
 pub mod Places
 pub mod Span
 pub mod Address
+pub mod Laws

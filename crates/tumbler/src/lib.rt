@@ -1,6 +1,9 @@
 //! Places named by tumblers, the spans between them, and the lists that everything above is made of.
 #![tactic(auto)]
 
+mod address;
+mod arithmetic;
+pub mod laws;
 mod list;
 mod memory;
 mod span;

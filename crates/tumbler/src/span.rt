@@ -1,4 +1,5 @@
 //! Spans: the places from a start up to an end.
+ghost use Rattle.std.specs.Prelude.{◌≡◌, ℕ, ◌≤◌, ◌<◌, ◌↔◌, IsTrue};
 
 use crate::tumbler::Tumbler;
 
@@ -7,4 +8,57 @@ use crate::tumbler::Tumbler;
 pub struct Span {
     pub start: Tumbler,
     pub width: Tumbler,
+}
+
+impl Span {
+    ghost use Rattle.tumbler.specs.Span.{SpanFits, IsIn, Share, end_of};
+    ghost use Rattle.tumbler.specs.Places.{IsBefore, IsTumbler};
+
+    /// Another with the same start and width.
+    pub fn copy(&self) -> Span
+        ensures { result ≡ self.now }
+    {
+        Span {
+            start: self.start.copy(),
+            width: self.width.copy(),
+        }
+    }
+
+    /// Whether the end, start plus width, is a tumbler.
+    pub fn fits(&self) -> bool
+        ensures { IsTrue result ↔ SpanFits self.now }
+    {
+        self.start.fits(&self.width)
+    }
+
+    /// Whether `x` lies in the span.
+    pub fn contains(&self, x: &Tumbler) -> bool
+        requires { SpanFits self.now }
+        ensures { IsTrue result ↔ IsIn x.now self.now }
+    {
+        if x.precedes(&self.start) {
+            return false;
+        }
+        x.precedes(&self.start.add(&self.width))
+    }
+
+    /// Whether some place lies in both spans. Spans that only touch share none.
+    pub fn overlaps(&self, other: &Span) -> bool
+        requires fits { SpanFits self.now }
+        requires other_fits { SpanFits other.now }
+        ensures { IsTrue result ↔ Share self.now other.now }
+    {
+        if self.start.precedes(&other.start) {
+            return self.ends_after(&other.start) && other.ends_after(&other.start);
+        }
+        self.ends_after(&self.start) && other.ends_after(&self.start)
+    }
+
+    fn ends_after(&self, x: &Tumbler) -> bool
+        requires { SpanFits self.now }
+        ensures after { IsTrue result ↔ IsBefore x.now (end_of self.now) }
+        ensures tumbler { IsTumbler x.now }
+    {
+        x.precedes(&self.start.add(&self.width))
+    }
 }

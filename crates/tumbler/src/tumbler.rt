@@ -1,9 +1,12 @@
 //! Tumblers: addresses of places, with their order, sums and differences.
-ghost use Rattle.std.specs.Prelude.{◌≡◌, ◌≢◌, ℕ, ◌+◌, ◌-◌, ◌^◌, ◌<◌, ◌≤◌, ◌↔◌, ◌==◌, ◌⊎◌, List, [], ◌∷◌, ◌++◌, length, take, drop, All, IsTrue, IsOk, IsErr, IfOk, replicate, slice_index, refl};
+ghost use Rattle.std.specs.Prelude.{◌≡◌, ◌≢◌, ℕ, ◌+◌, ◌-◌, ◌^◌, ◌<◌, ◌≤◌, ◌↔◌, ◌==◌, ◌⊎◌, List, [], ◌∷◌, ◌++◌, length, take, drop, All, IsTrue, IsOk, IsErr, IfOk, IfSome, IfNone, replicate, slice_index, refl};
 ghost use Rattle.std.specs.Ordering.{nat_cmp, as_partial_cmp};
 ghost use Rattle.std.specs.Cmp.Lexicographic.{slice_cmp, nat_list_cmp_total, texts_ties, texts_po};
-ghost use Rattle.tumbler.specs.Places.{place, IsTumbler, IsUpTo, sum, Fits, difference};
+ghost use Rattle.tumbler.specs.Places.{place, IsTumbler, EndsWell, IsBefore, IsUpTo, sum, Fits, difference};
+ghost use Rattle.tumbler.specs.Address.{IsAccount, IsDocument, IsDocumentOf, IsMadeIn};
 
+use crate::address;
+use crate::arithmetic::{difference_of, sum_fits, sum_of};
 use smallvec::SmallVec;
 use std::alloc::Global;
 use std::cmp::Ordering;
@@ -96,6 +99,105 @@ impl Tumbler {
         ensures tumbler { IsTumbler self.now }
     {
         self.held.as_slice()
+    }
+}
+
+impl Tumbler {
+    /// Whether the sum with the displacement `d` is a tumbler: the one place that is added stays below 2^32.
+    pub fn fits(&self, d: &Tumbler) -> bool
+        ensures { IsTrue result ↔ Fits self.now d.now }
+    {
+        sum_fits(self.places(), d.places())
+    }
+
+    /// The sum with the displacement `d`.
+    pub fn add(&self, d: &Tumbler) -> Tumbler
+        requires { Fits self.now d.now }
+        ensures { result ≡ sum self.now d.now }
+    {
+        Tumbler {
+            held: sum_of(*self.held.allocator(), self.places(), d.places()),
+        }
+    }
+
+    /// The displacement that leads from `a` to this one.
+    pub fn minus(&self, a: &Tumbler) -> Tumbler
+        requires { IsUpTo a.now self.now }
+        ensures { result ≡ difference self.now a.now }
+    {
+        Tumbler {
+            held: difference_of(*self.held.allocator(), self.places(), a.places()),
+        }
+    }
+
+    /// The tumbler with `k` as one place more.
+    pub fn child(&self, k: u32) -> Tumbler
+        requires room { length self.now < 24 }
+        requires counted { 0 < k }
+        ensures { result ≡ self.now ++ k ∷ [] }
+    {
+        let mut held = SmallVec::from_slice(*self.held.allocator(), self.places()).unwrap();
+        held.push_reserved(k);
+        Tumbler { held }
+    }
+
+    /// Whether this is an account's address.
+    pub fn is_account(&self) -> bool
+        ensures { IsTrue result ↔ IsAccount self.now }
+    {
+        address::is_account(self.places())
+    }
+
+    /// Whether this is a document's address.
+    pub fn is_document(&self) -> bool
+        ensures { IsTrue result ↔ IsDocument self.now }
+    {
+        address::account_len(self.places()).is_some()
+    }
+
+    /// The account of a document.
+    pub fn account_of(&self) -> Tumbler
+        requires { IsDocument self.now }
+        ensures { IsDocumentOf self.now result }
+    {
+        let places = self.places();
+        match address::account_len(places) {
+            Some(n) => self.front(n),
+            None => unreachable!(),
+        }
+    }
+
+    /// The document in whose address a content byte's or a link's address begins.
+    pub fn document_of(&self) -> Option<Tumbler>
+        ensures found { IfSome result (IsMadeIn self.now) }
+        ensures none { IfNone result ((document : List ℕ) → ¬ IsMadeIn self.now document) }
+    {
+        match address::document_len(self.places()) {
+            Some(n) => Some(self.front(n)),
+            None => None,
+        }
+    }
+
+    /// Whether this one comes before the other.
+    pub(crate) fn precedes(&self, other: &Tumbler) -> bool
+        ensures before { IsTrue result ↔ IsBefore self.now other.now }
+        ensures tumbler { IsTumbler self.now }
+    {
+        self.held.as_slice().cmp(&other.held.as_slice()).is_lt()
+    }
+
+    /// The tumbler of the first `n` places, of which the last is not 0.
+    fn front(&self, n: usize) -> Tumbler
+        requires within { n ≤ length self.now }
+        requires ends { EndsWell (take n self.now) }
+        ensures { result ≡ take n self.now }
+    {
+        Tumbler {
+            held: SmallVec::from_slice(
+                *self.held.allocator(),
+                self.places().split_at(n).0,
+            ).unwrap(),
+        }
     }
 }
 

@@ -1,0 +1,9 @@
+pub mod Order
+pub mod Tumblers
+pub mod Sums
+pub mod SumSteps
+pub mod Differences
+pub mod DifferenceSteps
+pub mod ByPlaces
+pub mod Addresses
+pub mod Spans

@@ -1,0 +1,63 @@
+//! The laws of tumblers. Each is a function that does nothing, whose contract says the law.
+ghost use Rattle.tumbler.specs.Laws.{DifferenceAddsBack, DifferenceUndoesSum, SumsAssociate, SumsFitTogether, SumsKeepOrder, SumsCancel, SumComesAfter, SumIsATumbler, OrderByPlaces, SumByPlaces, DifferenceByPlaces};
+
+/// For tumblers a and b with a up to b, the difference of b and a is a tumbler, and adding it
+/// to a fits and gives b.
+pub fn difference_adds_back()
+    ensures { DifferenceAddsBack }
+{}
+
+/// The difference of a sum and its start is the displacement that was added, if that does not
+/// end in 0.
+pub fn difference_undoes_sum()
+    ensures { DifferenceUndoesSum }
+{}
+
+/// Adding one displacement and then another is adding the sum of the two.
+pub fn sums_associate()
+    ensures { SumsAssociate }
+{}
+
+/// Where adding the first of two displacements fits, adding the second one after it fits
+/// exactly where the sum of the two fits and so does adding that sum.
+pub fn sums_fit_together()
+    ensures { SumsFitTogether }
+{}
+
+/// Of two displacements from one place the greater leads further, if it does not end in 0.
+pub fn sums_keep_order()
+    ensures { SumsKeepOrder }
+{}
+
+/// Two displacements that lead from one place to one place are the same, if neither ends in 0.
+pub fn sums_cancel()
+    ensures { SumsCancel }
+{}
+
+/// A displacement that is not zero leads further, if it does not end in 0.
+pub fn a_sum_comes_after()
+    ensures { SumComesAfter }
+{}
+
+/// A sum of tumblers that fits is a tumbler.
+pub fn sum_is_a_tumbler()
+    ensures { SumIsATumbler }
+{}
+
+/// One comes before another that does not end in 0 exactly where it has the lesser at the first
+/// place where they differ. A missing place counts as 0.
+pub fn order_by_places()
+    ensures { OrderByPlaces }
+{}
+
+/// A sum has the places of its start before the first place of the displacement that is not 0,
+/// the sum of both there, and the displacement's after it. It is as long as the displacement.
+pub fn sum_by_places()
+    ensures { SumByPlaces }
+{}
+
+/// The difference of b and a, with a up to b, is 0 before the first place where they differ,
+/// the difference of their places there, and has b's places after it. It is as long as b.
+pub fn difference_by_places()
+    ensures { DifferenceByPlaces }
+{}
