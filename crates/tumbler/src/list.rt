@@ -9,6 +9,7 @@ ghost use Rattle.tumbler.specs.ListView.{list_len};
 
 use crate::memory::Memory;
 use std::alloc::Global;
+use std::fmt;
 use std::marker::Model;
 use std::slice;
 
@@ -189,5 +190,11 @@ impl<'a, T> IntoIterator for &'a List<T> {
 
     fn into_iter(self) -> slice::Iter<'a, T> {
         self.iter()
+    }
+}
+
+impl<T: fmt::Debug> fmt::Debug for List<T> {
+    fn fmt<W: fmt::Write>(&self, f: &mut fmt::Formatter<W>) -> fmt::Result {
+        self.held.fmt(f)
     }
 }

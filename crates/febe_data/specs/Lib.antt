@@ -1,0 +1,9 @@
+pub use Rattle.tumbler.specs.ListView
+pub use Rattle.tumbler.specs.Places
+pub use Rattle.tumbler.specs.Span
+pub use Rattle.tumbler.specs.Address
+pub use Rattle.tumbler.specs.Laws
+pub mod LimitsView
+pub mod Refusal
+pub mod Plain
+pub mod Spelling

@@ -1,0 +1,2 @@
+//! The bytes of requests.
+#![tactic(auto)]
