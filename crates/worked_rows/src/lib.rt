@@ -1,0 +1,6 @@
+//! Whole runs over a source and a sink that lie in memory.
+#![tactic(auto)]
+
+pub mod fakes;
+#[cfg(test)]
+mod tests;
