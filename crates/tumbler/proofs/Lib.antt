@@ -7,3 +7,4 @@ pub mod DifferenceSteps
 pub mod ByPlaces
 pub mod Addresses
 pub mod Spans
+pub mod AccountTest

@@ -1,5 +1,6 @@
 -- The forms of addresses.
-use Rattle.std.specs.Prelude.{◌≡◌, ℕ, ◌<◌, ◌≤◌, ◌⊎◌, List, [], ◌∷◌, ◌++◌, length, All}
+use Rattle.std.specs.Prelude.{◌≡◌, ℕ, zero, suc, ◌<◌, ◌≤◌, ◌⊎◌, ◌&&◌, Bool, nat_lt, nat_le, List, [], ◌∷◌, ◌++◌, length, All}
+use Rattle.std.specs.List.{list_all}
 
 -- a field is one or more places, none of them 0
 pub record IsField (field : List ℕ) : Type 0 where
@@ -34,3 +35,24 @@ pub record IsMadeIn (places document : List ℕ) : Type 0 where
   pub byte_or_link : (part ≡ 1) ⊎ (part ≡ 2)
   pub counted : 0 < number
   pub document_address : IsDocument document
+
+-- ---- tests
+
+-- the places before the first 0, and those after it
+abbrev pub before_first_zero : List ℕ → List ℕ
+before_first_zero [] = []
+before_first_zero (zero ∷ places) = []
+before_first_zero (suc p ∷ places) = suc p ∷ before_first_zero places
+
+abbrev pub after_first_zero : List ℕ → List ℕ
+after_first_zero [] = []
+after_first_zero (zero ∷ places) = places
+after_first_zero (suc p ∷ places) = after_first_zero places
+
+-- whether places are a field
+abbrev pub field_test : List ℕ → Bool
+field_test field = nat_lt 0 (length field) && list_all (λ p. nat_lt 0 p) field
+
+-- whether places are an account: what stands before the first 0, and what stands after it, are fields
+abbrev pub account_test : List ℕ → Bool
+account_test places = field_test (before_first_zero places) && field_test (after_first_zero places) && nat_le (length places) 12

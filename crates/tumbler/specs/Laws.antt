@@ -1,5 +1,6 @@
 -- The laws of tumblers: their order, sums and differences.
-use Rattle.std.specs.Prelude.{◌≡◌, ◌≢◌, ℕ, ◌+◌, ◌-◌, ◌<◌, ◌↔◌, List, [], length}
+use Rattle.std.specs.Prelude.{◌≡◌, ◌≢◌, ℕ, true, ◌+◌, ◌-◌, ◌<◌, ◌↔◌, List, [], length}
+use Rattle.tumbler.specs.Address.{IsAccount, account_test}
 use Rattle.tumbler.specs.Places.{place, EndsWell, IsTumbler, IsBefore, IsUpTo, sum, Fits, difference}
 
 -- what leads from a to b is a tumbler, and adding it to a fits and gives b
@@ -81,3 +82,7 @@ pub record TakesAt (a b d : List ℕ) (k : ℕ) : Type 0 where
 -- the difference, said by its places: it takes away at the first place where a and b differ
 abbrev pub DifferenceByPlaces : Type 0
 DifferenceByPlaces = (a b : List ℕ) (k : ℕ) → IsUpTo a b → IsFirstOther a b k → TakesAt a b (difference b a) k
+
+-- the test of an account is true exactly of accounts
+abbrev pub AccountTested : Type 0
+AccountTested = (places : List ℕ) → (account_test places ≡ true) ↔ IsAccount places

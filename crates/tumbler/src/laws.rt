@@ -1,5 +1,5 @@
 //! The laws of tumblers. Each is a function that does nothing, whose contract says the law.
-ghost use Rattle.tumbler.specs.Laws.{DifferenceAddsBack, DifferenceUndoesSum, SumsAssociate, SumsFitTogether, SumsKeepOrder, SumsCancel, SumComesAfter, SumIsATumbler, OrderByPlaces, SumByPlaces, DifferenceByPlaces};
+ghost use Rattle.tumbler.specs.Laws.{DifferenceAddsBack, DifferenceUndoesSum, SumsAssociate, SumsFitTogether, SumsKeepOrder, SumsCancel, SumComesAfter, SumIsATumbler, OrderByPlaces, SumByPlaces, DifferenceByPlaces, AccountTested};
 
 /// For tumblers a and b with a up to b, the difference of b and a is a tumbler, and adding it
 /// to a fits and gives b.
@@ -60,4 +60,9 @@ pub fn sum_by_places()
 /// the difference of their places there, and has b's places after it. It is as long as b.
 pub fn difference_by_places()
     ensures { DifferenceByPlaces }
+{}
+
+/// The test of an account, by what stands before and after its first 0, is true exactly of accounts.
+pub fn account_tested()
+    ensures { AccountTested }
 {}

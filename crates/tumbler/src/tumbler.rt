@@ -1,5 +1,5 @@
 //! Tumblers: addresses of places, with their order, sums and differences.
-ghost use Rattle.std.specs.Prelude.{◌≡◌, ◌≢◌, ℕ, ◌+◌, ◌-◌, ◌^◌, ◌<◌, ◌≤◌, ◌↔◌, ◌==◌, ◌⊎◌, List, [], ◌∷◌, ◌++◌, length, take, drop, All, IsTrue, IsOk, IsErr, IfOk, IfSome, IfNone, replicate, slice_index, refl};
+ghost use Rattle.std.specs.Prelude.{◌≡◌, ◌≢◌, ℕ, ◌+◌, ◌-◌, ◌^◌, ◌<◌, ◌≤◌, ◌↔◌, ◌==◌, ◌⊎◌, List, [], ◌∷◌, ◌++◌, length, take, drop, All, IsTrue, IsOk, IsErr, IfOk, OnErr, IfSome, IfNone, replicate, slice_index, refl};
 ghost use Rattle.std.specs.Ordering.{nat_cmp, as_partial_cmp};
 ghost use Rattle.std.specs.Cmp.Lexicographic.{slice_cmp, nat_list_cmp_total, texts_ties, texts_po};
 ghost use Rattle.tumbler.specs.Places.{place, IsTumbler, EndsWell, IsBefore, IsUpTo, sum, Fits, difference};
@@ -139,6 +139,24 @@ impl Tumbler {
         let mut held = SmallVec::from_slice(*self.held.allocator(), self.places()).unwrap();
         held.push_reserved(k);
         Tumbler { held }
+    }
+
+    /// The tumbler of these places and then `tail`.
+    pub fn extended(&self, tail: &[u32]) -> Result<Tumbler, BadTumbler>
+        ensures value { IfOk result (λ tumbler. tumbler ≡ self.now ++ tail.now) }
+        ensures accepted { length self.now + length tail.now ≤ 24 → (0 < length tail.now → place tail.now (length tail.now - 1) ≢ 0) → IsOk result }
+        ensures refused { OnErr result ((24 < length self.now + length tail.now) ⊎ (place tail.now (length tail.now - 1) ≡ 0)) }
+    {
+        if tail.len() > MOST_PLACES - self.places().len() {
+            return Err(BadTumbler);
+        }
+        let mut held: SmallVec<u32, 24> =
+            SmallVec::from_slice(*self.held.allocator(), self.places()).unwrap();
+        held.extend_from_slice(tail).unwrap();
+        if let Some(0) = held.as_slice().last() {
+            return Err(BadTumbler);
+        }
+        Ok(Tumbler { held })
     }
 
     /// Whether this is an account's address.

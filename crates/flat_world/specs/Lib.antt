@@ -1,0 +1,13 @@
+pub use Rattle.febe_data.specs.ListView
+pub use Rattle.febe_data.specs.Places
+pub use Rattle.febe_data.specs.Span
+pub use Rattle.febe_data.specs.Address
+pub use Rattle.febe_data.specs.LimitsView
+pub use Rattle.febe_data.specs.Refusal
+pub use Rattle.febe_data.specs.Plain
+pub mod World
+pub mod Apply
+pub mod Refusals
+pub mod Effects
+pub mod Answers
+pub mod Legal

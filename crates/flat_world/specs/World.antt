@@ -1,0 +1,120 @@
+-- The world is six plain lists, which are read by filters.
+use Rattle.std.specs.Prelude.{ℕ, ◌+◌, ◌==◌, ◌&&◌, Bool, true, false, List, [], ◌∷◌, ◌++◌, length, take, filter, count_by, Option, Some, None, nat_eq, not, if◌then◌else◌}
+use Rattle.std.specs.List.{find, list_any, fold}
+use Rattle.std.specs.Option.{option_map}
+use Rattle.std.specs.Ordering.{nat_cmp, is_le, is_lt}
+use Rattle.std.specs.Cmp.Lexicographic.{slice_cmp, pointwise}
+use Rattle.tumbler.specs.declared.span.Span.{Span}
+use Rattle.tumbler.specs.Span.{end_of}
+use Rattle.febe_data.specs.declared.spec.Run.{Run}
+use Rattle.febe_data.specs.declared.spec.Mode.{Mode}
+use Rattle.flat_world.specs.declared.rows.Part.{Part}
+use Rattle.flat_world.specs.declared.rows.Part.TheVariants.{Text, Links}
+use Rattle.flat_world.specs.declared.rows.Row.{Row}
+use Rattle.flat_world.specs.declared.rows.ByteRow.{ByteRow}
+use Rattle.flat_world.specs.declared.rows.OpenRow.{OpenRow}
+use Rattle.flat_world.specs.declared.rows.AccountRow.{AccountRow}
+
+-- a link, with the runs of its three ends
+pub record LinkRow : Type 0 where
+  pub id : List ℕ
+  pub home : List ℕ
+  pub from : List Run
+  pub to : List Run
+  pub three : List Run
+
+-- documents, what stands at their V-addresses, content bytes, links, open documents, and accounts
+pub record World : Type 0 where
+  pub documents : List (List ℕ)
+  pub rows : List Row
+  pub bytes : List ByteRow
+  pub links : List LinkRow
+  pub open_rows : List OpenRow
+  pub accounts : List AccountRow
+
+-- nothing was ever made
+abbrev pub empty_world : World
+empty_world = record { documents = []; rows = []; bytes = []; links = []; open_rows = []; accounts = [] }
+
+-- ---- addresses
+
+-- two addresses are the same
+abbrev pub is_same : List ℕ → List ℕ → Bool
+is_same a b = pointwise nat_eq a b
+
+-- an address is the front and one place more
+abbrev pub is_child_of : List ℕ → List ℕ → Bool
+is_child_of front address = length address == length front + 1 && is_same (take (length front) address) front
+
+-- content byte n of a document is `document.0.1.n`
+abbrev pub content_address : List ℕ → ℕ → List ℕ
+content_address document n = document ++ 0 ∷ 1 ∷ n ∷ []
+
+-- text stands at the V-addresses `1.n`, links at `2.n`
+abbrev pub part_number : Part → ℕ
+part_number Text = 1
+part_number Links = 2
+
+abbrev pub v_address : Row → List ℕ
+v_address row = part_number row.part ∷ row.n ∷ []
+
+-- ---- documents and sessions
+
+abbrev pub has_document : World → List ℕ → Bool
+has_document world document = list_any (λ d. is_same d document) world.documents
+
+-- the account that a session has set, if it has
+abbrev pub account_of_session : World → ℕ → Option (List ℕ)
+account_of_session world session = option_map (λ (r : AccountRow). r.account) (find (λ r. r.session == session) world.accounts)
+
+-- the row is that of the session's open document
+abbrev pub opens : ℕ → List ℕ → OpenRow → Bool
+opens session document row = row.session == session && is_same row.document document
+
+-- what the session has the document open for, if it has it open
+abbrev pub mode_of : World → ℕ → List ℕ → Option Mode
+mode_of world session document = option_map (λ (r : OpenRow). r.mode) (find (opens session document) world.open_rows)
+
+-- The next document of an account is `account.0.D`, D being one more than the number of documents
+-- of the form `account.0.x`.
+abbrev pub next_document : World → List ℕ → List ℕ
+next_document world account = account ++ 0 ∷ (count_by (is_child_of (account ++ 0 ∷ [])) world.documents + 1) ∷ []
+
+-- ---- rows
+
+abbrev pub is_text : Part → Bool
+is_text Text = true
+is_text Links = false
+
+-- the row is of this document's text
+abbrev pub is_text_of : List ℕ → Row → Bool
+is_text_of document row = is_text row.part && is_same row.document document
+
+abbrev pub is_link_of : List ℕ → Row → Bool
+is_link_of document row = not (is_text row.part) && is_same row.document document
+
+-- how many text rows a document has
+abbrev pub text_length : World → List ℕ → ℕ
+text_length world document = count_by (is_text_of document) world.rows
+
+-- how many bytes of content a document has
+abbrev pub content_length : World → List ℕ → ℕ
+content_length world document = count_by (λ (b : ByteRow). is_child_of (document ++ 0 ∷ 1 ∷ []) b.address) world.bytes
+
+-- ---- picking
+
+-- a span picks the rows whose V-address is at its start or after, and before its end
+abbrev pub picks : Span → Row → Bool
+picks span row = is_le (slice_cmp nat_cmp span.start (v_address row)) && is_lt (slice_cmp nat_cmp (v_address row) (end_of span))
+
+-- the text rows of a document that a span picks, in the order of their V-addresses
+abbrev pub picked_text : World → List ℕ → Span → List Row
+picked_text world document span = filter (λ row. is_text_of document row && picks span row) world.rows
+
+-- the link rows that it picks
+abbrev pub picked_links : World → List ℕ → Span → List Row
+picked_links world document span = filter (λ row. is_link_of document row && picks span row) world.rows
+
+-- the byte at an address: the one that came there last
+abbrev pub byte_at : List ByteRow → List ℕ → Option ℕ
+byte_at bytes address = fold (λ found (b : ByteRow). if is_same b.address address then Some b.byte else found) None bytes
