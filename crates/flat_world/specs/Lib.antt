@@ -11,3 +11,4 @@ pub mod Refusals
 pub mod Effects
 pub mod Answers
 pub mod Legal
+pub mod FlatView

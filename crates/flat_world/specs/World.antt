@@ -103,9 +103,13 @@ content_length world document = count_by (λ (b : ByteRow). is_child_of (documen
 
 -- ---- picking
 
--- a span picks the rows whose V-address is at its start or after, and before its end
+-- the row's V-address is at the start or after it, and before the end
+abbrev pub is_within : List ℕ → List ℕ → Row → Bool
+is_within start end row = is_le (slice_cmp nat_cmp start (v_address row)) && is_lt (slice_cmp nat_cmp (v_address row) end)
+
+-- a span picks the rows that are within it
 abbrev pub picks : Span → Row → Bool
-picks span row = is_le (slice_cmp nat_cmp span.start (v_address row)) && is_lt (slice_cmp nat_cmp (v_address row) (end_of span))
+picks span row = is_within span.start (end_of span) row
 
 -- the text rows of a document that a span picks, in the order of their V-addresses
 abbrev pub picked_text : World → List ℕ → Span → List Row

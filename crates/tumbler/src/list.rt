@@ -5,7 +5,8 @@ ghost use Rattle.std.specs.Slice.{IsItemAt};
 ghost use Rattle.std.specs.Slice.Iter.{iter_rest, iter_steps};
 ghost use Rattle.std.specs.Iterator.Runs.{EveryRun, ItemsMapTo};
 ghost use Rattle.std.specs.Iterator.Adapters.{IterYieldsInOrder};
-ghost use Rattle.tumbler.specs.ListView.{list_len};
+ghost use Rattle.std.specs.List.Retain.{IsFiltered};
+ghost use Rattle.std.specs.Fn.{CalledAt};
 
 use crate::memory::Memory;
 use std::alloc::Global;
@@ -152,6 +153,17 @@ impl<T> List<T> {
         ensures spare { self.new.spare ≡ self.old.spare }
     {
         self.held.truncate(n);
+    }
+
+    /// Keeps the items that pass the test, in their order. The spare stays.
+    pub fn retain<F: FnMut(&T) -> bool>(&mut self, f: F)
+    where
+        T: Drop,
+        requires { F.IsAlwaysCallable f }
+        ensures filtered { IsFiltered (CalledAt F.FnMut) f self.old.items self.new.items }
+        ensures spare { self.new.spare ≡ self.old.spare }
+    {
+        self.held.retain(f);
     }
 }
 

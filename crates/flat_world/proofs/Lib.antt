@@ -1,0 +1,2 @@
+pub mod NewRows
+pub mod Specs

@@ -1,0 +1,111 @@
+//! Look-ups in the world's lists, by scans.
+ghost use Rattle.std.specs.Prelude.{◌≡◌, ◌+◌, ◌==◌, ◌&&◌, ◌<◌, ◌^◌, ◌↔◌, ◌∷◌, [], ◌++◌, IsTrue, length, count_by, nat_eq, IfOk};
+ghost use Rattle.std.specs.List.{list_any, find};
+ghost use Rattle.std.specs.Option.{option_map, option_copied};
+ghost use Rattle.std.specs.Ordering.{nat_cmp, is_le, is_lt};
+ghost use Rattle.std.specs.Cmp.Lexicographic.{slice_cmp};
+ghost use Rattle.flat_world.specs.World.{is_same, is_child_of, is_text, is_text_of, is_link_of, is_within, opens, part_number};
+
+use crate::rows::{AccountRow, ByteRow, OpenRow, Part, Row};
+use febe_data::{Mode, Tumbler};
+
+pub(crate) fn has_document(documents: &[Tumbler], document: &Tumbler) -> bool
+    ensures { result ≡ list_any (λ d. is_same d document.now) documents.now }
+{
+    documents.contains(document)
+}
+
+pub(crate) fn account_of_session(accounts: &[AccountRow], session: u64) -> Option<&Tumbler>
+    ensures { option_copied result ≡ option_map (λ r. r.account) (find (λ r. r.session == session) accounts.now) }
+{
+    accounts
+        .iter()
+        .find(|row| row.session == session)
+        .map(|row| &row.account)
+}
+
+pub(crate) fn mode_of(rows: &[OpenRow], session: u64, document: &Tumbler) -> Option<Mode>
+    ensures { result ≡ option_map (λ r. r.mode) (find (opens session document.now) rows.now) }
+{
+    rows.iter()
+        .find(|row| row.session == session && row.document == *document)
+        .map(|row| row.mode)
+}
+
+impl Part {
+    /// The place that the part's V-addresses begin with.
+    pub fn number(self) -> u32
+        ensures { result ≡ part_number self }
+    {
+        match self {
+            Part::Text => 1,
+            Part::Links => 2,
+        }
+    }
+
+    fn is_text(self) -> bool
+        ensures { result ≡ is_text self }
+    {
+        match self {
+            Part::Text => true,
+            Part::Links => false,
+        }
+    }
+}
+
+impl Row {
+    pub(crate) fn is_text_of(&self, document: &Tumbler) -> bool
+        ensures { result ≡ is_text_of document.now self.now }
+    {
+        self.part.is_text() && self.document == *document
+    }
+
+    pub(crate) fn is_link_of(&self, document: &Tumbler) -> bool
+        ensures { result ≡ is_link_of document.now self.now }
+    {
+        !self.part.is_text() && self.document == *document
+    }
+
+    /// Whether the row's V-address is at the start or after it, and before the end.
+    pub(crate) fn is_within(&self, start: &Tumbler, end: &Tumbler) -> bool
+        ensures { result ≡ is_within start.now end.now self.now }
+    {
+        let address = [self.part.number(), self.n];
+        let address = address.as_slice();
+        start.places().cmp(&address).is_le() && address.cmp(&end.places()).is_lt()
+    }
+}
+
+pub(crate) fn text_length(rows: &[Row], document: &Tumbler) -> usize
+    ensures { result ≡ count_by (is_text_of document.now) rows.now }
+{
+    rows.iter().filter(|row| row.is_text_of(document)).count()
+}
+
+/// Whether the address is the front and one place more.
+fn is_child_of(address: &[u32], front: &[u32]) -> bool
+    requires { length front.now < 2 ^ 32 }
+    ensures { result ≡ is_child_of front.now address.now }
+{
+    address.len() == front.len() + 1 && address.split_at(front.len()).0 == front
+}
+
+pub(crate) fn children_among(documents: &[Tumbler], front: &[u32]) -> usize
+    requires { length front.now < 2 ^ 32 }
+    ensures { result ≡ count_by (is_child_of front.now) documents.now }
+{
+    documents
+        .iter()
+        .filter(|document| is_child_of(document.places(), front))
+        .count()
+}
+
+pub(crate) fn content_children(bytes: &[ByteRow], front: &[u32]) -> usize
+    requires { length front.now < 2 ^ 32 }
+    ensures { result ≡ count_by (λ b. is_child_of front.now b.address) bytes.now }
+{
+    bytes
+        .iter()
+        .filter(|row| is_child_of(row.address.places(), front))
+        .count()
+}
