@@ -1,2 +1,3 @@
 pub mod NewRows
 pub mod Specs
+pub mod Fronts

@@ -12,3 +12,5 @@ pub mod Effects
 pub mod Answers
 pub mod Legal
 pub mod FlatView
+pub mod InPlace
+pub mod PlainEffect

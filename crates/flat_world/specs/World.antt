@@ -77,8 +77,11 @@ mode_of world session document = option_map (λ (r : OpenRow). r.mode) (find (op
 
 -- The next document of an account is `account.0.D`, D being one more than the number of documents
 -- of the form `account.0.x`.
+abbrev pub next_document_of : List (List ℕ) → List ℕ → List ℕ
+next_document_of documents account = account ++ 0 ∷ (count_by (is_child_of (account ++ 0 ∷ [])) documents + 1) ∷ []
+
 abbrev pub next_document : World → List ℕ → List ℕ
-next_document world account = account ++ 0 ∷ (count_by (is_child_of (account ++ 0 ∷ [])) world.documents + 1) ∷ []
+next_document world account = next_document_of world.documents account
 
 -- ---- rows
 
@@ -98,8 +101,11 @@ abbrev pub text_length : World → List ℕ → ℕ
 text_length world document = count_by (is_text_of document) world.rows
 
 -- how many bytes of content a document has
+abbrev pub content_length_of : List ByteRow → List ℕ → ℕ
+content_length_of bytes document = count_by (λ (b : ByteRow). is_child_of (document ++ 0 ∷ 1 ∷ []) b.address) bytes
+
 abbrev pub content_length : World → List ℕ → ℕ
-content_length world document = count_by (λ (b : ByteRow). is_child_of (document ++ 0 ∷ 1 ∷ []) b.address) world.bytes
+content_length world document = content_length_of world.bytes document
 
 -- ---- picking
 

@@ -3,6 +3,7 @@ ghost use Rattle.std.specs.Prelude.{◌≡◌, ℕ, ◌+◌, ◌==◌, ◌&&◌,
 ghost use Rattle.flat_world.specs.World.{is_text_of, content_address};
 ghost use Rattle.flat_world.specs.Apply.{moves_up, up_by, new_rows, new_bytes, rows_with, without_session, accounts_without};
 
+use crate::search::extended;
 use crate::rows::{AccountRow, ByteRow, OpenRow, Part, Row};
 use febe_data::{List, Memory, Tumbler};
 use std::alloc::Global;
@@ -11,7 +12,7 @@ use std::alloc::Global;
 fn content_address(document: &Tumbler, n: u32) -> Result<Tumbler, Memory>
     ensures { IfOk result (λ address. address ≡ content_address document.now n) }
 {
-    document.extended(&[0, 1, n]).map_err(|_| Memory)
+    extended(document, &[0, 1, n])
 }
 
 /// The next number, where the type has it.
@@ -166,7 +167,8 @@ pub(crate) fn close_session(rows: &mut List<OpenRow>, session: u64)
 
 /// Drops the session's account, in place.
 pub(crate) fn drop_account(rows: &mut List<AccountRow>, session: u64)
-    ensures { rows.new.items ≡ accounts_without session rows.old.items }
+    ensures rows { rows.new.items ≡ accounts_without session rows.old.items }
+    ensures spare { rows.new.spare ≡ rows.old.spare }
 {
     rows.retain(|row| row.session != session);
 }

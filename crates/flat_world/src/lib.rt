@@ -2,11 +2,12 @@
 #![tactic(auto)]
 
 mod edits;
+mod effects;
 mod flat;
 mod refusals;
-mod retrieve;
 mod rows;
 mod search;
 
+pub use effects::Effect;
 pub use flat::FlatWorld;
 pub use rows::{AccountRow, ByteRow, OpenRow, Part, Row};

@@ -1,13 +1,13 @@
 //! Look-ups in the world's lists, by scans.
-ghost use Rattle.std.specs.Prelude.{◌≡◌, ◌+◌, ◌==◌, ◌&&◌, ◌<◌, ◌^◌, ◌↔◌, ◌∷◌, [], ◌++◌, IsTrue, length, count_by, nat_eq, IfOk};
+ghost use Rattle.std.specs.Prelude.{◌≡◌, ◌+◌, ◌==◌, ◌&&◌, ◌<◌, ◌^◌, ◌↔◌, ◌∷◌, [], ◌++◌, IsTrue, length, take, count_by, nat_eq, IfOk, ◌-◌};
 ghost use Rattle.std.specs.List.{list_any, find};
 ghost use Rattle.std.specs.Option.{option_map, option_copied};
 ghost use Rattle.std.specs.Ordering.{nat_cmp, is_le, is_lt};
 ghost use Rattle.std.specs.Cmp.Lexicographic.{slice_cmp};
-ghost use Rattle.flat_world.specs.World.{is_same, is_child_of, is_text, is_text_of, is_link_of, is_within, opens, part_number};
+ghost use Rattle.flat_world.specs.World.{is_same, is_child_of, is_text, is_text_of, is_link_of, is_within, opens, part_number, next_document_of, content_length_of};
 
 use crate::rows::{AccountRow, ByteRow, OpenRow, Part, Row};
-use febe_data::{Mode, Tumbler};
+use febe_data::{Memory, Mode, Tumbler};
 
 pub(crate) fn has_document(documents: &[Tumbler], document: &Tumbler) -> bool
     ensures { result ≡ list_any (λ d. is_same d document.now) documents.now }
@@ -108,4 +108,47 @@ pub(crate) fn content_children(bytes: &[ByteRow], front: &[u32]) -> usize
         .iter()
         .filter(|row| is_child_of(row.address.places(), front))
         .count()
+}
+
+/// The places of the address but the last.
+fn front_of(address: &Tumbler) -> &[u32]
+    requires { 0 < length address.now }
+    ensures { result.now ≡ take (length address.now - 1) address.now }
+{
+    let places = address.places();
+    places.split_at(places.len() - 1).0
+}
+
+/// The tumbler of these places and then the tail, where there is one.
+pub(crate) fn extended(address: &Tumbler, tail: &[u32]) -> Result<Tumbler, Memory>
+    ensures { IfOk result (λ longer. longer ≡ address.now ++ tail.now) }
+{
+    address.extended(tail).map_err(|_| Memory)
+}
+
+/// One more than the count, where a place can hold it.
+fn one_more_than(count: usize) -> Result<u32, Memory>
+    ensures { IfOk result (λ number. number ≡ count + 1) }
+{
+    let count = u32::try_from(count).map_err(|_| Memory)?;
+    count.checked_add(1).ok_or(Memory)
+}
+
+/// The address of the account's next document, where it is a tumbler.
+#[tactic(auto, using(crate::proofs::Fronts::fronts))]
+pub(crate) fn next_document(documents: &[Tumbler], account: &Tumbler) -> Result<Tumbler, Memory>
+    ensures { IfOk result (λ document. document ≡ next_document_of documents.now account.now) }
+{
+    let first = extended(account, &[0, 1])?;
+    let number = one_more_than(children_among(documents, front_of(&first)))?;
+    extended(account, &[0, number])
+}
+
+/// The number of the document's next content byte.
+#[tactic(auto, using(crate::proofs::Fronts::fronts))]
+pub(crate) fn next_content(bytes: &[ByteRow], document: &Tumbler) -> Result<u32, Memory>
+    ensures { IfOk result (λ n. n ≡ content_length_of bytes.now document.now + 1) }
+{
+    let first = extended(document, &[0, 1, 1])?;
+    one_more_than(content_children(bytes, front_of(&first)))
 }
