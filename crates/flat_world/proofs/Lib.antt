@@ -1,3 +1,4 @@
 pub mod NewRows
 pub mod Specs
 pub mod Fronts
+pub mod Sizes

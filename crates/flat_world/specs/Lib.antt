@@ -14,3 +14,4 @@ pub mod Legal
 pub mod FlatView
 pub mod InPlace
 pub mod PlainEffect
+pub mod Served

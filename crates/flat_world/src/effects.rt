@@ -20,7 +20,7 @@ impl FlatWorld {
     ghost use Rattle.flat_world.specs.PlainEffect.{plain_effect};
 
     /// What an insert does, at a V-address of the document's text.
-    fn insert_effect(
+    pub(crate) fn insert_effect(
         &self,
         session: u64,
         document: Tumbler,
@@ -44,7 +44,7 @@ impl FlatWorld {
     }
 
     /// What a create does, where the session has an account.
-    fn create_effect(&self, session: u64) -> Result<Effect, Memory>
+    pub(crate) fn create_effect(&self, session: u64) -> Result<Effect, Memory>
         requires { IsSome (account_of_session self.now.world session) }
         ensures { IfOk result (λ made. Some (plain_effect made) ≡ effect self.now.world session create) }
     {

@@ -5,9 +5,13 @@ mod edits;
 mod effects;
 mod flat;
 mod refusals;
+mod requests;
+mod retrieve;
+mod retrieved;
 mod rows;
 mod search;
 
 pub use effects::Effect;
 pub use flat::FlatWorld;
+pub use requests::Served;
 pub use rows::{AccountRow, ByteRow, OpenRow, Part, Row};

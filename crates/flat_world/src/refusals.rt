@@ -36,13 +36,13 @@ fn history_full(limits: &Limits, counted: u64) -> bool
 impl FlatWorld {
     ghost use Rattle.flat_world.specs.World.{account_of_session};
 
-    fn has_document(&self, document: &Tumbler) -> bool
+    pub(crate) fn has_document(&self, document: &Tumbler) -> bool
         ensures { result ≡ has_document self.now.world document.now }
     {
         search::has_document(self.documents.as_slice(), document)
     }
 
-    fn mode_of(&self, session: u64, document: &Tumbler) -> Option<Mode>
+    pub(crate) fn mode_of(&self, session: u64, document: &Tumbler) -> Option<Mode>
         ensures { result ≡ mode_of self.now.world session document.now }
     {
         search::mode_of(self.open_rows.as_slice(), session, document)
@@ -60,7 +60,7 @@ impl FlatWorld {
         search::text_length(self.rows.as_slice(), document)
     }
 
-    fn create_refusal(&self, session: u64, limits: &Limits) -> Option<Refusal>
+    pub(crate) fn create_refusal(&self, session: u64, limits: &Limits) -> Option<Refusal>
         ensures { result ≡ wanted limits.now self.now.counted self.now.world session create }
     {
         if self.account_of_session(session).is_none() {
@@ -72,7 +72,7 @@ impl FlatWorld {
         None
     }
 
-    fn insert_refusal(
+    pub(crate) fn insert_refusal(
         &self,
         session: u64,
         document: &Tumbler,

@@ -1,0 +1,177 @@
+//! When a retrieve is refused.
+ghost use Rattle.std.specs.Prelude.{◌≡◌, ℕ, ◌+◌, ◌-◌, ◌==◌, ◌&&◌, ◌<◌, ◌≤◌, ◌^◌, ◌↔◌, IsTrue, false, not, Option, None, [], ◌∷◌, ◌++◌, length, min, filter, map, count_by, is_none};
+ghost use Rattle.std.specs.List.{list_any, sum_by};
+ghost use Rattle.tumbler.specs.Places.{fits};
+ghost use Rattle.tumbler.specs.Span.{SpanFits, end_of};
+ghost use Rattle.febe_data.specs.Plain.{plain_spec, retrieve};
+ghost use Rattle.flat_world.specs.World.{is_within, is_text_of, is_link_of, has_document, mode_of};
+ghost use Rattle.flat_world.specs.Refusals.{has_bad_span, span_bytes, span_items, total_of, wanted};
+
+use crate::flat::FlatWorld;
+use crate::rows::Row;
+use crate::search;
+use febe_data::{Limits, Refusal, Span, Spec, Tumbler};
+
+/// The most bytes of text that a retrieve gives.
+pub const MOST_REPLY_BYTES: usize = 16_777_216;
+
+/// The most items that a retrieve gives.
+pub const MOST_REPLY_ITEMS: usize = 65_536;
+
+/// How many bytes and items are given, counted up to the greatest `usize`.
+#[derive(Drop)]
+struct Size {
+    bytes: usize,
+    items: usize,
+}
+
+/// Whether the span's end is no address.
+fn ends_nowhere(span: &Span) -> bool
+    ensures { result ≡ not (fits span.now.start span.now.width) }
+{
+    !span.fits()
+}
+
+/// Whether the end of one of the spec's spans is no address.
+fn names_nowhere(spec: &Spec) -> bool
+    ensures { result ≡ list_any (λ s. not (fits s.start s.width)) (plain_spec spec.now).spans }
+{
+    spec.spans.as_slice().iter().any(|span| ends_nowhere(span))
+}
+
+/// Whether some span's end is no address.
+#[tactic(auto, using(crate::proofs::Specs::of_specs))]
+fn has_bad_span(specs: &[Spec]) -> bool
+    ensures { result ≡ has_bad_span (map plain_spec specs.now) }
+{
+    for spec in specs {
+        if names_nowhere(spec) {
+            return true;
+        }
+    }
+    false
+}
+
+/// How many text rows of the document the span picks.
+fn text_rows(rows: &[Row], document: &Tumbler, start: &Tumbler, end: &Tumbler) -> usize
+    ensures { result ≡ count_by (λ row. is_text_of document.now row && is_within start.now end.now row) rows.now }
+{
+    rows.iter()
+        .filter(|row| row.is_text_of(document) && row.is_within(start, end))
+        .count()
+}
+
+/// How many link rows of the document the span picks.
+fn link_rows(rows: &[Row], document: &Tumbler, start: &Tumbler, end: &Tumbler) -> usize
+    ensures { result ≡ count_by (λ row. is_link_of document.now row && is_within start.now end.now row) rows.now }
+{
+    rows.iter()
+        .filter(|row| row.is_link_of(document) && row.is_within(start, end))
+        .count()
+}
+
+impl FlatWorld {
+    /// Whether a spec names a document that there is not.
+    #[tactic(auto, using(crate::proofs::Specs::of_specs))]
+    fn lacks_document(&self, specs: &[Spec]) -> bool
+        ensures { result ≡ list_any (λ spec. not (has_document self.now.world spec.document)) (map plain_spec specs.now) }
+    {
+        let documents = self.documents.as_slice();
+        for spec in specs {
+            if !search::has_document(documents, &spec.document) {
+                return true;
+            }
+        }
+        false
+    }
+
+    /// Whether a spec names a document that the session has not open.
+    #[tactic(auto, using(crate::proofs::Specs::of_specs))]
+    fn lacks_opening(&self, session: u64, specs: &[Spec]) -> bool
+        ensures { result ≡ list_any (λ spec. is_none (mode_of self.now.world session spec.document)) (map plain_spec specs.now) }
+    {
+        let rows = self.open_rows.as_slice();
+        for spec in specs {
+            if search::mode_of(rows, session, &spec.document).is_none() {
+                return true;
+            }
+        }
+        false
+    }
+
+    /// What one span of a document gives.
+    fn span_size(&self, document: &Tumbler, span: &Span) -> Size
+        requires { SpanFits span.now }
+        ensures bytes { result.bytes ≡ span_bytes self.now.world document.now span.now }
+        ensures items { result.items ≡ min (span_items self.now.world document.now span.now) (2 ^ 64 - 1) }
+    {
+        let rows = self.rows.as_slice();
+        let end = span.start.add(&span.width);
+        let bytes = text_rows(rows, document, &span.start, &end);
+        let links = link_rows(rows, document, &span.start, &end);
+        let texts = if bytes == 0 { 0 } else { 1 };
+        Size {
+            bytes,
+            items: links.saturating_add(texts),
+        }
+    }
+
+    /// What the spans of one spec give.
+    #[tactic(auto, using(crate::proofs::Sizes::sizes))]
+    fn spec_size(&self, spec: &Spec) -> Size
+        requires { list_any (λ s. not (fits s.start s.width)) (plain_spec spec.now).spans ≡ false }
+        ensures bytes { result.bytes ≡ min (sum_by (span_bytes self.now.world spec.now.document) spec.now.spans.items) (2 ^ 64 - 1) }
+        ensures items { result.items ≡ min (sum_by (span_items self.now.world spec.now.document) spec.now.spans.items) (2 ^ 64 - 1) }
+    {
+        let mut bytes: usize = 0;
+        let mut items: usize = 0;
+        for span in spec.spans.as_slice() {
+            let size = self.span_size(&spec.document, span);
+            bytes = bytes.saturating_add(size.bytes);
+            items = items.saturating_add(size.items);
+        }
+        Size { bytes, items }
+    }
+
+    /// What the specs give.
+    #[tactic(auto, using(crate::proofs::Sizes::sizes))]
+    fn size_of(&self, specs: &[Spec]) -> Size
+        requires { has_bad_span (map plain_spec specs.now) ≡ false }
+        ensures bytes { result.bytes ≡ min (total_of (span_bytes self.now.world) (map plain_spec specs.now)) (2 ^ 64 - 1) }
+        ensures items { result.items ≡ min (total_of (span_items self.now.world) (map plain_spec specs.now)) (2 ^ 64 - 1) }
+    {
+        let mut bytes: usize = 0;
+        let mut items: usize = 0;
+        for spec in specs {
+            let size = self.spec_size(spec);
+            bytes = bytes.saturating_add(size.bytes);
+            items = items.saturating_add(size.items);
+        }
+        Size { bytes, items }
+    }
+
+    /// The refusal that a retrieve is given. It takes no memory.
+    pub(crate) fn retrieve_refusal(
+        &self,
+        session: u64,
+        specs: &[Spec],
+        limits: &Limits,
+    ) -> Option<Refusal>
+        ensures { result ≡ wanted limits.now self.now.counted self.now.world session (retrieve (map plain_spec specs.now)) }
+    {
+        if self.lacks_document(specs) {
+            return Some(Refusal::NoSuchDocument);
+        }
+        if self.lacks_opening(session, specs) {
+            return Some(Refusal::NotOpen);
+        }
+        if has_bad_span(specs) {
+            return Some(Refusal::BadAddress);
+        }
+        let size = self.size_of(specs);
+        if size.bytes > MOST_REPLY_BYTES || size.items > MOST_REPLY_ITEMS {
+            return Some(Refusal::TooLong);
+        }
+        None
+    }
+}
