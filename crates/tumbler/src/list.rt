@@ -59,6 +59,15 @@ impl<T> List<T> {
         self.held.len()
     }
 
+    /// The number of places in reserve.
+    pub fn spare(&self) -> usize
+        ensures value { result ≡ self.now.spare }
+        ensures in_memory { length self.now.items + result < 2 ^ 64 }
+    {
+        let _ = self.held.len();
+        self.spare
+    }
+
     /// Whether there is no item.
     pub fn is_empty(&self) -> bool
         ensures { result ≡ (length self.now.items == 0) }

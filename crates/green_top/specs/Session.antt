@@ -1,0 +1,42 @@
+-- One session in the history of a back end.
+use Rattle.std.specs.Prelude.{◌≡◌, ◌≢◌, ◌⊎◌, ◌+◌, ℕ, Bool, true, false, List, [], ◌∷◌, ◌++◌, length}
+use Rattle.febe_data.specs.declared.refusal.Refusal.TheVariants.{Memory}
+use Rattle.febe_data.specs.LimitsView.{LimitsView}
+use Rattle.febe_data.specs.Plain.{PlainRequest, PlainReply, PlainEntry, refused, restarted, began, ended}
+use Rattle.flat_world.specs.FlatView.{FlatView}
+use Rattle.flat_world.specs.Apply.{world_of, kept, is_live, next_serial}
+use Rattle.flat_world.specs.Effects.{Effect}
+use Rattle.flat_world.specs.Legal.{IsLegal, entry_after}
+
+-- what a back end begins with: all sessions of before are gone
+abbrev pub restart_entry : PlainEntry
+restart_entry = record { session = 0; serial = 0; change = restarted }
+
+-- a session begins, with its first entry
+abbrev pub begin_entry : ℕ → PlainEntry
+begin_entry session = record { session = session; serial = 1; change = began }
+
+-- a session ends, after this history
+abbrev pub end_entry : List PlainEntry → ℕ → PlainEntry
+end_entry before session = record { session = session; serial = next_serial before session; change = ended }
+
+-- the flat world that a history gives
+abbrev pub state_of : List PlainEntry → FlatView
+state_of history = record { world = world_of history; counted = length (kept history) }
+
+-- a legal step leads from one history to a longer one
+pub record Steps (limits : LimitsView) (session : ℕ) (before : List PlainEntry) (request : PlainRequest) (reply : PlainReply) (after : List PlainEntry) (rose : Bool) : Type 0 where
+  pub added : List PlainEntry
+  pub grows : after ≡ before ++ added
+  pub legal : IsLegal limits session before request reply added rose
+
+-- what contracts see of the store: its history, and how many entries it has room for
+pub record StoreView : Type 0 where
+  pub history : List PlainEntry
+  pub room : ℕ
+
+-- the effect was made: its entry was added, and its reply is given; or there was no memory
+abbrev pub IsMade : List PlainEntry → Effect → PlainReply → List PlainEntry → Type 0
+IsMade before made reply after =
+    ((reply ≡ made.reply) × (after ≡ before ++ entry_after before 1 made ∷ []))
+    ⊎ ((reply ≡ refused Memory) × (after ≡ before))
