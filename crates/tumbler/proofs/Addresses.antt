@@ -3,7 +3,7 @@ use Rattle.std.proofs.Common.{◌⊎◌, inl, inr, subst, get_or, drop, Bool, fa
 use Rattle.std.proofs.lemmas.List.{take_at, length-append, drop_more, drop_all, take-append-drop, get_or_at, get_or-append_right}
 use Rattle.std.proofs.lemmas.List.Elements.{All-head, All-tail}
 use Rattle.std.proofs.lemmas.Bool.Decides.{nat_tests}
-use Rattle.std.proofs.lemmas.Bool.{cases_lt, cases_eq}
+use Rattle.std.proofs.lemmas.Bool.{cases_lt}
 use Rattle.tumbler.specs.Places.{EndsWell}
 use Rattle.tumbler.specs.Address.{IsField, IsAccount, IsDocument, IsDocumentOf, IsMadeIn}
 
@@ -122,6 +122,3 @@ made_from places n e ends zero_at part document = record {
       elim (cases_lt 0 (get_or places (n + 2) 0)) [ inl lt ↦ lt | inr le ↦ absurd (let none : length places ≡ 0 = not_zero (omega arith) in omega arith) ];
   document_address = document;
 }
-
-pub part_is : (p : ℕ) → (p ≡ 0 → ⊥) → p ≤ 2 → (p ≡ 1) ⊎ (p ≡ 2)
-part_is p filled le = elim (cases_eq p 1) [ inl e ↦ inl e | inr n ↦ inr (elim (cases_eq p 0) as (λ _. p ≡ 2) [ inl z ↦ absurd (filled z) | inr f ↦ omega arith ]) ]

@@ -1,5 +1,5 @@
 //! The forms of accounts, documents, content bytes and links.
-ghost use Rattle.std.specs.Prelude.{◌≡◌, ◌≢◌, ℕ, ◌+◌, ◌-◌, ◌<◌, ◌≤◌, ◌↔◌, List, [], ◌∷◌, ◌++◌, length, take, All, IsTrue, IfSome, IfNone};
+ghost use Rattle.std.specs.Prelude.{◌≡◌, ◌≢◌, ℕ, ◌+◌, ◌-◌, ◌<◌, ◌≤◌, ◌↔◌, ◌⊎◌, List, [], ◌∷◌, ◌++◌, length, take, All, IsTrue, IfSome, IfNone};
 ghost use Rattle.tumbler.specs.Address.{IsField, IsAccount, IsDocument, IsDocumentOf, IsMadeIn};
 ghost use Rattle.tumbler.specs.Places.{EndsWell};
 
@@ -62,6 +62,13 @@ pub(crate) fn account_len(places: &[u32]) -> Option<usize>
     Some(n)
 }
 
+/// Whether this is the part of content bytes, 1, or the part of links, 2.
+fn is_part(place: u32) -> bool
+    ensures { IsTrue result ↔ (place ≡ 1) ⊎ (place ≡ 2) }
+{
+    matches!(place, 1 | 2)
+}
+
 /// How many places the document of a content byte or a link has, if the places are the address of one.
 pub(crate) fn document_len(places: &[u32]) -> Option<usize>
     requires { EndsWell places.now }
@@ -75,10 +82,7 @@ pub(crate) fn document_len(places: &[u32]) -> Option<usize>
     if places[n] != 0 {
         return None;
     }
-    if places[n + 1] == 0 {
-        return None;
-    }
-    if places[n + 1] > 2 {
+    if !is_part(places[n + 1]) {
         return None;
     }
     match account_len(places.split_at(n).0) {

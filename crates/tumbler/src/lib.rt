@@ -7,6 +7,8 @@ pub mod laws;
 mod list;
 mod memory;
 mod span;
+#[cfg(test)]
+mod tests;
 mod tumbler;
 
 pub use list::{List, Text};

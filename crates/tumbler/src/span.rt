@@ -39,7 +39,7 @@ impl Span {
         if x.precedes(&self.start) {
             return false;
         }
-        x.precedes(&self.start.add(&self.width))
+        self.ends_after(x)
     }
 
     /// Whether some place lies in both spans. Spans that only touch share none.

@@ -1,5 +1,3 @@
-use Rattle.std.proofs.Common.{subst, sym}
-use Rattle.tumbler.specs.Places.{IsBefore}
 use Rattle.tumbler.proofs.Spans.{not_before, upto_unless_before}
 use Rattle.tumbler.proofs.span.Span.contains.Goals as goal
 
@@ -9,7 +7,5 @@ returns-then-precedes c =
 
 pub returns : goal.returns
 returns c =
-    let after_start = upto_unless_before c.args.self.now.start c.args.x.now (λ lt. let yes = c.precedes.ensures.before.1 lt in cc) in (
-      λ e. (after_start, subst (IsBefore c.args.x.now) c.add.ensures (c.precedes-2.ensures.before.0 e)),
-      λ i. c.precedes-2.ensures.before.1 (subst (IsBefore c.args.x.now) (sym c.add.ensures) i.1),
-    )
+    let after_start = upto_unless_before c.args.self.now.start c.args.x.now (λ lt. let yes = c.precedes.ensures.before.1 lt in cc) in
+    (λ e. (after_start, c.ends_after.ensures.after.0 e), λ i. c.ends_after.ensures.after.1 i.1)
