@@ -19,7 +19,8 @@ fn append_item(out: &mut Text, item: &Item) -> Result<(), Memory>
 
 fn append_items(out: &mut Text, items: &[Item]) -> Result<(), Memory>
     requires { AreItems (map plain_item items.now) }
-    ensures { OnOk result (out.new.items ≡ out.old.items ++ spell_list spell_item (map plain_item items.now)) }
+    ensures { OnOk result (out.new.items
+        ≡ out.old.items ++ spell_list spell_item (map plain_item items.now)) }
 {
     append_number(out, items.len() as u32)?;
     for item in items {

@@ -6,4 +6,6 @@ use Rattle.febe_reply.specs.ReplyGrammar.{spell_item}
 use Rattle.febe_reply.proofs.writing.append_items.Given as goal
 
 abbrev pub invariant-loop-item : goal.invariant-loop-item
-invariant-loop-item l = l.out.items ≡ l.fn.out.items ++ (spell_number (length l.items) ++ flat_map spell_item (map plain_item (take l.item-index l.items)))
+invariant-loop-item l =
+    l.out.items
+    ≡ l.fn.out.items ++ (spell_number (length l.items) ++ flat_map spell_item (map plain_item (take l.item-index l.items)))
