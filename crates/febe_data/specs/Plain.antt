@@ -2,7 +2,6 @@
 use Rattle.std.specs.Prelude.{ℕ, List, map}
 use Rattle.tumbler.specs.declared.span.Span.{Span}
 use Rattle.febe_data.specs.declared.spec.Spec.{Spec}
-use Rattle.febe_data.specs.declared.spec.Run.{Run}
 use Rattle.febe_data.specs.declared.refusal.Refusal.{Refusal}
 use Rattle.febe_data.specs.declared.request.Request.{Request}
 use Rattle.febe_data.specs.declared.request.Request.TheVariants as requests

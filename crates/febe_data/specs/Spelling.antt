@@ -1,5 +1,5 @@
 -- How the parts that requests and replies share are written. Each value has one spelling.
-use Rattle.std.specs.Prelude.{ℕ, zero, suc, List, [], ◌∷◌, ◌++◌, ◌^◌, ◌<◌, ◌≤◌, length, drop, codes, decimal, All}
+use Rattle.std.specs.Prelude.{ℕ, zero, suc, List, [], ◌∷◌, ◌++◌, ◌<◌, ◌≤◌, length, drop, codes, decimal, All}
 use Rattle.std.specs.List.{flat_map}
 use Rattle.tumbler.specs.declared.span.Span.{Span}
 use Rattle.tumbler.specs.Places.{IsTumbler}

@@ -7,6 +7,9 @@ mod refusal;
 mod reply;
 mod request;
 mod spec;
+#[cfg(test)]
+mod tests;
+mod writing;
 
 pub use entry::{Change, Entry};
 pub use limits::{BadLimits, Limits};
@@ -15,3 +18,4 @@ pub use reply::{Item, Reply};
 pub use request::Request;
 pub use spec::{Mode, Run, Spec};
 pub use tumbler::{List, Memory, Span, Text, Tumbler};
+pub use writing::{append_number, append_text, append_tumbler};

@@ -1,0 +1,3 @@
+pub use Rattle.febe_data.specs.Plain
+pub use Rattle.febe_data.specs.Spelling
+pub mod ReplyGrammar
