@@ -1,3 +1,5 @@
 pub use Rattle.febe_data.specs.Plain
 pub use Rattle.febe_data.specs.Spelling
 pub mod Grammar
+pub mod Reading
+pub mod Laws
