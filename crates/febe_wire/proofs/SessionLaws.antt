@@ -140,7 +140,7 @@ pushed bytes front rest r behind e f =
     e ∙ ap (λ (bs : List ℕ). spell_all front ++ bs) f ∙ sym (append_assoc (spell_all front) (spell_request r) behind)
     ∙ ap (λ (bs : List ℕ). bs ++ behind) (ap (λ (bs : List ℕ). spell_all front ++ bs) (sym (append-nil (spell_request r))) ∙ sym (flat_map-append spell_request front (r ∷ [])))
 
-rest_is_bytes : (bytes : List ℕ) (front : List PlainRequest) (rest : List ℕ) → IsBytes bytes → Front bytes front rest → IsBytes rest
+pub rest_is_bytes : (bytes : List ℕ) (front : List PlainRequest) (rest : List ℕ) → IsBytes bytes → Front bytes front rest → IsBytes rest
 rest_is_bytes bytes front rest fits h = bytes_behind (spell_all front) rest (subst IsBytes h.spelled fits)
 
 -- one request more, which is not quit

@@ -4,6 +4,7 @@ use Rattle.std.specs.Char.{is_ascii_digit}
 use Rattle.tumbler.specs.declared.memory.Memory.{Memory}
 use Rattle.tumbler.specs.declared.span.Span.{Span}
 use Rattle.tumbler.specs.Places.{place}
+use Rattle.febe_wire.specs.Grammar.{IsSmallSession}
 use Rattle.febe_data.specs.Plain.{PlainSpec, PlainRequest, insert, retrieve, create, quit, set_account}
 
 infixl 10 ◌>>=◌
@@ -28,6 +29,10 @@ IfFound r P = IfOk r (λ o. IfSome o P)
 -- a fact that holds where nothing was found
 abbrev pub IfNothing : {X : Type 0} → Result (Option X) Memory → Type 0 → Type 0
 IfNothing r P = IfOk r (λ o. IfNone o P)
+
+-- no requests have these bytes as the input of their session
+abbrev pub IsNoSession : List ℕ → Type 0
+IsNoSession bytes = (requests : List PlainRequest) → ¬ IsSmallSession bytes requests
 
 -- the bytes after this one
 abbrev pub after : ℕ → List ℕ → Option (List ℕ)

@@ -2,9 +2,12 @@
 #![tactic(auto)]
 
 mod fields;
+pub mod laws;
 mod request;
+mod session;
 
-pub use request::Small;
+pub use request::{Small, read_small};
+pub use session::read_session;
 
 #[cfg(test)]
 mod tests;

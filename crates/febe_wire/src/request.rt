@@ -91,3 +91,16 @@ pub(crate) fn request_at(alloc: Global, bytes: &[u8]) -> Result<Option<(Request,
         None => Ok(None),
     }
 }
+
+/// The small request in which the bytes begin.
+pub fn read_small(alloc: Global, bytes: &[u8]) -> Result<Option<Small>, Memory>
+    ensures within { IfFound result (λ small. small.used ≤ length bytes.now) }
+    ensures found { IfFound result (λ small. SpellsSmall (take small.used bytes.now) (plain_request small.request)) }
+    ensures none { IfNothing result ((n : ℕ) (request : PlainRequest) → n ≤ length bytes.now → ¬ SpellsSmall (take n bytes.now) request) }
+{
+    let Some((request, rest)) = request_at(alloc, bytes)? else {
+        return Ok(None);
+    };
+    let used = bytes.len() - rest.len();
+    Ok(Some(Small { request, used }))
+}
