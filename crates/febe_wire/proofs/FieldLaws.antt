@@ -1,17 +1,16 @@
 -- A field that is read is the field that is spelled so, and what is spelled so is read again.
-use Rattle.std.proofs.Common.{◌≡◌, ◌≢◌, ℕ, zero, suc, ◌+◌, ◌-◌, ◌*◌, ◌/◌, ◌%◌, ◌^◌, ◌<◌, ◌≤◌, ◌⊎◌, Bool, true, false, cond, ltb, List, [], ◌∷◌, ◌++◌, length, take, drop, All, Option, Some, None, refl, sym, ap, subst, ◌∙◌, append_assoc, arith, inl, inr}
-use Rattle.std.specs.Prelude.{codes, replicate, ◌==◌, ◌||◌, not}
+use Rattle.std.proofs.Common.{◌≡◌, ℕ, zero, suc, ◌+◌, ◌-◌, ◌*◌, ◌/◌, ◌%◌, ◌<◌, ◌≤◌, ◌⊎◌, Bool, true, false, cond, ltb, List, [], ◌∷◌, ◌++◌, length, take, drop, All, Option, Some, None, refl, sym, ap, subst, ◌∙◌, append_assoc, arith, inl, inr}
+use Rattle.std.specs.Prelude.{replicate, ◌==◌, ◌||◌}
 use Rattle.std.specs.Char.{is_ascii_digit}
 use Rattle.std.specs.Fmt.{decimal}
-use Rattle.std.specs.List.{flat_map}
-use Rattle.std.proofs.lemmas.Bool.{cases_Bool, cases_lt, eqb-true, eqb-false, eq-eqb, ne_eqb, ltb-false, lt-ltb, le-ltb, or_parts}
+use Rattle.std.proofs.lemmas.Bool.{cases_Bool, cases_lt, eqb-true, eqb-false, ne_eqb, ltb-false, lt-ltb, le-ltb, or_parts}
 use Rattle.std.proofs.lemmas.Bool.Decides.{nat_tests}
 use Rattle.std.proofs.lemmas.Grind.{common_steps}
 use Rattle.std.proofs.lemmas.Option.{cond_some, some_pair_parts, same_Some}
 use Rattle.std.proofs.lemmas.List.{take_at, drop_at, take-append-drop, length-append, length-take, length-replicate}
 use Rattle.std.proofs.lemmas.List.Elements.{All-nil, All-cons, All-head, All-tail, All-append, All-drop, All-replicate}
 use Rattle.std.proofs.lemmas.Fmt.{decimal_by_steps, decimal_digit, decimal_step}
-use Rattle.tumbler.specs.Places.{place, EndsWell, IsTumbler}
+use Rattle.tumbler.specs.Places.{EndsWell, IsTumbler}
 use Rattle.febe_data.specs.Spelling.{spell_number, zeros_of, spell_places, spell_tumbler, spell_text}
 use Rattle.febe_wire.specs.Reading.{◌>>=◌, after, digits_after, digits_at, number_at, one_at, places_at, starts_with_zero, ends_well, all_places_at, tumbler_at, text_at}
 
@@ -100,7 +99,7 @@ digits_go_on n some small =
     decimal_by_steps (λ n ds. 0 < n → n < 4294967296 → (rest : List ℕ) → digits_at (ds ++ rest) ≡ digits_after n rest)
     (λ n one some small rest. one_digit n rest one some)
     (λ n ds big below some small rest.
-      ap digits_at (append_assoc ds ((48 + n % 10) ∷ []) rest) ∙ below (omega arith) (omega arith) ((48 + n % 10) ∷ rest) ∙ more_digits n rest big small)
+    ap digits_at (append_assoc ds ((48 + n % 10) ∷ []) rest) ∙ below (omega arith) (omega arith) ((48 + n % 10) ∷ rest) ∙ more_digits n rest big small)
     n (omega arith) some small
 
 -- the digits end here
@@ -180,7 +179,7 @@ pub text_again : (text rest : List ℕ) → length text ≤ 16777216 → text_at
 unfolding text_at
 text_again text rest small =
     let regrouped : spell_text text ++ rest ≡ 116 ∷ (decimal (length text) ++ 58 ∷ (text ++ rest)) =
-      ap (λ (ds : List ℕ). 116 ∷ ds) (append_assoc (decimal (length text) ++ 58 ∷ []) text rest ∙ append_assoc (decimal (length text)) (58 ∷ []) (text ++ rest)) in
+    ap (λ (ds : List ℕ). 116 ∷ ds) (append_assoc (decimal (length text) ++ 58 ∷ []) text rest ∙ append_assoc (decimal (length text)) (58 ∷ []) (text ++ rest)) in
     let short : ltb 16777216 (length text) ≡ false = le-ltb _ _ small in
     let long : ltb (length (text ++ rest)) (length text) ≡ false = le-ltb _ _ (omega (arith, length-append text rest)) in
     ap text_at regrouped ∙ rw (digits_again (length text) (58 ∷ (text ++ rest)) (omega arith) (stops 58 (text ++ rest) refl), short, long, take_at text rest (length text) refl, drop_at text rest (length text) refl) refl
@@ -288,12 +287,14 @@ tumbler_joined : (bytes places mid rest : List ℕ) → Written bytes places mid
 tumbler_joined bytes places mid rest w tilde ends =
     let count : zeros_of places ≡ w.zeros = ap zeros_of w.is ∙ zeros_of_some w.zeros w.written w.full in
     let others : drop (zeros_of places) places ≡ w.written = rw count (ap (λ (ps : List ℕ). drop w.zeros ps) w.is ∙ drop_at (replicate w.zeros 0) w.written w.zeros (length-replicate w.zeros 0)) in
-    let spelled : bytes ≡ spell_tumbler places ++ rest = w.spelled ∙ rw (others, count, tilde) (sym (append_assoc (decimal w.zeros ++ spell_places w.written) (126 ∷ []) rest ∙ append_assoc (decimal w.zeros) (spell_places w.written) (126 ∷ rest))) in
-    (spelled, record {
-      few = omega (arith, w.few, ap length w.is, length-append (replicate {A = ℕ} w.zeros 0) w.written, length-replicate {A = ℕ} w.zeros 0);
-      small = subst (λ (ps : List ℕ). All (λ p. p < 4294967296) ps) (sym w.is) (All-append (λ p. p < 4294967296) (replicate w.zeros 0) w.written (All-replicate (λ p. p < 4294967296) w.zeros 0 (omega arith)) w.small);
-      ends = ends_well_is places ends;
-    })
+    let spelled : bytes ≡ spell_tumbler places ++ rest = w.spelled ∙ rw (others, count, tilde) (sym (append_assoc (decimal w.zeros ++ spell_places w.written) (126 ∷ []) rest ∙ append_assoc (decimal w.zeros) (spell_places w.written) (126 ∷ rest))) in (
+      spelled,
+      record {
+        few = omega (arith, w.few, ap length w.is, length-append (replicate {A = ℕ} w.zeros 0) w.written, length-replicate {A = ℕ} w.zeros 0);
+        small = subst (λ (ps : List ℕ). All (λ p. p < 4294967296) ps) (sym w.is) (All-append (λ p. p < 4294967296) (replicate w.zeros 0) w.written (All-replicate (λ p. p < 4294967296) w.zeros 0 (omega arith)) w.small);
+        ends = ends_well_is places ends;
+      },
+    )
 
 pub tumbler_takes : (bytes places rest : List ℕ) → tumbler_at bytes ≡ Some (places, rest) → (bytes ≡ spell_tumbler places ++ rest) × IsTumbler places
 unfolding tumbler_at

@@ -1,14 +1,14 @@
 -- A request that is read is the request that is spelled so, and what is spelled so is read again.
-use Rattle.std.proofs.Common.{◌≡◌, ◌≢◌, ℕ, zero, suc, ◌+◌, ◌-◌, ◌<◌, ◌≤◌, ◌⊎◌, Bool, true, false, cond, List, [], ◌∷◌, ◌++◌, length, get_or, take, drop, All, Option, Some, None, refl, sym, ap, subst, ◌∙◌, append_assoc, arith, inl, inr}
+use Rattle.std.proofs.Common.{◌≡◌, ℕ, ◌+◌, ◌-◌, ◌<◌, ◌≤◌, List, [], ◌∷◌, ◌++◌, length, get_or, take, drop, All, Some, None, refl, sym, ap, subst, ◌∙◌, append_assoc, arith, inl, inr}
 use Rattle.std.specs.Prelude.{codes, ◌==◌}
 use Rattle.std.specs.Fmt.{decimal, digits}
-use Rattle.std.proofs.lemmas.Bool.{eqb-true, cases_lt}
+use Rattle.std.proofs.lemmas.Bool.{eqb-true}
 use Rattle.std.proofs.lemmas.Option.{same_Some, some_pair_parts}
-use Rattle.std.proofs.lemmas.List.{append-nil, take_at, drop_at, take-append-drop, length-append, get_or-append-add, get_or_append_left, get_or_default}
+use Rattle.std.proofs.lemmas.List.{append-nil, take_at, take-append-drop, length-append, get_or-append-add, get_or_append_left, get_or_default}
 use Rattle.tumbler.specs.declared.span.Span.{Span}
 use Rattle.tumbler.specs.Places.{IsTumbler}
 use Rattle.febe_data.specs.Plain.{PlainSpec, PlainRequest, insert, retrieve, create, quit, set_account}
-use Rattle.febe_data.specs.Spelling.{spell_number, spell_tumbler, spell_text, spell_span, spell_spec, spell_list, IsText, IsSpan}
+use Rattle.febe_data.specs.Spelling.{spell_number, spell_tumbler, spell_text, spell_spec, spell_list}
 use Rattle.febe_wire.specs.Grammar.{spell_request, IsOneSpan, IsSmall, SpellsSmall}
 use Rattle.febe_wire.specs.Laws.{OneForm}
 use Rattle.febe_wire.specs.Reading.{◌>>=◌, digits_after, digits_at, number_at, one_at, tumbler_at, text_at, insert_at, one_span_at, retrieve_at, account_at, request_of, request_at}
@@ -54,16 +54,8 @@ small_from (set_account account) rest fits h = h
 
 -- ---- what stands behind the number
 
--- the parts of a request
-abbrev pub spell_parts : PlainRequest → List ℕ
-spell_parts (insert document at text) = spell_tumbler document ++ (spell_tumbler at ++ spell_text text)
-spell_parts (retrieve specs) = spell_list spell_spec specs
-spell_parts create = []
-spell_parts quit = []
-spell_parts (set_account account) = spell_tumbler account
-
 -- what was read behind a number
-pub record Reads (number : ℕ) (bytes : List ℕ) (x : PlainRequest × List ℕ) : Type 0 where
+pub record ReadBehind (number : ℕ) (bytes : List ℕ) (x : PlainRequest × List ℕ) : Type 0 where
   pub spelled : spell_number number ++ bytes ≡ spell_request x.0 ++ x.1
   pub form : HasForm x.0
 
@@ -72,7 +64,7 @@ unfolding digits
 insert_joined bytes document at text a b rest e f g = rw (e, f, g)
     (ap (λ (bs : List ℕ). codes "0~" ++ bs) (sym (append_assoc (spell_tumbler document ++ spell_tumbler at) (spell_text text) rest ∙ append_assoc (spell_tumbler document) (spell_tumbler at) (spell_text text ++ rest))))
 
-insert_takes : (bytes : List ℕ) (x : PlainRequest × List ℕ) → insert_at bytes ≡ Some x → Reads 0 bytes x
+insert_takes : (bytes : List ℕ) (x : PlainRequest × List ℕ) → insert_at bytes ≡ Some x → ReadBehind 0 bytes x
 unfolding insert_at
 insert_takes bytes x e =
     let a = bind_some (tumbler_at bytes) (λ document. tumbler_at document.1 >>= λ at. text_at at.1 >>= λ text. Some (insert document.0 at.0 text.0, text.1)) x e in
@@ -82,7 +74,7 @@ insert_takes bytes x e =
     let t0 = tumbler_takes bytes a.0.0 a.0.1 a.1 in
     let t1 = tumbler_takes a.0.1 b.0.0 b.0.1 b.1 in
     let t2 = text_takes b.0.1 c.0.0 c.0.1 c.1 in
-    subst (λ (y : PlainRequest × List ℕ). Reads 0 bytes y) (same_Some made x c.2) record {
+    subst (λ (y : PlainRequest × List ℕ). ReadBehind 0 bytes y) (same_Some made x c.2) record {
       spelled = insert_joined bytes a.0.0 b.0.0 c.0.0 a.0.1 b.0.1 c.0.1 t0.0 t1.0 t2.0;
       form = (t0.1, t1.1, t2.1);
     }
@@ -104,7 +96,7 @@ retrieve_joined : (bytes document start width a b c d rest : List ℕ) → bytes
 unfolding digits
 retrieve_joined bytes document start width a b c d rest e f g h k = rw (e, f, g, h, k) (ap (λ (bs : List ℕ). codes "5~" ++ bs) (sym (one_spec_spelled document start width rest)))
 
-one_span_takes : (bytes : List ℕ) (x : List ℕ × Span × List ℕ) → one_span_at bytes ≡ Some x → Reads 5 bytes (retrieve (record { document = x.0; spans = x.1 ∷ [] } ∷ []), x.2)
+one_span_takes : (bytes : List ℕ) (x : List ℕ × Span × List ℕ) → one_span_at bytes ≡ Some x → ReadBehind 5 bytes (retrieve (record { document = x.0; spans = x.1 ∷ [] } ∷ []), x.2)
 unfolding one_span_at
 one_span_takes bytes x e =
     let a = bind_some (one_at bytes >>= tumbler_at) (λ document. (one_at document.1 >>= tumbler_at) >>= λ start. tumbler_at start.1 >>= λ width. Some (document.0, record { start = start.0; width = width.0 }, width.1)) x e in
@@ -116,55 +108,60 @@ one_span_takes bytes x e =
     let t1 = tumbler_takes b1.0 b.0.0 b.0.1 b1.2 in
     let t2 = tumbler_takes b.0.1 c.0.0 c.0.1 c.1 in
     let made : List ℕ × Span × List ℕ = (a.0.0, record { start = b.0.0; width = c.0.0 }, c.0.1) in
-    subst (λ (y : List ℕ × Span × List ℕ). Reads 5 bytes (retrieve (record { document = y.0; spans = y.1 ∷ [] } ∷ []), y.2)) (same_Some made x c.2) record {
+    subst (λ (y : List ℕ × Span × List ℕ). ReadBehind 5 bytes (retrieve (record { document = y.0; spans = y.1 ∷ [] } ∷ []), y.2)) (same_Some made x c.2) record {
       spelled = retrieve_joined bytes a.0.0 b.0.0 c.0.0 a1.0 a.0.1 b1.0 b.0.1 c.0.1 (one_takes bytes a1.0 a1.1) t0.0 (one_takes a.0.1 b1.0 b1.1) t1.0 t2.0;
       form = record { document = a.0.0; span = record { start = b.0.0; width = c.0.0 }; is = refl; names = t0.1; span_is = record { start = t1.1; width = t2.1 } };
     }
 
-retrieve_takes : (bytes : List ℕ) (x : PlainRequest × List ℕ) → retrieve_at bytes ≡ Some x → Reads 5 bytes x
+retrieve_takes : (bytes : List ℕ) (x : PlainRequest × List ℕ) → retrieve_at bytes ≡ Some x → ReadBehind 5 bytes x
 unfolding retrieve_at
 retrieve_takes bytes x e =
     let a = bind_some (one_span_at bytes) (λ y. Some (retrieve (record { document = y.0; spans = y.1 ∷ [] } ∷ []), y.2)) x e in
     let made : PlainRequest × List ℕ = (retrieve (record { document = a.0.0; spans = a.0.1 ∷ [] } ∷ []), a.0.2) in
-    subst (λ (y : PlainRequest × List ℕ). Reads 5 bytes y) (same_Some made x a.2) (one_span_takes bytes a.0 a.1)
+    subst (λ (y : PlainRequest × List ℕ). ReadBehind 5 bytes y) (same_Some made x a.2) (one_span_takes bytes a.0 a.1)
 
 pub retrieve_again : (document start width rest : List ℕ) → IsTumbler document → IsTumbler start → IsTumbler width
     → retrieve_at (spell_number 1 ++ (spell_tumbler document ++ (spell_number 1 ++ (spell_tumbler start ++ (spell_tumbler width ++ rest))))) ≡ Some (retrieve (one_spec document start width), rest)
 unfolding retrieve_at one_span_at
 retrieve_again document start width rest h g k =
-    rw (one_again (spell_tumbler document ++ (spell_number 1 ++ (spell_tumbler start ++ (spell_tumbler width ++ rest)))), tumbler_again document (spell_number 1 ++ (spell_tumbler start ++ (spell_tumbler width ++ rest))) h,
-        one_again (spell_tumbler start ++ (spell_tumbler width ++ rest)), tumbler_again start (spell_tumbler width ++ rest) g, tumbler_again width rest k) refl
+    rw (
+      one_again (spell_tumbler document ++ (spell_number 1 ++ (spell_tumbler start ++ (spell_tumbler width ++ rest)))),
+      tumbler_again document (spell_number 1 ++ (spell_tumbler start ++ (spell_tumbler width ++ rest))) h,
+      one_again (spell_tumbler start ++ (spell_tumbler width ++ rest)),
+      tumbler_again start (spell_tumbler width ++ rest) g,
+      tumbler_again width rest k,
+    ) refl
 
 account_joined : (bytes account rest : List ℕ) → bytes ≡ spell_tumbler account ++ rest → spell_number 34 ++ bytes ≡ spell_request (set_account account) ++ rest
 unfolding digits
 account_joined bytes account rest e = rw e refl
 
-account_takes : (bytes : List ℕ) (x : PlainRequest × List ℕ) → account_at bytes ≡ Some x → Reads 34 bytes x
+account_takes : (bytes : List ℕ) (x : PlainRequest × List ℕ) → account_at bytes ≡ Some x → ReadBehind 34 bytes x
 unfolding account_at
 account_takes bytes x e =
     let a = bind_some (tumbler_at bytes) (λ account. Some (set_account account.0, account.1)) x e in
     let made : PlainRequest × List ℕ = (set_account a.0.0, a.0.1) in
     let t = tumbler_takes bytes a.0.0 a.0.1 a.1 in
-    subst (λ (y : PlainRequest × List ℕ). Reads 34 bytes y) (same_Some made x a.2) record { spelled = account_joined bytes a.0.0 a.0.1 t.0; form = t.1 }
+    subst (λ (y : PlainRequest × List ℕ). ReadBehind 34 bytes y) (same_Some made x a.2) record { spelled = account_joined bytes a.0.0 a.0.1 t.0; form = t.1 }
 
 account_again : (account rest : List ℕ) → IsTumbler account → account_at (spell_tumbler account ++ rest) ≡ Some (set_account account, rest)
 unfolding account_at
 account_again account rest h = rw (tumbler_again account rest h) refl
 
-create_takes : (bytes : List ℕ) → Reads 11 bytes (create, bytes)
+create_takes : (bytes : List ℕ) → ReadBehind 11 bytes (create, bytes)
 unfolding digits
 create_takes bytes = record { spelled = refl; form = tt }
 
-quit_takes : (bytes : List ℕ) → Reads 16 bytes (quit, bytes)
+quit_takes : (bytes : List ℕ) → ReadBehind 16 bytes (quit, bytes)
 unfolding digits
 quit_takes bytes = record { spelled = refl; form = tt }
 
 -- ---- requests
 
-at_number : (n k : ℕ) (bytes : List ℕ) (x : PlainRequest × List ℕ) → n ≡ k → Reads k bytes x → Reads n bytes x
-at_number n k bytes x e h = subst (λ (m : ℕ). Reads m bytes x) (sym e) h
+at_number : (n k : ℕ) (bytes : List ℕ) (x : PlainRequest × List ℕ) → n ≡ k → ReadBehind k bytes x → ReadBehind n bytes x
+at_number n k bytes x e h = subst (λ (m : ℕ). ReadBehind m bytes x) (sym e) h
 
-request_of_takes : (n : ℕ) (bytes : List ℕ) (x : PlainRequest × List ℕ) → request_of n bytes ≡ Some x → Reads n bytes x
+request_of_takes : (n : ℕ) (bytes : List ℕ) (x : PlainRequest × List ℕ) → request_of n bytes ≡ Some x → ReadBehind n bytes x
 unfolding request_of
 request_of_takes n bytes x e =
     elim (chosen (n == 0) (insert_at bytes) _ (Some x) e) [
@@ -172,9 +169,9 @@ request_of_takes n bytes x e =
       | inr not0 ↦ elim (chosen (n == 5) (retrieve_at bytes) _ (Some x) not0.1) [
         | inl is ↦ at_number n 5 bytes x (eqb-true _ _ is.0) (retrieve_takes bytes x is.1)
         | inr not5 ↦ elim (chosen (n == 11) (Some (create, bytes)) _ (Some x) not5.1) [
-          | inl is ↦ at_number n 11 bytes x (eqb-true _ _ is.0) (subst (λ (y : PlainRequest × List ℕ). Reads 11 bytes y) (same_Some (create, bytes) x is.1) (create_takes bytes))
+          | inl is ↦ at_number n 11 bytes x (eqb-true _ _ is.0) (subst (λ (y : PlainRequest × List ℕ). ReadBehind 11 bytes y) (same_Some (create, bytes) x is.1) (create_takes bytes))
           | inr not11 ↦ elim (chosen (n == 16) (Some (quit, bytes)) _ (Some x) not11.1) [
-            | inl is ↦ at_number n 16 bytes x (eqb-true _ _ is.0) (subst (λ (y : PlainRequest × List ℕ). Reads 16 bytes y) (same_Some (quit, bytes) x is.1) (quit_takes bytes))
+            | inl is ↦ at_number n 16 bytes x (eqb-true _ _ is.0) (subst (λ (y : PlainRequest × List ℕ). ReadBehind 16 bytes y) (same_Some (quit, bytes) x is.1) (quit_takes bytes))
             | inr not16 ↦ elim (chosen (n == 34) (account_at bytes) None (Some x) not16.1) [
               | inl is ↦ at_number n 34 bytes x (eqb-true _ _ is.0) (account_takes bytes x is.1)
               | inr none ↦ absurd (cc none.1)
@@ -205,7 +202,7 @@ form_again (insert document at text) rest h =
     ap request_at regrouped ∙ insert_again document at text rest h.0 h.1 h.2
 form_again (retrieve specs) rest h =
     subst (λ (ss : List PlainSpec). request_at (spell_request (retrieve ss) ++ rest) ≡ Some (retrieve ss, rest)) (sym h.is)
-      (ap (λ (bs : List ℕ). request_at (codes "5~" ++ bs)) (one_spec_spelled h.document h.span.start h.span.width rest) ∙ retrieve_again h.document h.span.start h.span.width rest h.names h.span_is.start h.span_is.width)
+    (ap (λ (bs : List ℕ). request_at (codes "5~" ++ bs)) (one_spec_spelled h.document h.span.start h.span.width rest) ∙ retrieve_again h.document h.span.start h.span.width rest h.names h.span_is.start h.span_is.width)
 form_again create rest h = refl
 form_again quit rest h = refl
 form_again (set_account account) rest h = account_again account rest h

@@ -1,5 +1,5 @@
 -- The requests of a session are told by its bytes.
-use Rattle.std.proofs.Common.{◌≡◌, ◌≢◌, ℕ, ◌+◌, ◌<◌, ◌≤◌, ◌⊎◌, List, [], ◌∷◌, ◌++◌, length, get_or, Option, Some, None, refl, sym, ap, subst, ◌∙◌, append_assoc, arith, inl, inr}
+use Rattle.std.proofs.Common.{◌≡◌, ◌≢◌, ℕ, ◌<◌, ◌⊎◌, List, [], ◌∷◌, ◌++◌, length, Some, None, refl, sym, ap, subst, ◌∙◌, append_assoc, arith, inl, inr}
 use Rattle.std.specs.List.{flat_map, AllByRecursion}
 use Rattle.std.proofs.lemmas.List.{append-nil, append_cancel_left, length-append, nil_from_length}
 use Rattle.std.proofs.lemmas.List.Concat.{flat_map-append}
@@ -104,8 +104,8 @@ same_requests (r ∷ rs) (s ∷ ss) bytes h g =
           ap (λ (q : PlainRequest). q ∷ rs) same.request ∙ ap (λ (qs : List PlainRequest). s ∷ qs) (e ∙ sym f)
       | inr other ↦
           let ih = same_requests rs ss inner
-            (behind_first inner r rs other (subst (λ (bs : List ℕ). GoesOn bs (r ∷ rs)) h-spelled h))
-            (behind_first inner r ss other (subst (λ (bs : List ℕ). GoesOn bs (r ∷ ss)) h-spelled g')) in
+          (behind_first inner r rs other (subst (λ (bs : List ℕ). GoesOn bs (r ∷ rs)) h-spelled h))
+          (behind_first inner r ss other (subst (λ (bs : List ℕ). GoesOn bs (r ∷ ss)) h-spelled g')) in
           ap (λ (q : PlainRequest). q ∷ rs) same.request ∙ ap (λ (qs : List PlainRequest). s ∷ qs) ih
     ]
 
@@ -117,8 +117,8 @@ one_session bytes rs ss h g =
     let inner = spell_all rs ++ h.rest in
     let e : bytes ≡ greeting ++ inner = greeted bytes rs h in
     same_requests rs ss inner
-      (session_goes_on inner rs (subst (λ (bs : List ℕ). IsSmallSession bs rs) e h))
-      (session_goes_on inner ss (subst (λ (bs : List ℕ). IsSmallSession bs ss) e g))
+    (session_goes_on inner rs (subst (λ (bs : List ℕ). IsSmallSession bs rs) e h))
+    (session_goes_on inner ss (subst (λ (bs : List ℕ). IsSmallSession bs ss) e g))
 
 -- ---- reading requests one after the other
 
@@ -192,7 +192,7 @@ stuck (f ∷ front) (r ∷ rs) bytes rest h g some read =
     let same = same_request f r inner (spell_all rs ++ g.rest) h.small.0 g.small.0 (sym h-spelled ∙ first_behind bytes r rs g.rest g.spelled) in
     let g' : GoesOn bytes (f ∷ rs) = subst (λ (q : PlainRequest). GoesOn bytes (q ∷ rs)) (sym same.request) g in
     stuck front rs inner rest record { spelled = refl; small = h.small.1; others = h.others.1 }
-      (behind_first inner f rs h.others.0 (subst (λ (bs : List ℕ). GoesOn bs (f ∷ rs)) h-spelled g')) some read
+    (behind_first inner f rs h.others.0 (subst (λ (bs : List ℕ). GoesOn bs (f ∷ rs)) h-spelled g')) some read
 
 pub front_fails : (bytes : List ℕ) (front : List PlainRequest) (rest : List ℕ) → Front bytes front rest → 0 < length rest → request_at rest ≡ None → (rs : List PlainRequest) → IsSmallSession (greeting ++ bytes) rs → ⊥
 front_fails bytes front rest h some read rs session = stuck front rs bytes rest h (session_goes_on bytes rs session) some read

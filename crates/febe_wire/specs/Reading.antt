@@ -1,11 +1,10 @@
 -- Reading from left to right: a value and the bytes after it, or nothing.
-use Rattle.std.specs.Prelude.{◌≡◌, ℕ, zero, suc, ◌+◌, ◌-◌, ◌*◌, ◌≤◌, Bool, false, List, [], ◌∷◌, ◌++◌, length, take, drop, replicate, Option, Some, None, Result, Ok, Err, IfOk, IfSome, IfNone, nat_lt, ◌==◌, ◌&&◌, ◌||◌, not, if◌then◌else◌}
+use Rattle.std.specs.Prelude.{◌≡◌, ℕ, zero, suc, ◌+◌, ◌-◌, ◌*◌, Bool, false, List, [], ◌∷◌, ◌++◌, length, take, drop, replicate, Option, Some, None, Result, Ok, Err, nat_lt, ◌==◌, ◌||◌, not, if◌then◌else◌}
 use Rattle.std.specs.Char.{is_ascii_digit}
 use Rattle.tumbler.specs.declared.memory.Memory.{Memory}
 use Rattle.tumbler.specs.declared.span.Span.{Span}
 use Rattle.tumbler.specs.Places.{place}
-use Rattle.febe_wire.specs.Grammar.{IsSmallSession}
-use Rattle.febe_data.specs.Plain.{PlainSpec, PlainRequest, insert, retrieve, create, quit, set_account}
+use Rattle.febe_data.specs.Plain.{PlainRequest, insert, retrieve, create, quit, set_account}
 
 infixl 10 ◌>>=◌
 abbrev pub ◌>>=◌ : {A B : Type 0} → Option A → (A → Option B) → Option B
@@ -21,18 +20,6 @@ Reads view None read = read ≡ None
 abbrev pub Gives : {X Y : Type 0} → (X → Y) → Result (Option X) Memory → Option Y → Type 0
 Gives view (Ok o) read = Reads view o read
 Gives view (Err e) read = Unit {0}
-
--- a fact of what was found, where something was
-abbrev pub IfFound : {X : Type 0} → Result (Option X) Memory → (X → Type 0) → Type 0
-IfFound r P = IfOk r (λ o. IfSome o P)
-
--- a fact that holds where nothing was found
-abbrev pub IfNothing : {X : Type 0} → Result (Option X) Memory → Type 0 → Type 0
-IfNothing r P = IfOk r (λ o. IfNone o P)
-
--- no requests have these bytes as the input of their session
-abbrev pub IsNoSession : List ℕ → Type 0
-IsNoSession bytes = (requests : List PlainRequest) → ¬ IsSmallSession bytes requests
 
 -- the bytes after this one
 abbrev pub after : ℕ → List ℕ → Option (List ℕ)
@@ -87,18 +74,21 @@ all_places_at bytes = do
   written ← (if nat_lt 24 zeros.0 then None else places_at (24 - zeros.0) zeros.1)
   if starts_with_zero written.0 then None else Some (replicate zeros.0 0 ++ written.0, written.1)
 
+-- a tumbler and its tilde: the last place is not 0
 unfoldable pub tumbler_at : List ℕ → Option (List ℕ × List ℕ)
 tumbler_at bytes = do
   places ← all_places_at bytes
   rest ← after 126 places.1
   if ends_well places.0 then Some (places.0, rest) else None
 
+-- a text: its length is at most 16777216, and that many bytes stand there
 unfoldable pub text_at : List ℕ → Option (List ℕ × List ℕ)
 text_at bytes = do
   len ← after 116 bytes >>= digits_at
   rest ← after 58 len.1
   if nat_lt 16777216 len.0 || nat_lt (length rest) len.0 then None else Some (take len.0 rest, drop len.0 rest)
 
+-- the parts of an insert
 unfoldable pub insert_at : List ℕ → Option (PlainRequest × List ℕ)
 insert_at bytes = do
   document ← tumbler_at bytes
@@ -114,11 +104,13 @@ one_span_at bytes = do
   width ← tumbler_at start.1
   Some (document.0, record { start = start.0; width = width.0 }, width.1)
 
+-- the parts of a retrieve
 unfoldable pub retrieve_at : List ℕ → Option (PlainRequest × List ℕ)
 retrieve_at bytes = do
   x ← one_span_at bytes
   Some (retrieve (record { document = x.0; spans = x.1 ∷ [] } ∷ []), x.2)
 
+-- the part of an account
 unfoldable pub account_at : List ℕ → Option (PlainRequest × List ℕ)
 account_at bytes = do
   account ← tumbler_at bytes
@@ -128,6 +120,7 @@ account_at bytes = do
 unfoldable pub request_of : ℕ → List ℕ → Option (PlainRequest × List ℕ)
 request_of n bytes = if n == 0 then insert_at bytes else (if n == 5 then retrieve_at bytes else (if n == 11 then Some (create, bytes) else (if n == 16 then Some (quit, bytes) else (if n == 34 then account_at bytes else None))))
 
+-- a request: its number, and what stands behind it
 unfoldable pub request_at : List ℕ → Option (PlainRequest × List ℕ)
 request_at bytes = do
   n ← number_at bytes

@@ -30,13 +30,15 @@ fn digits_after(first: u32, bytes: &[u8]) -> Option<(u32, &[u8])>
     let mut number = first;
     let mut rest = bytes;
     while let [digit @ b'0'..=b'9', behind @ ..] = rest {
-        number = number.checked_mul(10)?.checked_add(u32::from(*digit - b'0'))?;
+        number = number
+            .checked_mul(10)?
+            .checked_add(u32::from(*digit - b'0'))?;
         rest = behind;
     }
     Some((number, rest))
 }
 
-/// The digits of a number below 2^32. No digit is 0 before the others.
+/// The digits of a number below 2^32. Behind a first 0 no digit is taken.
 #[tactic(auto, unfolding(crate::specs::Reading::digits_at))]
 fn digits_at(bytes: &[u8]) -> Option<(u32, &[u8])>
     ensures { Reads (λ x. (x.0, x.1.now)) result (digits_at bytes.now) }
@@ -81,7 +83,7 @@ pub(crate) fn text_at(bytes: &[u8]) -> Option<(&[u8], &[u8])>
     Some(rest.split_at(len as usize))
 }
 
-/// Places that are 0, behind none others.
+/// This many places that are 0.
 fn zeros(alloc: Global, count: usize) -> SmallVec<u32, 24>
     requires { count ≤ 24 }
     ensures items { result.items ≡ replicate count 0 }

@@ -2,7 +2,8 @@
 ghost use Rattle.std.specs.Prelude.{◌≡◌, ℕ, ◌≤◌, length, take};
 ghost use Rattle.febe_data.specs.Plain.{PlainRequest, plain_request};
 ghost use Rattle.febe_wire.specs.Grammar.{SpellsSmall};
-ghost use Rattle.febe_wire.specs.Reading.{Reads, Gives, IfFound, IfNothing, insert_at, one_span_at, retrieve_at, account_at, request_of, request_at};
+ghost use Rattle.febe_wire.specs.Found.{IfFound, IfNothing};
+ghost use Rattle.febe_wire.specs.Reading.{Reads, Gives, insert_at, one_span_at, retrieve_at, account_at, request_of, request_at};
 
 use crate::fields::{number_at, one_at, text_at, tumbler_at};
 use febe_data::{Request, Spec};

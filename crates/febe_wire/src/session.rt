@@ -2,7 +2,7 @@
 ghost use Rattle.std.specs.Prelude.{◌≡◌, ◌↔◌, map, ◌++◌, IsTrue};
 ghost use Rattle.febe_data.specs.Plain.{plain_request, quit};
 ghost use Rattle.febe_wire.specs.Grammar.{greeting, IsSmallSession};
-ghost use Rattle.febe_wire.specs.Reading.{IfFound, IfNothing, IsNoSession};
+ghost use Rattle.febe_wire.specs.Found.{IfFound, IfNothing, IsNoSession};
 
 use crate::request::request_at;
 use febe_data::Request;

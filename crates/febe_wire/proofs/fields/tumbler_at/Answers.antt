@@ -1,4 +1,4 @@
-use Rattle.std.proofs.Common.{refl, subst, arith}
+use Rattle.std.proofs.Common.{refl}
 use Rattle.febe_wire.proofs.Loop.{ends_badly, tumbler_fails}
 use Rattle.febe_wire.proofs.fields.tumbler_at.Goals as goal
 

@@ -1,4 +1,4 @@
-use Rattle.std.proofs.Common.{◌≡◌, ℕ, take, ap, ◌∙◌}
+use Rattle.std.proofs.Common.{◌≡◌, ℕ, take, ◌∙◌}
 use Rattle.std.specs.Prelude.{replicate}
 use Rattle.std.proofs.lemmas.List.{take-replicate}
 use Rattle.febe_wire.proofs.fields.zeros.Goals as goal

@@ -1,7 +1,5 @@
-use Rattle.std.proofs.Common.{◌≡◌, ℕ, ◌≤◌, arith, length}
-use Rattle.std.specs.Prelude.{Some}
+use Rattle.std.proofs.Common.{arith}
 use Rattle.febe_data.specs.Plain.{plain_request}
-use Rattle.febe_wire.specs.Reading.{request_at}
 use Rattle.febe_wire.proofs.RequestLaws.{none_spelled, request_uses, request_shorter}
 use Rattle.febe_wire.proofs.request.read_small.Goals as goal
 

@@ -1,7 +1,7 @@
 use Rattle.std.proofs.Common.{◌≡◌, ◌++◌, ◌-◌, length, take, drop, subst, List, ℕ, arith}
 use Rattle.std.proofs.lemmas.Grind.{common_steps}
 use Rattle.febe_wire.specs.Grammar.{greeting}
-use Rattle.febe_wire.specs.Reading.{IfNothing, IsNoSession}
+use Rattle.febe_wire.specs.Found.{IfNothing, IsNoSession}
 use Rattle.febe_wire.proofs.session.read_session.Goals as goal
 
 pub returns-in-80-clause-none : goal.returns-in-80-clause-none

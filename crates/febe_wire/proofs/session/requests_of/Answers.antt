@@ -1,10 +1,9 @@
-use Rattle.std.proofs.Common.{◌≡◌, ◌++◌, ◌∷◌, [], map, length, ap, sym, subst, ◌∙◌, arith}
-use Rattle.std.proofs.lemmas.Grind.{common_steps}
+use Rattle.std.proofs.Common.{◌≡◌, ◌++◌, ◌∷◌, [], map, ap, ◌∙◌, arith}
 use Rattle.std.proofs.lemmas.Bool.Decides.{nat_tests}
 use Rattle.std.proofs.lemmas.List.{map_push}
 use Rattle.febe_data.specs.Plain.{plain_request}
 use Rattle.febe_wire.proofs.RequestLaws.{request_shorter}
-use Rattle.febe_wire.proofs.SessionLaws.{Front, rest_is_bytes, front_goes_on, front_ends, front_quits, front_fails}
+use Rattle.febe_wire.proofs.SessionLaws.{rest_is_bytes, front_goes_on, front_ends, front_quits, front_fails}
 use Rattle.febe_wire.proofs.session.requests_of.Goals as goal
 
 pub returns-in_default-clause-none : goal.returns-in_default-clause-none
