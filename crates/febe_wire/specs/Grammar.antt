@@ -1,10 +1,10 @@
 -- The bytes of small requests, and of a session of them.
-use Rattle.std.specs.Prelude.{◌≡◌, ◌≢◌, ◌⊎◌, ℕ, ◌≤◌, List, [], ◌∷◌, ◌++◌, length, take, codes}
+use Rattle.std.specs.Prelude.{◌≡◌, ◌≢◌, ◌⊎◌, ℕ, List, [], ◌∷◌, ◌++◌, codes}
 use Rattle.std.specs.List.{flat_map, AllByRecursion}
 use Rattle.tumbler.specs.declared.span.Span.{Span}
 use Rattle.tumbler.specs.Places.{IsTumbler}
 use Rattle.febe_data.specs.Plain.{PlainSpec, PlainRequest, insert, retrieve, create, quit, set_account}
-use Rattle.febe_data.specs.Spelling.{spell_number, spell_tumbler, spell_text, spell_spec, spell_list, IsText, IsSpan}
+use Rattle.febe_data.specs.Spelling.{spell_tumbler, spell_text, spell_spec, spell_list, IsText, IsSpan}
 
 -- the one spelling of a request: its number, then its parts
 abbrev pub spell_request : PlainRequest → List ℕ

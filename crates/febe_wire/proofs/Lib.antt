@@ -1,0 +1,4 @@
+pub mod Loop
+pub mod FieldLaws
+pub mod RequestLaws
+pub mod SessionLaws
