@@ -7,3 +7,4 @@ pub mod LimitsView
 pub mod Refusal
 pub mod Plain
 pub mod Spelling
+pub mod Validity

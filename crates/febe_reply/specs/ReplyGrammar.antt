@@ -1,9 +1,8 @@
 -- The bytes of replies.
-use Rattle.std.specs.Prelude.{ℕ, ◌≤◌, List, ◌++◌, length, codes, All}
-use Rattle.tumbler.specs.Places.{IsTumbler}
+use Rattle.std.specs.Prelude.{ℕ, List, ◌++◌, codes}
 use Rattle.febe_data.specs.Refusal.{refusal_number}
 use Rattle.febe_data.specs.Plain.{PlainItem, bytes, link, PlainReply, inserted, has_quit, account_set, retrieved, created, refused}
-use Rattle.febe_data.specs.Spelling.{spell_number, spell_tumbler, spell_text, spell_list, IsText}
+use Rattle.febe_data.specs.Spelling.{spell_number, spell_tumbler, spell_text, spell_list}
 
 -- an item: its bytes as a text, or the tumbler of its link
 abbrev pub spell_item : PlainItem → List ℕ
@@ -19,22 +18,3 @@ spell_reply account_set = codes "34~"
 spell_reply (retrieved items) = codes "5~" ++ spell_list spell_item items
 spell_reply (created document) = codes "11~" ++ spell_tumbler document
 spell_reply (refused refusal) = codes "?" ++ spell_number (refusal_number refusal)
-
--- the bytes of an item are a text, and its link is a tumbler
-abbrev pub IsItem : PlainItem → Type 0
-IsItem (bytes text) = IsText text
-IsItem (link id) = IsTumbler id
-
--- as many items as a reply may have
-pub record AreItems (items : List PlainItem) : Type 0 where
-  pub few : length items ≤ 65536
-  pub each : All IsItem items
-
--- what the grammar can spell
-abbrev pub IsReply : PlainReply → Type 0
-IsReply inserted = Unit {0}
-IsReply has_quit = Unit {0}
-IsReply account_set = Unit {0}
-IsReply (retrieved items) = AreItems items
-IsReply (created document) = IsTumbler document
-IsReply (refused refusal) = Unit {0}

@@ -3,7 +3,7 @@ ghost use Rattle.std.specs.Prelude.{◌≤◌, length, IfOk};
 ghost use Rattle.tumbler.specs.Places.{IsTumbler};
 ghost use Rattle.febe_data.specs.Plain.{plain_reply};
 ghost use Rattle.febe_data.specs.Spelling.{IsText};
-ghost use Rattle.febe_reply.specs.ReplyGrammar.{IsReply};
+ghost use Rattle.febe_data.specs.Validity.{IsReply};
 
 use super::write_reply;
 use febe_data::{Item, List, Memory, Refusal, Reply, Text, Tumbler};

@@ -2,7 +2,8 @@
 ghost use Rattle.std.specs.Prelude.{◌≡◌, ◌++◌, map, OnOk, IfOk};
 ghost use Rattle.febe_data.specs.Plain.{plain_item, plain_reply};
 ghost use Rattle.febe_data.specs.Spelling.{spell_list};
-ghost use Rattle.febe_reply.specs.ReplyGrammar.{spell_item, spell_reply, IsItem, AreItems, IsReply};
+ghost use Rattle.febe_data.specs.Validity.{IsItem, AreItems, IsReply};
+ghost use Rattle.febe_reply.specs.ReplyGrammar.{spell_item, spell_reply};
 
 use febe_data::{Item, List, Memory, Reply, Text, append_number, append_text, append_tumbler};
 use std::alloc::Global;

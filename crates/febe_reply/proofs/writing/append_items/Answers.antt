@@ -2,7 +2,7 @@ use Rattle.std.proofs.Common.{List, All, map}
 use Rattle.std.proofs.lemmas.List.{get_or-map, length-map}
 use Rattle.febe_data.specs.declared.reply.Item.{Item}
 use Rattle.febe_data.specs.Plain.{plain_item}
-use Rattle.febe_reply.specs.ReplyGrammar.{IsItem}
+use Rattle.febe_data.specs.Validity.{IsItem}
 use Rattle.febe_reply.proofs.writing.append_items.Goals as goal
 
 -- what holds of the plain items holds of the items
