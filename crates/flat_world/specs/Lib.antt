@@ -15,3 +15,4 @@ pub mod FlatView
 pub mod InPlace
 pub mod PlainEffect
 pub mod Served
+pub mod ByteIndex

@@ -1,13 +1,13 @@
 //! The world as plain lists: what each request does to it, when it is refused, and what it answers.
 #![tactic(auto)]
 
+mod byte_index;
 mod edits;
 mod effects;
 mod flat;
 mod refusals;
 mod requests;
 mod retrieve;
-mod retrieved;
 mod rows;
 mod search;
 

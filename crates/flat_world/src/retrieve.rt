@@ -1,16 +1,21 @@
-//! When a retrieve is refused.
-ghost use Rattle.std.specs.Prelude.{◌≡◌, ℕ, ◌+◌, ◌-◌, ◌==◌, ◌&&◌, ◌<◌, ◌≤◌, ◌^◌, ◌↔◌, IsTrue, false, not, Option, None, [], ◌∷◌, ◌++◌, length, min, filter, map, count_by, is_none};
-ghost use Rattle.std.specs.List.{list_any, sum_by};
+//! What a retrieve gives: when it is refused, and its items.
+ghost use Rattle.std.specs.Prelude.{◌≡◌, ℕ, ◌+◌, ◌-◌, ◌==◌, ◌&&◌, ◌<◌, ◌≤◌, ◌^◌, ◌↔◌, IsTrue, false, not, Option, None, [], ◌∷◌, ◌++◌, length, min, filter, map, count_by, is_none, OnOk, IfOk};
+ghost use Rattle.std.specs.List.{list_any, sum_by, flat_map};
 ghost use Rattle.tumbler.specs.Places.{fits};
 ghost use Rattle.tumbler.specs.Span.{SpanFits, end_of};
-ghost use Rattle.febe_data.specs.Plain.{plain_spec, retrieve};
+ghost use Rattle.febe_data.specs.Plain.{plain_spec, plain_item, plain_reply, link, retrieve};
 ghost use Rattle.flat_world.specs.World.{is_within, is_text_of, is_link_of, has_document, mode_of};
+ghost use Rattle.flat_world.specs.Answers.{items_of_span, items_of, answer};
+ghost use Rattle.flat_world.specs.ByteIndex.{IsByteIndex, item_of};
 ghost use Rattle.flat_world.specs.Refusals.{has_bad_span, span_bytes, span_items, total_of, wanted};
 
+use crate::byte_index::{byte_index, push_byte};
 use crate::flat::FlatWorld;
 use crate::rows::Row;
 use crate::search;
-use febe_data::{Limits, Refusal, Span, Spec, Tumbler};
+use febe_data::{Item, Limits, List, Memory, Refusal, Reply, Span, Spec, Tumbler};
+use std::alloc::Global;
+use std::collections::BTreeMap;
 
 /// The most bytes of text that a retrieve gives.
 pub const MOST_REPLY_BYTES: usize = 16_777_216;
@@ -40,7 +45,6 @@ fn names_nowhere(spec: &Spec) -> bool
 }
 
 /// Whether some span's end is no address.
-#[tactic(auto, using(crate::proofs::Specs::of_specs))]
 fn has_bad_span(specs: &[Spec]) -> bool
     ensures { result ≡ has_bad_span (map plain_spec specs.now) }
 {
@@ -72,7 +76,6 @@ fn link_rows(rows: &[Row], document: &Tumbler, start: &Tumbler, end: &Tumbler) -
 
 impl FlatWorld {
     /// Whether a spec names a document that there is not.
-    #[tactic(auto, using(crate::proofs::Specs::of_specs))]
     fn lacks_document(&self, specs: &[Spec]) -> bool
         ensures { result ≡ list_any (λ spec. not (has_document self.now.world spec.document)) (map plain_spec specs.now) }
     {
@@ -86,7 +89,6 @@ impl FlatWorld {
     }
 
     /// Whether a spec names a document that the session has not open.
-    #[tactic(auto, using(crate::proofs::Specs::of_specs))]
     fn lacks_opening(&self, session: u64, specs: &[Spec]) -> bool
         ensures { result ≡ list_any (λ spec. is_none (mode_of self.now.world session spec.document)) (map plain_spec specs.now) }
     {
@@ -173,5 +175,119 @@ impl FlatWorld {
             return Some(Refusal::TooLong);
         }
         None
+    }
+}
+
+/// Adds the bytes of the document's text rows within the span, where there is such a row.
+fn push_text(
+    alloc: Global,
+    items: &mut List<Item>,
+    rows: &[Row],
+    index: &BTreeMap<Tumbler, u8>,
+    document: &Tumbler,
+    start: &Tumbler,
+    end: &Tumbler,
+) -> Result<(), Memory>
+    ensures { OnOk result (map plain_item items.new.items ≡ map plain_item items.old.items ++ item_of index.now (filter (λ row. is_text_of document.now row && is_within start.now end.now row) rows.now)) }
+{
+    let mut text = List::new(alloc);
+    let mut picked = false;
+    for row in rows {
+        if row.is_text_of(document) && row.is_within(start, end) {
+            picked = true;
+            push_byte(&mut text, index, &row.address)?;
+        }
+    }
+    if !picked {
+        return Ok(());
+    }
+    items.push(Item::Bytes(text))
+}
+
+/// Adds the ids of the document's links within the span.
+fn push_links(
+    items: &mut List<Item>,
+    rows: &[Row],
+    document: &Tumbler,
+    start: &Tumbler,
+    end: &Tumbler,
+) -> Result<(), Memory>
+    ensures { OnOk result (map plain_item items.new.items ≡ map plain_item items.old.items ++ map (λ row. link row.address) (filter (λ row. is_link_of document.now row && is_within start.now end.now row) rows.now)) }
+{
+    for row in rows {
+        if row.is_link_of(document) && row.is_within(start, end) {
+            items.push(Item::Link(row.address.copy()))?;
+        }
+    }
+    Ok(())
+}
+
+impl FlatWorld {
+    /// Adds what one span of a document gives.
+    fn push_span(
+        &self,
+        alloc: Global,
+        items: &mut List<Item>,
+        index: &BTreeMap<Tumbler, u8>,
+        document: &Tumbler,
+        span: &Span,
+    ) -> Result<(), Memory>
+        requires fits { SpanFits span.now }
+        requires indexed { IsByteIndex self.now.world.bytes index.now }
+        ensures { OnOk result (map plain_item items.new.items ≡ map plain_item items.old.items ++ items_of_span self.now.world document.now span.now) }
+    {
+        let rows = self.rows.as_slice();
+        let end = span.start.add(&span.width);
+        push_text(alloc, items, rows, index, document, &span.start, &end)?;
+        push_links(items, rows, document, &span.start, &end)
+    }
+
+    /// Adds what the spans of one spec give.
+    #[tactic(auto, using(crate::proofs::Retrieved::levels))]
+    fn push_spec(
+        &self,
+        alloc: Global,
+        items: &mut List<Item>,
+        index: &BTreeMap<Tumbler, u8>,
+        spec: &Spec,
+    ) -> Result<(), Memory>
+        requires fits { list_any (λ s. not (fits s.start s.width)) (plain_spec spec.now).spans ≡ false }
+        requires indexed { IsByteIndex self.now.world.bytes index.now }
+        ensures { OnOk result (map plain_item items.new.items ≡ map plain_item items.old.items ++ flat_map (items_of_span self.now.world spec.now.document) spec.now.spans.items) }
+    {
+        for span in spec.spans.as_slice() {
+            self.push_span(alloc, items, index, &spec.document, span)?;
+        }
+        Ok(())
+    }
+
+    /// Adds what the specs give.
+    #[tactic(auto, using(crate::proofs::Retrieved::levels))]
+    fn push_specs(
+        &self,
+        alloc: Global,
+        items: &mut List<Item>,
+        index: &BTreeMap<Tumbler, u8>,
+        specs: &[Spec],
+    ) -> Result<(), Memory>
+        requires fits { has_bad_span (map plain_spec specs.now) ≡ false }
+        requires indexed { IsByteIndex self.now.world.bytes index.now }
+        ensures { OnOk result (map plain_item items.new.items ≡ map plain_item items.old.items ++ items_of self.now.world (map plain_spec specs.now)) }
+    {
+        for spec in specs {
+            self.push_spec(alloc, items, index, spec)?;
+        }
+        Ok(())
+    }
+
+    /// The items that the specs pick.
+    pub(crate) fn retrieve(&self, alloc: Global, specs: &[Spec]) -> Result<Reply, Memory>
+        requires { has_bad_span (map plain_spec specs.now) ≡ false }
+        ensures { IfOk result (λ reply. plain_reply reply ≡ answer self.now.world (retrieve (map plain_spec specs.now))) }
+    {
+        let index = byte_index(alloc, self.bytes.as_slice())?;
+        let mut items = List::new(alloc);
+        self.push_specs(alloc, &mut items, &index, specs)?;
+        Ok(Reply::Retrieved(items))
     }
 }

@@ -1,0 +1,81 @@
+-- What is given, one row, span and spec after the other.
+use Rattle.std.proofs.Common.{◌≡◌, ℕ, ◌+◌, ◌<◌, ◌∙◌, ◌++◌, ◌∷◌, ◌==◌, ◌&&◌, [], Bool, true, false, List, length, take, get_or, ap, sym, refl, map, append_assoc, append-nil, length-append, arith, cond, None, Some}
+use Rattle.std.specs.Prelude.{Option, filter, if◌then◌else◌}
+use Rattle.std.specs.List.{flat_map, filter_map, cons_option}
+use Rattle.std.specs.Option.{option_to_list}
+use Rattle.std.specs.BTreeMap.{BTreeMap}
+use Rattle.std.proofs.lemmas.Bool.Decides.{nat_tests}
+use Rattle.std.proofs.lemmas.List.{take_more}
+use Rattle.std.proofs.lemmas.List.Concat.{flat_map-append}
+use Rattle.std.proofs.lemmas.List.Folds.{flat_map-map}
+use Rattle.std.proofs.lemmas.List.Elements.{filter_more, filter_map-append}
+use Rattle.tumbler.specs.declared.span.Span.{Span}
+use Rattle.tumbler.specs.Span.{end_of}
+use Rattle.febe_data.specs.declared.spec.Spec.{Spec}
+use Rattle.febe_data.specs.Plain.{PlainItem, PlainSpec, plain_spec, bytes, link}
+use Rattle.flat_world.specs.declared.rows.Row.{Row}
+use Rattle.flat_world.specs.World.{World, is_text_of, is_link_of, is_within, picked_text, picked_links}
+use Rattle.flat_world.specs.Answers.{items_of_span, items_of, text_item}
+use Rattle.flat_world.specs.ByteIndex.{IsByteIndex, byte_of, bytes_of, item_of}
+use Rattle.flat_world.proofs.Sizes.{span_fits_at, spec_fits_at}
+
+-- the bytes with a row more
+bytes_push : (index : BTreeMap (List ℕ) ℕ) (rows : List Row) (row : Row) → bytes_of index (rows ++ row ∷ []) ≡ bytes_of index rows ++ option_to_list (byte_of index row.address)
+bytes_push index rows row = filter_map-append (λ (r : Row). byte_of index r.address) rows (row ∷ []) ∙ ap (λ (last : List ℕ). bytes_of index rows ++ last) (one (byte_of index row.address))
+  where
+    one : (found : Option ℕ) → cons_option found [] ≡ option_to_list found
+    one None = refl
+    one (Some byte) = refl
+
+filter_more_yes : (p : Row → Bool) (rows : List Row) (i : ℕ) (d : Row) → i < length rows → p (get_or rows i d) ≡ true → filter p (take (i + 1) rows) ≡ filter p (take i rows) ++ get_or rows i d ∷ []
+filter_more_yes p rows i d lt passes = filter_more p rows i d lt ∙ ap (λ (b : Bool). filter p (take i rows) ++ cond b (get_or rows i d ∷ []) []) passes
+
+-- a row that passes, and one that does not
+pub bytes_more_yes : (index : BTreeMap (List ℕ) ℕ) (p : Row → Bool) (rows : List Row) (i : ℕ) (d : Row) → i < length rows → p (get_or rows i d) ≡ true
+    → bytes_of index (filter p (take (i + 1) rows)) ≡ bytes_of index (filter p (take i rows)) ++ option_to_list (byte_of index (get_or rows i d).address)
+bytes_more_yes index p rows i d lt passes = ap (λ (rs : List Row). bytes_of index rs) (filter_more_yes p rows i d lt passes) ∙ bytes_push index (filter p (take i rows)) (get_or rows i d)
+
+pub picked_more_yes : (p : Row → Bool) (rows : List Row) (i : ℕ) (d : Row) → i < length rows → p (get_or rows i d) ≡ true → (length (filter p (take (i + 1) rows)) == 0) ≡ false
+picked_more_yes p rows i d lt passes = rw (filter_more_yes p rows i d lt passes, length-append) (grind (arith, nat_tests))
+
+pub filter_more_no : (p : Row → Bool) (rows : List Row) (i : ℕ) (d : Row) → i < length rows → p (get_or rows i d) ≡ false → filter p (take (i + 1) rows) ≡ filter p (take i rows)
+filter_more_no p rows i d lt fails = filter_more p rows i d lt ∙ ap (λ (b : Bool). filter p (take i rows) ++ cond b (get_or rows i d ∷ []) []) fails ∙ append-nil (filter p (take i rows))
+
+-- the text by the index is the text by the bytes
+text_by_index : (world : World) (index : BTreeMap (List ℕ) ℕ) (rows : List Row) → IsByteIndex world.bytes index → item_of index rows ≡ text_item world rows
+text_by_index world index rows indexed = λ i. if length rows == 0 then [] else bytes (filter_map (λ (row : Row). indexed row.address i) rows) ∷ []
+
+-- what a span gives, in two parts
+pub span_is : (world : World) (document : List ℕ) (span : Span) (index : BTreeMap (List ℕ) ℕ) (rows : List Row) (end : List ℕ) (before between after : List PlainItem)
+    → rows ≡ world.rows → end ≡ end_of span → IsByteIndex world.bytes index
+    → between ≡ before ++ item_of index (filter (λ (row : Row). is_text_of document row && is_within span.start end row) rows)
+    → after ≡ between ++ map (λ (row : Row). link row.address) (filter (λ (row : Row). is_link_of document row && is_within span.start end row) rows)
+    → after ≡ before ++ items_of_span world document span
+span_is world document span index rows end before between after e f indexed text links =
+    links ∙ rw (text, e, f, text_by_index world index (picked_text world document span) indexed) (append_assoc before (text_item world (picked_text world document span)) (map (λ (row : Row). link row.address) (picked_links world document span)))
+
+-- one more of a list of lists
+pub flat_map_at : {X Y : Type 0} (f : X → List Y) (xs : List X) (i : ℕ) (d : X) → i < length xs → flat_map f (take (i + 1) xs) ≡ flat_map f (take i xs) ++ f (get_or xs i d)
+flat_map_at f xs i d lt = rw (take_more xs i d lt, flat_map-append) (ap (λ (ys : List _). flat_map f (take i xs) ++ ys) (append-nil (f (get_or xs i d))))
+
+pub spec_items_more : (world : World) (specs : List Spec) (i : ℕ) (d : Spec) → i < length specs
+    → items_of world (map plain_spec (take (i + 1) specs)) ≡ items_of world (map plain_spec (take i specs)) ++ flat_map (items_of_span world (get_or specs i d).document) (get_or specs i d).spans.items
+spec_items_more world specs i d lt =
+    rw (flat_map-map (λ (spec : PlainSpec). flat_map (items_of_span world spec.document) spec.spans) plain_spec (take (i + 1) specs), flat_map-map (λ (spec : PlainSpec). flat_map (items_of_span world spec.document) spec.spans) plain_spec (take i specs))
+    (flat_map_at (λ (spec : Spec). flat_map (items_of_span world spec.document) spec.spans.items) specs i d lt)
+
+-- a test of two parts, by what the calls answered
+pub both_true : (a b x y : Bool) → x ≡ a → x ≡ true → y ≡ b → y ≡ true → (a && b) ≡ true
+both_true a b x y e t f u = rw (sym e ∙ t, sym f ∙ u) refl
+
+pub first_false : (a b x : Bool) → x ≡ a → x ≡ false → (a && b) ≡ false
+first_false a b x e t = rw (sym e ∙ t) refl
+
+pub second_false : (a b y : Bool) → y ≡ b → y ≡ false → (a && b) ≡ false
+second_false a b y f u = rw (sym f ∙ u) (last a)
+  where
+    last : (c : Bool) → (c && false) ≡ false
+    last true = refl
+    last false = refl
+
+pub ruleset levels = (flat_map_at, spec_items_more, span_fits_at, spec_fits_at)
