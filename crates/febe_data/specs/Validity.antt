@@ -1,5 +1,5 @@
 -- Which replies the grammar can spell.
-use Rattle.std.specs.Prelude.{ℕ, ◌≤◌, List, length, All}
+use Rattle.std.specs.Prelude.{◌≤◌, List, length, All}
 use Rattle.tumbler.specs.Places.{IsTumbler}
 use Rattle.febe_data.specs.Plain.{PlainItem, bytes, link, PlainReply, inserted, has_quit, account_set, retrieved, created, refused}
 

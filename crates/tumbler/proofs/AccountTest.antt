@@ -1,8 +1,7 @@
 -- The test of an account tells what the parts say.
-use Rattle.std.proofs.Common.{◌≡◌, ◌↔◌, ℕ, zero, suc, ◌<◌, ◌≤◌, ◌&&◌, Bool, true, false, cond, eqb, ltb, leb, List, [], ◌∷◌, ◌++◌, length, All, refl, arith, ap, ◌∙◌, sym}
+use Rattle.std.proofs.Common.{◌≡◌, ℕ, zero, suc, ◌<◌, ◌&&◌, true, ltb, leb, List, [], ◌∷◌, ◌++◌, length, All, refl, arith, ap, ◌∙◌}
 use Rattle.std.specs.List.{list_all}
-use Rattle.std.proofs.lemmas.Bool.{and_parts, and_from, ltb-true, lt-ltb, leb-true, le-leb, ltb-false, cases_Bool}
-use Rattle.std.proofs.lemmas.Bool.Decides.{nat_tests}
+use Rattle.std.proofs.lemmas.Bool.{and_parts, and_from, ltb-true, lt-ltb, leb-true, le-leb}
 use Rattle.std.proofs.lemmas.List.Elements.{All-head, All-tail, All-cons, All-nil}
 use Rattle.tumbler.specs.Address.{IsField, IsAccount, before_first_zero, after_first_zero, field_test, account_test}
 use Rattle.tumbler.specs.Laws.{AccountTested}
@@ -60,9 +59,9 @@ to_test places a =
     let node : before_first_zero places ≡ a.node = ap before_first_zero a.parts ∙ before-cut a.node a.user a.node_field.full in
     let user : after_first_zero places ≡ a.user = ap after_first_zero a.parts ∙ after-cut a.node a.user a.node_field.full in
     and_from (field_test (before_first_zero places) && field_test (after_first_zero places)) (leb (length places) 12)
-      (and_from (field_test (before_first_zero places)) (field_test (after_first_zero places))
-        (rw node (test_from_field a.node a.node_field)) (rw user (test_from_field a.user a.user_field)))
-      (le-leb (length places) 12 a.short)
+    (and_from (field_test (before_first_zero places)) (field_test (after_first_zero places))
+    (rw node (test_from_field a.node a.node_field)) (rw user (test_from_field a.user a.user_field)))
+    (le-leb (length places) 12 a.short)
 
 pub account_tested : AccountTested
 account_tested places = (from_test places, to_test places)

@@ -10,9 +10,8 @@ ghost use Rattle.std.specs.Fn.{CalledAt};
 
 use crate::memory::Memory;
 use std::alloc::Global;
-use std::fmt;
 use std::marker::Model;
-use std::slice;
+use std::{fmt, slice};
 
 /// Items in order, beside a number of places that are kept in reserve.
 ///

@@ -150,8 +150,10 @@ impl Tumbler {
         if tail.len() > MOST_PLACES - self.places().len() {
             return Err(BadTumbler);
         }
-        let mut held: SmallVec<u32, 24> =
-            SmallVec::from_slice(*self.held.allocator(), self.places()).unwrap();
+        let mut held: SmallVec<u32, 24> = SmallVec::from_slice(
+            *self.held.allocator(),
+            self.places(),
+        ).unwrap();
         held.extend_from_slice(tail).unwrap();
         if let Some(0) = held.as_slice().last() {
             return Err(BadTumbler);
