@@ -1,2 +1,6 @@
 pub mod Session
 pub mod IsStore
+pub mod Transcript
+pub mod Batch
+pub mod Outside
+pub mod Progress

@@ -1,4 +1,11 @@
 //! The top call: one session from a source to a sink.
 #![tactic(auto)]
 
+mod exchange;
+mod outside;
+mod report;
+mod status;
 mod store;
+
+pub use outside::MOST_INPUT;
+pub use report::Report;

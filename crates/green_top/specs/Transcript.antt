@@ -1,0 +1,44 @@
+-- What a session's requests, replies and points have to do with the history.
+use Rattle.std.specs.Prelude.{◌≡◌, ◌⊎◌, ℕ, ◌+◌, ◌≤◌, List, [], ◌∷◌, ◌++◌, length, map, All, codes}
+use Rattle.std.specs.List.{flat_map, AllByRecursion}
+use Rattle.std.specs.List.Sorted.{IsNonDecreasing}
+use Rattle.febe_data.specs.LimitsView.{LimitsView}
+use Rattle.febe_data.specs.Plain.{PlainRequest, PlainEntry, ended}
+use Rattle.febe_reply.specs.ReplyGrammar.{spell_reply}
+use Rattle.flat_world.specs.Apply.{entries_of}
+use Rattle.flat_world.specs.Legal.{Exchange, TookPlace}
+use Rattle.green_top.specs.Session.{begin_entry}
+
+-- what a session is greeted with, and then its replies
+abbrev pub output_of : List Exchange → List ℕ
+output_of exchanges = codes "P0~" ++ flat_map (λ (e : Exchange). spell_reply e.reply) exchanges
+
+-- the session's Begin stands in the history, and no point is below its place
+pub record BeginsBefore (session : ℕ) (history : List PlainEntry) (points : List ℕ) : Type 0 where
+  pub before : List PlainEntry
+  pub more : List PlainEntry
+  pub parts : history ≡ before ++ begin_entry session ∷ more
+  pub above : All (λ point. length before + 1 ≤ point) points
+
+-- nothing, or the session's End
+abbrev pub IsEnding : ℕ → List PlainEntry → Type 0
+IsEnding session ending = (ending ≡ []) ⊎ ((serial : ℕ) × (ending ≡ record { session = session; serial = serial; change = ended } ∷ []))
+
+-- The session's entries are its Begin, then what each exchange added, in their order, then at most one
+-- End, which is last.
+pub record EntriesAre (session : ℕ) (history : List PlainEntry) (exchanges : List Exchange) : Type 0 where
+  pub ending : List PlainEntry
+  pub is_ending : IsEnding session ending
+  pub parts : entries_of session history ≡ (begin_entry session ∷ flat_map (λ (e : Exchange). e.added) exchanges) ++ ending
+
+-- The requests were answered at these points, with this output: each exchange took place in the history,
+-- the points never fall, and the session's entries are those of its accepted changes.
+pub record Transcript (limits : LimitsView) (session : ℕ) (history : List PlainEntry) (requests : List PlainRequest) (points output : List ℕ) : Type 0 where
+  pub exchanges : List Exchange
+  pub requests_are : requests ≡ map (λ (e : Exchange). e.request) exchanges
+  pub points_are : points ≡ map (λ (e : Exchange). e.point) exchanges
+  pub output_is : output ≡ output_of exchanges
+  pub each : AllByRecursion (TookPlace limits session history) exchanges
+  pub rising : IsNonDecreasing points
+  pub begun : BeginsBefore session history points
+  pub entries : EntriesAre session history exchanges

@@ -1,0 +1,40 @@
+//! What a run did.
+
+use febe_data::{Entry, List};
+use std::alloc::Global;
+
+/// What a run did.
+#[derive(Debug, Drop)]
+pub struct Report {
+    /// The history, from the restart with which the run began.
+    pub history: List<Entry>,
+    /// How many entries the history had once the run had begun; 0 where it never did.
+    pub opened: u64,
+    /// The number of entries after each reply, one point a reply.
+    pub points: List<u64>,
+    /// How many bytes the source gave.
+    pub bytes_read: u64,
+    /// The offset in the input that the status names; 0 where it names none.
+    pub place: u64,
+}
+
+impl Report {
+    ghost use Rattle.std.specs.Prelude.{◌≡◌, []};
+
+    /// The report of a run that has done nothing.
+    pub fn new(alloc: Global) -> Report
+        ensures history { result.history.items ≡ [] }
+        ensures opened { result.opened ≡ 0 }
+        ensures points { result.points.items ≡ [] }
+        ensures bytes_read { result.bytes_read ≡ 0 }
+        ensures place { result.place ≡ 0 }
+    {
+        Report {
+            history: List::new(alloc),
+            opened: 0,
+            points: List::new(alloc),
+            bytes_read: 0,
+            place: 0,
+        }
+    }
+}
