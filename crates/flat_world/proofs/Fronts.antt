@@ -1,5 +1,5 @@
 -- The places of an address but the last.
-use Rattle.std.proofs.Common.{◌≡◌, ℕ, ◌-◌, ◌∙◌, List, [], ◌∷◌, ◌++◌, length, take, arith, sym, append_assoc}
+use Rattle.std.proofs.Common.{◌≡◌, ℕ, ◌-◌, List, [], ◌∷◌, ◌++◌, length, take, arith, sym, append_assoc}
 use Rattle.std.proofs.lemmas.List.{take_at, length-append}
 
 front : (xs tail : List ℕ) (y : ℕ) (zs : List ℕ) → zs ≡ xs ++ y ∷ [] → take (length zs - 1) zs ≡ xs

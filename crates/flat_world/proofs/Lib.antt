@@ -4,3 +4,4 @@ pub mod Fronts
 pub mod Sizes
 pub mod ByteIndexes
 pub mod Retrieved
+pub mod Valid

@@ -5,14 +5,15 @@ use Rattle.std.specs.List.{flat_map, filter_map, cons_option}
 use Rattle.std.specs.Option.{option_to_list}
 use Rattle.std.specs.BTreeMap.{BTreeMap}
 use Rattle.std.proofs.lemmas.Bool.Decides.{nat_tests}
-use Rattle.std.proofs.lemmas.List.{take_more}
+use Rattle.std.proofs.lemmas.List.{take_more, map-append}
 use Rattle.std.proofs.lemmas.List.Concat.{flat_map-append}
 use Rattle.std.proofs.lemmas.List.Folds.{flat_map-map}
 use Rattle.std.proofs.lemmas.List.Elements.{filter_more, filter_map-append}
 use Rattle.tumbler.specs.declared.span.Span.{Span}
 use Rattle.tumbler.specs.Span.{end_of}
+use Rattle.febe_data.specs.declared.reply.Item.{Item}
 use Rattle.febe_data.specs.declared.spec.Spec.{Spec}
-use Rattle.febe_data.specs.Plain.{PlainItem, PlainSpec, plain_spec, bytes, link}
+use Rattle.febe_data.specs.Plain.{PlainItem, PlainSpec, plain_item, plain_spec, bytes, link}
 use Rattle.flat_world.specs.declared.rows.Row.{Row}
 use Rattle.flat_world.specs.World.{World, is_text_of, is_link_of, is_within, picked_text, picked_links}
 use Rattle.flat_world.specs.Answers.{items_of_span, items_of, text_item}
@@ -40,6 +41,22 @@ picked_more_yes p rows i d lt passes = rw (filter_more_yes p rows i d lt passes,
 
 pub filter_more_no : (p : Row → Bool) (rows : List Row) (i : ℕ) (d : Row) → i < length rows → p (get_or rows i d) ≡ false → filter p (take (i + 1) rows) ≡ filter p (take i rows)
 filter_more_no p rows i d lt fails = filter_more p rows i d lt ∙ ap (λ (b : Bool). filter p (take i rows) ++ cond b (get_or rows i d ∷ []) []) fails ∙ append-nil (filter p (take i rows))
+
+abbrev links_of : List Row → List PlainItem
+links_of rows = map (λ (row : Row). link row.address) rows
+
+-- the links with a row more, where it passes and where it does not
+pub links_yes : (p : Row → Bool) (rows : List Row) (i : ℕ) (row : Row) (start : List PlainItem) (old new : List Item) (item : Item) → i < length rows → row ≡ get_or rows i row → p row ≡ true
+    → new ≡ old ++ item ∷ [] → plain_item item ≡ link row.address → map plain_item old ≡ start ++ map (λ (r : Row). link r.address) (filter p (take i rows))
+    → map plain_item new ≡ start ++ map (λ (r : Row). link r.address) (filter p (take (i + 1) rows))
+links_yes p rows i row start old new item lt here passes pushed is_link before =
+    let more : filter p (take (i + 1) rows) ≡ filter p (take i rows) ++ row ∷ [] = filter_more_yes p rows i row lt (ap p (sym here) ∙ passes) ∙ ap (λ (r : Row). filter p (take i rows) ++ r ∷ []) (sym here) in
+    let mapped : links_of (filter p (take (i + 1) rows)) ≡ links_of (filter p (take i rows)) ++ link row.address ∷ [] = rw (more, map-append) refl in
+    rw (pushed, map-append, is_link, before, mapped) (append_assoc start (links_of (filter p (take i rows))) (link row.address ∷ []))
+
+pub links_no : (p : Row → Bool) (rows : List Row) (i : ℕ) (row : Row) (start items : List PlainItem) → i < length rows → row ≡ get_or rows i row → p row ≡ false
+    → items ≡ start ++ map (λ (r : Row). link r.address) (filter p (take i rows)) → items ≡ start ++ map (λ (r : Row). link r.address) (filter p (take (i + 1) rows))
+links_no p rows i row start items lt here fails before = before ∙ ap (λ (rs : List Row). start ++ links_of rs) (sym (filter_more_no p rows i row lt (ap p (sym here) ∙ fails)))
 
 -- the text by the index is the text by the bytes
 text_by_index : (world : World) (index : BTreeMap (List ℕ) ℕ) (rows : List Row) → IsByteIndex world.bytes index → item_of index rows ≡ text_item world rows

@@ -2,7 +2,8 @@
 use Rattle.std.specs.Prelude.{ℕ, ◌==◌, List, [], ◌∷◌, ◌++◌, length, map, if◌then◌else◌}
 use Rattle.std.specs.List.{flat_map, filter_map}
 use Rattle.tumbler.specs.declared.span.Span.{Span}
-use Rattle.febe_data.specs.Plain.{PlainSpec, PlainItem, bytes, link, PlainRequest, insert, retrieve, create, quit, set_account, PlainReply, retrieved}
+use Rattle.tumbler.specs.Places.{IsTumbler}
+use Rattle.febe_data.specs.Plain.{PlainSpec, PlainItem, bytes, link, PlainRequest, retrieve, PlainReply, retrieved}
 use Rattle.flat_world.specs.declared.rows.Row.{Row}
 use Rattle.flat_world.specs.World.{World, picked_text, picked_links, byte_at}
 
@@ -25,3 +26,8 @@ items_of world specs = flat_map (λ (spec : PlainSpec). flat_map (items_of_span 
 abbrev pub answer : World → PlainRequest → PlainReply
 answer world (retrieve specs) = retrieved (items_of world specs)
 answer world other = retrieved []
+
+-- where the item is a link, its id is a tumbler
+abbrev pub NamesTumbler : PlainItem → Type 0
+NamesTumbler (bytes text) = Unit {0}
+NamesTumbler (link id) = IsTumbler id

@@ -1,5 +1,5 @@
 -- What a request that is not refused changes, and what it is answered then.
-use Rattle.std.specs.Prelude.{ℕ, ◌+◌, List, [], ◌∷◌, Option, Some, None, unwrap_or, slice_index}
+use Rattle.std.specs.Prelude.{ℕ, ◌+◌, List, [], Option, Some, None, unwrap_or, slice_index}
 use Rattle.febe_data.specs.Plain.{PlainRequest, insert, retrieve, create, quit, set_account, PlainReply, inserted, created, has_quit, account_set, PlainChange, ended, account_changed, document_created, text_inserted}
 use Rattle.flat_world.specs.World.{World, account_of_session, next_document, content_length}
 

@@ -1,10 +1,9 @@
 -- Which replies a request may be given, by the history before it.
-use Rattle.std.specs.Prelude.{◌≡◌, ◌≢◌, ◌⊎◌, ℕ, Bool, true, List, [], ◌∷◌, ◌++◌, length, map, IsTrue, Option, MatchOption}
+use Rattle.std.specs.Prelude.{◌≡◌, ◌≢◌, ◌⊎◌, ℕ, Bool, List, [], ◌∷◌, ◌++◌, length, IsTrue, Option, MatchOption}
 use Rattle.febe_data.specs.declared.refusal.Refusal.{Refusal}
 use Rattle.febe_data.specs.declared.refusal.Refusal.TheVariants.{Memory, Disk}
 use Rattle.febe_data.specs.LimitsView.{LimitsView}
 use Rattle.febe_data.specs.Plain.{PlainRequest, quit, PlainReply, refused, PlainEntry}
-use Rattle.flat_world.specs.World.{World}
 use Rattle.flat_world.specs.Apply.{world_of, kept, is_live, is_counted, next_serial}
 use Rattle.flat_world.specs.Refusals.{wanted}
 use Rattle.flat_world.specs.Effects.{Effect, effect}
@@ -50,15 +49,15 @@ pub record IsAnswered (before : List PlainEntry) (request : PlainRequest) (reply
 abbrev pub IsServed : List PlainEntry → ℕ → PlainRequest → PlainReply → List PlainEntry → Bool → Type 0
 IsServed before session request reply added rose =
     MatchOption (effect (world_of before) session request) (IsAnswered before request reply added)
-      (λ made. IsDone before session made reply added ⊎ IsDiskFault made reply added rose)
+    (λ made. IsDone before session made reply added ⊎ IsDiskFault made reply added rose)
 
 -- A step is legal where the session is live, and there was no memory, or the wanted refusal is given,
 -- or nothing is wanted and the request is served.
 pub record IsLegal (limits : LimitsView) (session : ℕ) (before : List PlainEntry) (request : PlainRequest) (reply : PlainReply) (added : List PlainEntry) (rose : Bool) : Type 0 where
   pub live : IsTrue (is_live before session)
   pub given : IsOutOfMemory request reply added
-    ⊎ MatchOption (wanted_after limits before session request) (IsServed before session request reply added rose)
-        (λ refusal. IsRefused refusal reply added)
+      ⊎ MatchOption (wanted_after limits before session request) (IsServed before session request reply added rose)
+      (λ refusal. IsRefused refusal reply added)
 
 -- one request of a session, its reply, the length of the history after it, and what it added
 pub record Exchange : Type 0 where

@@ -5,6 +5,7 @@ pub use Rattle.febe_data.specs.Address
 pub use Rattle.febe_data.specs.LimitsView
 pub use Rattle.febe_data.specs.Refusal
 pub use Rattle.febe_data.specs.Plain
+pub use Rattle.febe_data.specs.Validity
 pub mod World
 pub mod Apply
 pub mod Refusals

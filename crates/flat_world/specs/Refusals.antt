@@ -1,6 +1,6 @@
 -- When a request is refused: its tests in their order, of which the first that holds gives the refusal.
-use Rattle.std.specs.Prelude.{ℕ, ◌+◌, ◌==◌, ◌&&◌, Bool, true, false, not, List, [], ◌∷◌, ◌++◌, length, map, Option, Some, None, slice_index, nat_le, nat_lt, is_none, if◌then◌else◌}
-use Rattle.std.specs.List.{list_any, list_all, sum_by}
+use Rattle.std.specs.Prelude.{ℕ, ◌+◌, ◌==◌, ◌&&◌, Bool, true, false, not, List, [], ◌∷◌, length, Option, Some, None, slice_index, nat_le, nat_lt, is_none, if◌then◌else◌}
+use Rattle.std.specs.List.{list_any, sum_by}
 use Rattle.tumbler.specs.declared.span.Span.{Span}
 use Rattle.tumbler.specs.Places.{fits}
 use Rattle.tumbler.specs.Address.{account_test}

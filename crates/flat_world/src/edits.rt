@@ -3,8 +3,8 @@ ghost use Rattle.std.specs.Prelude.{◌≡◌, ℕ, ◌+◌, ◌==◌, ◌&&◌,
 ghost use Rattle.flat_world.specs.World.{is_text_of, content_address};
 ghost use Rattle.flat_world.specs.Apply.{moves_up, up_by, new_rows, new_bytes, rows_with, without_session, accounts_without};
 
-use crate::search::extended;
 use crate::rows::{AccountRow, ByteRow, OpenRow, Part, Row};
+use crate::search::extended;
 use febe_data::{List, Memory, Tumbler};
 use std::alloc::Global;
 

@@ -13,7 +13,8 @@ pub struct Effect {
 }
 
 impl FlatWorld {
-    ghost use Rattle.febe_data.specs.Plain.{insert, create, quit, set_account};
+    ghost use Rattle.febe_data.specs.Plain.{insert, create, quit, set_account, plain_reply};
+    ghost use Rattle.febe_data.specs.Validity.{IsReply};
     ghost use Rattle.flat_world.specs.World.{account_of_session, text_length};
     ghost use Rattle.flat_world.specs.Effects.{effect};
     ghost use Rattle.flat_world.specs.Refusals.{is_place};
@@ -28,7 +29,8 @@ impl FlatWorld {
         text: Text,
     ) -> Result<Effect, Memory>
         requires { IsTrue (is_place (text_length self.now.world document) at.now) }
-        ensures { IfOk result (λ made. Some (plain_effect made) ≡ effect self.now.world session (insert document at.now text.items)) }
+        ensures made { IfOk result (λ made. Some (plain_effect made) ≡ effect self.now.world session (insert document at.now text.items)) }
+        ensures valid { IfOk result (λ made. IsReply (plain_reply made.reply)) }
     {
         let first = search::next_content(self.bytes.as_slice(), &document)?;
         let at = at.places()[1];
@@ -46,12 +48,14 @@ impl FlatWorld {
     /// What a create does, where the session has an account.
     pub(crate) fn create_effect(&self, session: u64) -> Result<Effect, Memory>
         requires { IsSome (account_of_session self.now.world session) }
-        ensures { IfOk result (λ made. Some (plain_effect made) ≡ effect self.now.world session create) }
+        ensures made { IfOk result (λ made. Some (plain_effect made) ≡ effect self.now.world session create) }
+        ensures valid { IfOk result (λ made. IsReply (plain_reply made.reply)) }
     {
         let Some(account) = search::account_of_session(self.accounts.as_slice(), session) else {
             unreachable!()
         };
         let document = search::next_document(self.documents.as_slice(), account)?;
+        let _ = document.places();
         Ok(Effect {
             reply: Reply::Created(document.copy()),
             change: Change::Create { document },

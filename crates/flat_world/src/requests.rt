@@ -31,7 +31,7 @@ fn account_refusal(account: &Tumbler) -> Option<Refusal>
 impl FlatWorld {
     ghost use Rattle.febe_data.specs.Plain.{plain_request};
     ghost use Rattle.flat_world.specs.Refusals.{wanted};
-    ghost use Rattle.flat_world.specs.Served.{IsServedAs};
+    ghost use Rattle.flat_world.specs.Served.{IsServedAs, IsValidServed};
 
     /// The refusal that the session's request is given, if it is refused. It takes no memory.
     pub fn refusal(&self, session: u64, request: &Request, limits: &Limits) -> Option<Refusal>
@@ -60,6 +60,7 @@ impl FlatWorld {
     ) -> Result<Served, Memory>
         requires { wanted limits.now self.now.counted self.now.world session (plain_request request.now) ≡ None }
         ensures served { IfOk result (IsServedAs self.now.world session (plain_request request.now)) }
+        ensures valid { IfOk result IsValidServed }
         ensures quit { request.now ≡ Request.Quit → IsOk result }
     {
         match request {

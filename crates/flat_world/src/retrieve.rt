@@ -1,11 +1,12 @@
 //! What a retrieve gives: when it is refused, and its items.
-ghost use Rattle.std.specs.Prelude.{◌≡◌, ℕ, ◌+◌, ◌-◌, ◌==◌, ◌&&◌, ◌<◌, ◌≤◌, ◌^◌, ◌↔◌, IsTrue, false, not, Option, None, [], ◌∷◌, ◌++◌, length, min, filter, map, count_by, is_none, OnOk, IfOk};
+ghost use Rattle.std.specs.Prelude.{◌≡◌, ℕ, ◌+◌, ◌-◌, ◌==◌, ◌&&◌, ◌<◌, ◌≤◌, ◌^◌, ◌↔◌, IsTrue, false, not, Option, None, [], ◌∷◌, ◌++◌, length, min, filter, map, count_by, is_none, All, OnOk, IfOk};
 ghost use Rattle.std.specs.List.{list_any, sum_by, flat_map};
 ghost use Rattle.tumbler.specs.Places.{fits};
 ghost use Rattle.tumbler.specs.Span.{SpanFits, end_of};
 ghost use Rattle.febe_data.specs.Plain.{plain_spec, plain_item, plain_reply, link, retrieve};
+ghost use Rattle.febe_data.specs.Validity.{IsReply};
 ghost use Rattle.flat_world.specs.World.{is_within, is_text_of, is_link_of, has_document, mode_of};
-ghost use Rattle.flat_world.specs.Answers.{items_of_span, items_of, answer};
+ghost use Rattle.flat_world.specs.Answers.{items_of_span, items_of, answer, NamesTumbler};
 ghost use Rattle.flat_world.specs.ByteIndex.{IsByteIndex, item_of};
 ghost use Rattle.flat_world.specs.Refusals.{has_bad_span, span_bytes, span_items, total_of, wanted};
 
@@ -188,7 +189,8 @@ fn push_text(
     start: &Tumbler,
     end: &Tumbler,
 ) -> Result<(), Memory>
-    ensures { OnOk result (map plain_item items.new.items ≡ map plain_item items.old.items ++ item_of index.now (filter (λ row. is_text_of document.now row && is_within start.now end.now row) rows.now)) }
+    ensures items { OnOk result (map plain_item items.new.items ≡ map plain_item items.old.items ++ item_of index.now (filter (λ row. is_text_of document.now row && is_within start.now end.now row) rows.now)) }
+    ensures valid { OnOk result (All NamesTumbler (map plain_item items.old.items) → All NamesTumbler (map plain_item items.new.items)) }
 {
     let mut text = List::new(alloc);
     let mut picked = false;
@@ -204,6 +206,15 @@ fn push_text(
     items.push(Item::Bytes(text))
 }
 
+/// The link at the row.
+fn link_at(row: &Row) -> Item
+    ensures item { plain_item result ≡ link row.now.address }
+    ensures valid { NamesTumbler (plain_item result) }
+{
+    let _ = row.address.places();
+    Item::Link(row.address.copy())
+}
+
 /// Adds the ids of the document's links within the span.
 fn push_links(
     items: &mut List<Item>,
@@ -212,11 +223,12 @@ fn push_links(
     start: &Tumbler,
     end: &Tumbler,
 ) -> Result<(), Memory>
-    ensures { OnOk result (map plain_item items.new.items ≡ map plain_item items.old.items ++ map (λ row. link row.address) (filter (λ row. is_link_of document.now row && is_within start.now end.now row) rows.now)) }
+    ensures items { OnOk result (map plain_item items.new.items ≡ map plain_item items.old.items ++ map (λ row. link row.address) (filter (λ row. is_link_of document.now row && is_within start.now end.now row) rows.now)) }
+    ensures valid { OnOk result (All NamesTumbler (map plain_item items.old.items) → All NamesTumbler (map plain_item items.new.items)) }
 {
     for row in rows {
         if row.is_link_of(document) && row.is_within(start, end) {
-            items.push(Item::Link(row.address.copy()))?;
+            items.push(link_at(row))?;
         }
     }
     Ok(())
@@ -234,7 +246,8 @@ impl FlatWorld {
     ) -> Result<(), Memory>
         requires fits { SpanFits span.now }
         requires indexed { IsByteIndex self.now.world.bytes index.now }
-        ensures { OnOk result (map plain_item items.new.items ≡ map plain_item items.old.items ++ items_of_span self.now.world document.now span.now) }
+        ensures items { OnOk result (map plain_item items.new.items ≡ map plain_item items.old.items ++ items_of_span self.now.world document.now span.now) }
+        ensures valid { OnOk result (All NamesTumbler (map plain_item items.old.items) → All NamesTumbler (map plain_item items.new.items)) }
     {
         let rows = self.rows.as_slice();
         let end = span.start.add(&span.width);
@@ -253,7 +266,8 @@ impl FlatWorld {
     ) -> Result<(), Memory>
         requires fits { list_any (λ s. not (fits s.start s.width)) (plain_spec spec.now).spans ≡ false }
         requires indexed { IsByteIndex self.now.world.bytes index.now }
-        ensures { OnOk result (map plain_item items.new.items ≡ map plain_item items.old.items ++ flat_map (items_of_span self.now.world spec.now.document) spec.now.spans.items) }
+        ensures items { OnOk result (map plain_item items.new.items ≡ map plain_item items.old.items ++ flat_map (items_of_span self.now.world spec.now.document) spec.now.spans.items) }
+        ensures valid { OnOk result (All NamesTumbler (map plain_item items.old.items) → All NamesTumbler (map plain_item items.new.items)) }
     {
         for span in spec.spans.as_slice() {
             self.push_span(alloc, items, index, &spec.document, span)?;
@@ -272,7 +286,8 @@ impl FlatWorld {
     ) -> Result<(), Memory>
         requires fits { has_bad_span (map plain_spec specs.now) ≡ false }
         requires indexed { IsByteIndex self.now.world.bytes index.now }
-        ensures { OnOk result (map plain_item items.new.items ≡ map plain_item items.old.items ++ items_of self.now.world (map plain_spec specs.now)) }
+        ensures items { OnOk result (map plain_item items.new.items ≡ map plain_item items.old.items ++ items_of self.now.world (map plain_spec specs.now)) }
+        ensures valid { OnOk result (All NamesTumbler (map plain_item items.old.items) → All NamesTumbler (map plain_item items.new.items)) }
     {
         for spec in specs {
             self.push_spec(alloc, items, index, spec)?;
@@ -282,8 +297,11 @@ impl FlatWorld {
 
     /// The items that the specs pick.
     pub(crate) fn retrieve(&self, alloc: Global, specs: &[Spec]) -> Result<Reply, Memory>
-        requires { has_bad_span (map plain_spec specs.now) ≡ false }
-        ensures { IfOk result (λ reply. plain_reply reply ≡ answer self.now.world (retrieve (map plain_spec specs.now))) }
+        requires fits { has_bad_span (map plain_spec specs.now) ≡ false }
+        requires short { total_of (span_bytes self.now.world) (map plain_spec specs.now) ≤ 16777216 }
+        requires few { total_of (span_items self.now.world) (map plain_spec specs.now) ≤ 65536 }
+        ensures answer { IfOk result (λ reply. plain_reply reply ≡ answer self.now.world (retrieve (map plain_spec specs.now))) }
+        ensures valid { IfOk result (λ reply. IsReply (plain_reply reply)) }
     {
         let index = byte_index(alloc, self.bytes.as_slice())?;
         let mut items = List::new(alloc);

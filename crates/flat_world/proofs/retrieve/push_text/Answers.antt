@@ -1,10 +1,12 @@
 use Rattle.std.proofs.Common.{◌≡◌, ◌∙◌, ◌&&◌, ◌++◌, ◌==◌, ◌+◌, true, false, not, length, take, get_or, sym, ap}
 use Rattle.std.specs.Prelude.{filter}
 use Rattle.std.specs.Option.{option_to_list}
+use Rattle.std.proofs.lemmas.Result.{on_ok_weaker}
 use Rattle.flat_world.specs.declared.rows.Row.{Row}
 use Rattle.flat_world.specs.World.{is_text_of, is_within}
 use Rattle.flat_world.specs.ByteIndex.{byte_of, bytes_of}
 use Rattle.flat_world.proofs.Retrieved.{bytes_more_yes, picked_more_yes, filter_more_no, both_true, first_false, second_false}
+use Rattle.flat_world.proofs.Valid.{tumblers_push}
 use Rattle.flat_world.proofs.retrieve.push_text.Goals as goal
 use Rattle.flat_world.proofs.retrieve.push_text.Goals.{then-is_text_of+then-is_within+in_ok-push_byte, else-is_text_of, else-is_text_of-via-then-is_text_of+else-is_within, else-is_text_of-via-else-is_text_of}
 
@@ -41,3 +43,6 @@ loop-row-preserved c =
           let picked : c.if-is_text_of.picked ≡ not (length (filter p (take (i + 1) rows)) == 0) = cc in
           (text, picked)
     ]
+
+pub returns-clause-valid : goal.returns-clause-valid
+returns-clause-valid c = on_ok_weaker c.push.result (λ e all. tumblers_push c.args.items.now.items c.push.new.self.items _ e tt all) c.push.ensures.ok
