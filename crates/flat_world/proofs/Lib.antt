@@ -4,3 +4,6 @@ pub mod Fronts
 pub mod Sizes
 pub mod ByteIndexes
 pub mod Retrieved
+pub mod TextRows
+pub mod Places
+pub mod Kept

@@ -16,3 +16,4 @@ pub mod InPlace
 pub mod PlainEffect
 pub mod Served
 pub mod ByteIndex
+pub mod Laws
