@@ -7,3 +7,5 @@ pub mod Retrieved
 pub mod TextRows
 pub mod Places
 pub mod Kept
+pub mod Numbered
+pub mod TextWith

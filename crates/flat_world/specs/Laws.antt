@@ -1,10 +1,10 @@
 -- Laws that show what a history makes of the world.
-use Rattle.std.specs.Prelude.{◌≡◌, ◌≢◌, ℕ, zero, suc, ◌+◌, ◌-◌, ◌<◌, ◌≤◌, List, [], ◌∷◌, ◌++◌, length, map, filter, take, drop, All}
+use Rattle.std.specs.Prelude.{◌≡◌, ◌≢◌, ℕ, zero, suc, ◌+◌, ◌-◌, ◌<◌, ◌≤◌, List, [], ◌∷◌, ◌++◌, length, map, filter, take, drop, All, ⊤}
 use Rattle.std.specs.List.Sorted.{IsNonDecreasing}
-use Rattle.febe_data.specs.Plain.{PlainEntry, restarted, text_inserted}
+use Rattle.febe_data.specs.Plain.{PlainEntry, PlainChange, restarted, text_inserted}
 use Rattle.flat_world.specs.declared.rows.Row.{Row}
-use Rattle.flat_world.specs.World.{World, is_text_of, text_length, content_address}
-use Rattle.flat_world.specs.Apply.{change_world, world_of, kept, new_rows, up_by}
+use Rattle.flat_world.specs.World.{World, empty_world, is_text_of, text_length, content_address}
+use Rattle.flat_world.specs.Apply.{apply, change_world, world_of, kept, new_rows, up_by}
 use Rattle.flat_world.specs.Answers.{text_of}
 
 -- the text rows of a document, as they stand in the world
@@ -81,3 +81,17 @@ RetrieveAfterInsert = (world : World) (document : List ℕ) (at first : ℕ) (te
 abbrev pub InsertsNumbered : Type 0
 InsertsNumbered = (world : World) (document : List ℕ) (at first : ℕ) (text : List ℕ) → IsOpenPlace world document at
     → (other : List ℕ) → IsNumbered world other → IsNumbered (world_with world document at first text) other
+
+-- text comes in between 1 and one more than the document's length; other changes may be any
+abbrev pub IsPlaced : World → PlainChange → Type 0
+IsPlaced world (text_inserted document at first text) = (1 ≤ at) × (at ≤ text_length world document + 1)
+IsPlaced world other = ⊤
+
+-- each entry is so placed in the world that it finds
+abbrev pub AllPlaced : World → List PlainEntry → Type 0
+AllPlaced world [] = ⊤
+AllPlaced world (entry ∷ history) = IsPlaced world entry.change × AllPlaced (apply world entry) history
+
+-- such a history numbers each document's text rows from 1 on, without gaps
+abbrev pub NumberedWithoutGaps : Type 0
+NumberedWithoutGaps = (history : List PlainEntry) → AllPlaced empty_world history → (document : List ℕ) → IsNumbered (world_of history) document

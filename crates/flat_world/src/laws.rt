@@ -1,6 +1,6 @@
 //! Laws of what a history makes of the world. Each is a function that does nothing, whose
 //! contract says the law.
-ghost use Rattle.flat_world.specs.Laws.{TextInOrder, KeepsContents, KeptAgain};
+ghost use Rattle.flat_world.specs.Laws.{TextInOrder, KeepsContents, KeptAgain, InsertsRows, InsertsNumbered, NumberedWithoutGaps, RetrieveAfterInsert};
 
 /// In the world of any history the text rows of each document stand in the order of their places.
 pub fn text_in_order()
@@ -16,4 +16,28 @@ pub fn keeps_contents()
 /// What is kept of a history is kept again after a restart, which adds nothing to it.
 pub fn kept_again()
     ensures { KeptAgain }
+{}
+
+/// Text that comes in leaves the rows before its place as they are, puts its own rows there, and
+/// moves the others up by its length, in their order.
+pub fn inserts_rows()
+    ensures { InsertsRows }
+{}
+
+/// Text that comes in at a place from 1 to one more than the document's length leaves each
+/// document's rows numbered from 1 without gaps, if they were.
+pub fn inserts_numbered()
+    ensures { InsertsNumbered }
+{}
+
+/// In the world of a history whose texts all came in at such places, each document's text rows
+/// are numbered from 1 without gaps.
+pub fn numbered_without_gaps()
+    ensures { NumberedWithoutGaps }
+{}
+
+/// After text came in, the document reads: the bytes before the place, the text, and the bytes
+/// from the place on.
+pub fn retrieve_after_insert()
+    ensures { RetrieveAfterInsert }
 {}
