@@ -9,3 +9,5 @@ pub mod Places
 pub mod Kept
 pub mod Numbered
 pub mod TextWith
+pub mod Placed
+pub mod Fresh

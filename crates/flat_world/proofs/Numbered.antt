@@ -142,7 +142,7 @@ change_keeps_numbers world session ended numbered placed document = numbered doc
 change_keeps_numbers world session (account_changed account) numbered placed document = numbered document
 change_keeps_numbers world session (document_created created) numbered placed document = numbered document
 change_keeps_numbers world session (text_inserted other at first text) numbered placed document =
-    inserts_numbered world other at first text (record { numbered = numbered other; from_one = placed.0; to_end = placed.1 }) document (numbered document)
+    inserts_numbered world other at first text (record { numbered = numbered other; from_one = placed.from_one; to_end = placed.to_end }) document (numbered document)
 
 numbered_along : (history : List PlainEntry) (world : World) → AllPlaced world history → ((document : List ℕ) → IsNumbered world document) → (document : List ℕ) → IsNumbered (fold apply world history) document
 numbered_along [] world placed numbered = numbered

@@ -26,7 +26,7 @@ IsNoneOf address document first count = (i : ℕ) → first ≤ i → i < first 
 differs : (document address : List ℕ) (i : ℕ) → address ≢ content_address document i → is_same (content_address document i) address ≡ false
 differs document address i other = false_from_ne_true (is_same (content_address document i) address) (λ (e : is_same (content_address document i) address ≡ true). other (sym ((bytes_decides (content_address document i) address).0 e)))
 
-same_number : (document : List ℕ) (i j : ℕ) → content_address document i ≡ content_address document j → i ≡ j
+pub same_number : (document : List ℕ) (i j : ℕ) → content_address document i ≡ content_address document j → i ≡ j
 same_number document i j e = ap (λ (places : List ℕ). get_or places 2 0) (append_cancel_left document (0 ∷ 1 ∷ i ∷ []) (0 ∷ 1 ∷ j ∷ []) e)
 
 -- bytes at other addresses change nothing

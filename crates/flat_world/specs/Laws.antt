@@ -1,10 +1,13 @@
 -- Laws that show what a history makes of the world.
-use Rattle.std.specs.Prelude.{◌≡◌, ◌≢◌, ℕ, zero, suc, ◌+◌, ◌-◌, ◌<◌, ◌≤◌, List, [], ◌∷◌, ◌++◌, length, map, filter, take, drop, All, ⊤}
+use Rattle.std.specs.Prelude.{◌≡◌, ◌≢◌, ℕ, zero, suc, ◌+◌, ◌-◌, ◌<◌, ◌≤◌, List, [], ◌∷◌, ◌++◌, length, map, filter, take, drop, All, ⊤, Some, None}
 use Rattle.std.specs.List.Sorted.{IsNonDecreasing}
-use Rattle.febe_data.specs.Plain.{PlainEntry, PlainChange, restarted, text_inserted}
+use Rattle.febe_data.specs.Plain.{PlainRequest, PlainEntry, PlainChange, restarted, text_inserted}
+use Rattle.febe_data.specs.LimitsView.{LimitsView}
 use Rattle.flat_world.specs.declared.rows.Row.{Row}
-use Rattle.flat_world.specs.World.{World, empty_world, is_text_of, text_length, content_address}
+use Rattle.flat_world.specs.World.{World, empty_world, is_text_of, text_length, content_length, content_address}
 use Rattle.flat_world.specs.Apply.{apply, change_world, world_of, kept, new_rows, up_by}
+use Rattle.flat_world.specs.Refusals.{wanted}
+use Rattle.flat_world.specs.Effects.{Effect, effect}
 use Rattle.flat_world.specs.Answers.{text_of}
 
 -- the text rows of a document, as they stand in the world
@@ -82,9 +85,15 @@ abbrev pub InsertsNumbered : Type 0
 InsertsNumbered = (world : World) (document : List ℕ) (at first : ℕ) (text : List ℕ) → IsOpenPlace world document at
     → (other : List ℕ) → IsNumbered world other → IsNumbered (world_with world document at first text) other
 
--- text comes in between 1 and one more than the document's length; other changes may be any
+-- text comes in between 1 and one more than the document's length, and its bytes are the document's next ones
+pub record ComesInAt (world : World) (document : List ℕ) (at first : ℕ) : Type 0 where
+  pub from_one : 1 ≤ at
+  pub to_end : at ≤ text_length world document + 1
+  pub is_next : first ≡ content_length world document + 1
+
+-- text comes in so; other changes may be any
 abbrev pub IsPlaced : World → PlainChange → Type 0
-IsPlaced world (text_inserted document at first text) = (1 ≤ at) × (at ≤ text_length world document + 1)
+IsPlaced world (text_inserted document at first text) = ComesInAt world document at first
 IsPlaced world other = ⊤
 
 -- each entry is so placed in the world that it finds
@@ -92,6 +101,22 @@ abbrev pub AllPlaced : World → List PlainEntry → Type 0
 AllPlaced world [] = ⊤
 AllPlaced world (entry ∷ history) = IsPlaced world entry.change × AllPlaced (apply world entry) history
 
+-- the change of a request that nothing refuses is so placed
+abbrev pub ServedIsPlaced : Type 0
+ServedIsPlaced = (limits : LimitsView) (counted : ℕ) (world : World) (session : ℕ) (request : PlainRequest) (made : Effect)
+    → wanted limits counted world session request ≡ None → effect world session request ≡ Some made → IsPlaced world made.change
+
 -- such a history numbers each document's text rows from 1 on, without gaps
 abbrev pub NumberedWithoutGaps : Type 0
 NumberedWithoutGaps = (history : List PlainEntry) → AllPlaced empty_world history → (document : List ℕ) → IsNumbered (world_of history) document
+
+-- after such a history none of a document's rows shows a content byte that is yet to come
+abbrev pub ShowsOwnContent : Type 0
+ShowsOwnContent = (history : List PlainEntry) → AllPlaced empty_world history → (document : List ℕ) (count : ℕ)
+    → ShowsNoneOf (world_of history) document (content_length (world_of history) document + 1) count
+
+-- So in the world of such a history text that comes in reads at its place, between what was before it and what was after it.
+abbrev pub InsertedReads : Type 0
+InsertedReads = (history : List PlainEntry) → AllPlaced empty_world history → (document : List ℕ) (at first : ℕ) (text : List ℕ) → ComesInAt (world_of history) document at first
+    → text_of (world_with (world_of history) document at first text) (text_rows (world_with (world_of history) document at first text) document)
+    ≡ text_of (world_of history) (take (at - 1) (text_rows (world_of history) document)) ++ (text ++ text_of (world_of history) (drop (at - 1) (text_rows (world_of history) document)))

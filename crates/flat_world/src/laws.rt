@@ -1,6 +1,6 @@
 //! Laws of what a history makes of the world. Each is a function that does nothing, whose
 //! contract says the law.
-ghost use Rattle.flat_world.specs.Laws.{TextInOrder, KeepsContents, KeptAgain, InsertsRows, InsertsNumbered, NumberedWithoutGaps, RetrieveAfterInsert};
+ghost use Rattle.flat_world.specs.Laws.{TextInOrder, KeepsContents, KeptAgain, InsertsRows, InsertsNumbered, NumberedWithoutGaps, RetrieveAfterInsert, ServedIsPlaced, ShowsOwnContent, InsertedReads};
 
 /// In the world of any history the text rows of each document stand in the order of their places.
 pub fn text_in_order()
@@ -40,4 +40,22 @@ pub fn numbered_without_gaps()
 /// from the place on.
 pub fn retrieve_after_insert()
     ensures { RetrieveAfterInsert }
+{}
+
+/// A request that nothing refuses changes the world so that its text, if it has one, comes in at
+/// such a place, with the document's next content bytes.
+pub fn served_is_placed()
+    ensures { ServedIsPlaced }
+{}
+
+/// In the world of such a history no document has a row that shows one of its content bytes that
+/// are yet to come.
+pub fn shows_own_content()
+    ensures { ShowsOwnContent }
+{}
+
+/// In the world of such a history text that comes in reads at its place, between what the document
+/// had before it and what it had from there on.
+pub fn inserted_reads()
+    ensures { InsertedReads }
 {}
