@@ -5,3 +5,10 @@ pub mod Sizes
 pub mod ByteIndexes
 pub mod Retrieved
 pub mod Valid
+pub mod TextRows
+pub mod Places
+pub mod Kept
+pub mod Numbered
+pub mod TextWith
+pub mod Placed
+pub mod Fresh

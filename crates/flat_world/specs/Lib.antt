@@ -17,3 +17,4 @@ pub mod InPlace
 pub mod PlainEffect
 pub mod Served
 pub mod ByteIndex
+pub mod Laws

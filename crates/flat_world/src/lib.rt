@@ -5,6 +5,7 @@ mod byte_index;
 mod edits;
 mod effects;
 mod flat;
+pub mod laws;
 mod refusals;
 mod requests;
 mod retrieve;

@@ -13,7 +13,7 @@ use Rattle.flat_world.specs.Refusals.{wanted}
 use Rattle.flat_world.specs.Effects.{Effect, effect}
 use Rattle.flat_world.specs.Answers.{answer}
 use Rattle.flat_world.specs.Legal.{IsLegal, IsServed, IsOutOfMemory, IsRefused, wanted_after, entry_after}
-use Rattle.green_top.specs.Session.{state_of, Steps, IsMade}
+use Rattle.green_top.specs.Session.{state_of, Steps, IsMade, LeavesLive}
 use Rattle.green_top.proofs.Histories.{is_live-push}
 
 pub not_quit : (request : Request) → (request ≡ requests.Quit → ⊥) → plain_request request ≡ quit → ⊥
@@ -23,13 +23,9 @@ not_quit requests.Create n e = cc
 not_quit requests.Quit n e = n refl
 not_quit (requests.Account account) n e = cc
 
--- a change that a request makes, but for a quit, leaves the session live
-abbrev LeavesLive : PlainChange → Type 0
-LeavesLive change = (serial : ℕ) → live_after 1 true (record { session = 1; serial = serial; change = change }) ≡ true
-
 -- what an effect has, told by cases on the request
 pub Leaves : Effect → Type 0
-Leaves made = LeavesLive made.change × (made.change ≢ ended)
+Leaves made = LeavesLive made.change
 
 some_is : (a b : Effect) → (let x : Option Effect = Some a in x) ≡ Some b → a ≡ b
 some_is a b e = cc
@@ -40,22 +36,22 @@ along a b e h = subst Leaves (some_is a b e) h
 
 pub leaves_live : (world : World) (session : ℕ) (request : PlainRequest) (made : Effect) → request ≢ quit → effect world session request ≡ Some made → Leaves made
 unfolding Leaves
-leaves_live world session (insert document at text) made n e = along _ made e ((λ serial. refl), (λ k. cc))
+leaves_live world session (insert document at text) made n e = along _ made e (λ serial. refl)
 leaves_live world session (retrieve specs) made n e = absurd cc
-leaves_live world session create made n e = along _ made e ((λ serial. refl), (λ k. cc))
+leaves_live world session create made n e = along _ made e (λ serial. refl)
 leaves_live world session quit made n e = absurd (n refl)
-leaves_live world session (set_account account) made n e = along _ made e ((λ serial. refl), (λ k. cc))
+leaves_live world session (set_account account) made n e = along _ made e (λ serial. refl)
 
-pub no_end : (world : World) (session : ℕ) (request : PlainRequest) (made : Effect) → request ≢ quit → effect world session request ≡ Some made → made.change ≢ ended
+pub stays : (world : World) (session : ℕ) (request : PlainRequest) (made : Effect) → request ≢ quit → effect world session request ≡ Some made → LeavesLive made.change
 unfolding Leaves
-no_end world session request made n e = (leaves_live world session request made n e).1
+stays world session request made n e = leaves_live world session request made n e
 
 pub stays_live : (history : List PlainEntry) (world : World) (request : PlainRequest) (made : Effect) (reply : PlainReply) (after : List PlainEntry)
     → is_live history 1 ≡ true → request ≢ quit → effect world 1 request ≡ Some made → IsMade history made reply after → is_live after 1 ≡ true
 unfolding Leaves
 stays_live history world request made reply after live n e (inl m) =
     let entry = entry_after history 1 made in
-    ap (λ (h : List PlainEntry). is_live h 1) m.1 ∙ is_live-push history entry 1 ∙ ap (λ (b : Bool). live_after 1 b entry) live ∙ (leaves_live world 1 request made n e).0 entry.serial
+    ap (λ (h : List PlainEntry). is_live h 1) m.1 ∙ is_live-push history entry 1 ∙ ap (λ (b : Bool). live_after 1 b entry) live ∙ leaves_live world 1 request made n e entry.serial
 stays_live history world request made reply after live n e (inr m) = ap (λ (h : List PlainEntry). is_live h 1) m.1 ∙ live
 
 module _ (limits : LimitsView) (history : List PlainEntry) (request : PlainRequest) (live : is_live history 1 ≡ true) where

@@ -1,5 +1,5 @@
 -- How far a session has come.
-use Rattle.std.specs.Prelude.{◌≡◌, ◌≢◌, ◌⊎◌, ℕ, ◌≤◌, List, [], ◌∷◌, ◌++◌, length, All, map}
+use Rattle.std.specs.Prelude.{false, ◌≡◌, ◌≢◌, ◌⊎◌, ℕ, ◌≤◌, List, [], ◌∷◌, ◌++◌, length, All, map}
 use Rattle.std.specs.Io.{StartsWith}
 use Rattle.green_io.specs.Outside.{HasRisen}
 use Rattle.febe_data.specs.LimitsView.{LimitsView}

@@ -2,9 +2,9 @@
 use Rattle.std.specs.Prelude.{◌≡◌, ◌≢◌, ◌⊎◌, ◌+◌, ℕ, Bool, true, false, List, [], ◌∷◌, ◌++◌, length}
 use Rattle.febe_data.specs.declared.refusal.Refusal.TheVariants.{Memory}
 use Rattle.febe_data.specs.LimitsView.{LimitsView}
-use Rattle.febe_data.specs.Plain.{PlainRequest, PlainReply, PlainEntry, refused, restarted, began, ended}
+use Rattle.febe_data.specs.Plain.{PlainRequest, PlainReply, PlainChange, PlainEntry, refused, restarted, began, ended}
 use Rattle.flat_world.specs.FlatView.{FlatView}
-use Rattle.flat_world.specs.Apply.{world_of, kept, is_live, next_serial}
+use Rattle.flat_world.specs.Apply.{world_of, kept, is_live, live_after, next_serial}
 use Rattle.flat_world.specs.Effects.{Effect}
 use Rattle.flat_world.specs.Legal.{IsLegal, entry_after}
 
@@ -30,13 +30,16 @@ pub record Steps (limits : LimitsView) (session : ℕ) (before : List PlainEntry
   pub grows : after ≡ before ++ added
   pub legal : IsLegal limits session before request reply added rose
 
--- what contracts see of the store: its history, and how many entries it has room for
+-- what contracts see of the store
 pub record StoreView : Type 0 where
   pub history : List PlainEntry
-  pub room : ℕ
 
 -- the effect was made: its entry was added, and its reply is given; or there was no memory
 abbrev pub IsMade : List PlainEntry → Effect → PlainReply → List PlainEntry → Type 0
 IsMade before made reply after =
     ((reply ≡ made.reply) × (after ≡ before ++ entry_after before 1 made ∷ []))
     ⊎ ((reply ≡ refused Memory) × (after ≡ before))
+
+-- a change of a live session after which it is live
+abbrev pub LeavesLive : PlainChange → Type 0
+LeavesLive change = (serial : ℕ) → live_after 1 true (record { session = 1; serial = serial; change = change }) ≡ true

@@ -16,6 +16,8 @@ pub(crate) struct Store {
     world: FlatWorld,
     /// How many entries the session has.
     serial: u64,
+    /// Whether the session has begun and not ended. While it is, the history has room for its end.
+    live: bool,
 }
 
 impl Model for Store {
@@ -26,9 +28,9 @@ impl Model for Store {
     ghost use Rattle.febe_data.specs.Plain.{plain_history};
     ghost use Rattle.green_top.specs.IsStore.{IsStore};
 
-    ghost view = { λ s. record { history = plain_history s.history.items; room = s.history.spare } };
+    ghost view = { λ s. record { history = plain_history s.history.items } };
 
-    ghost invariant = { λ s. IsStore (plain_history s.history.items) s.world s.serial };
+    ghost invariant = { λ s. IsStore (plain_history s.history.items) s.history.spare s.world s.serial s.live };
 }
 
 #[tactic(auto, using(crate::proofs::Histories::histories))]
@@ -36,7 +38,8 @@ impl Store {
     ghost use Rattle.febe_data.specs.Plain.{plain_request, plain_reply, plain_change, plain_history, ended};
     ghost use Rattle.flat_world.specs.PlainEffect.{plain_effect};
     ghost use Rattle.flat_world.specs.Apply.{is_live, entries_of};
-    ghost use Rattle.green_top.specs.Session.{restart_entry, begin_entry, end_entry, Steps, IsMade};
+    ghost use Rattle.green_top.specs.Session.{restart_entry, begin_entry, end_entry, Steps, IsMade, LeavesLive};
+    ghost use Rattle.febe_data.specs.Validity.{IsReply};
 
     /// A back end that has just begun.
     pub(crate) fn open(alloc: Global) -> Result<Store, Memory>
@@ -55,6 +58,7 @@ impl Store {
             history,
             world,
             serial: 0,
+            live: false,
         })
     }
 
@@ -62,7 +66,6 @@ impl Store {
     pub(crate) fn begin(&mut self, alloc: Global) -> Result<(), Memory>
         requires { self.old.history ≡ restart_entry ∷ [] }
         ensures ok { OnOk result (self.new.history ≡ restart_entry ∷ begin_entry 1 ∷ []) }
-        ensures room { OnOk result (1 ≤ self.new.room) }
         ensures err { OnErr result (self.new.history ≡ self.old.history) }
     {
         self.history.reserve(2)?;
@@ -74,12 +77,13 @@ impl Store {
         self.world.apply(alloc, &begin)?;
         self.history.push_reserved(begin);
         self.serial = 1;
+        self.live = true;
         Ok(())
     }
 
     /// Ends the session. It takes no memory.
     pub(crate) fn end(&mut self, alloc: Global)
-        requires { 1 ≤ self.old.room }
+        requires { is_live self.old.history 1 ≡ true }
         ensures ended { self.new.history ≡ self.old.history ++ end_entry self.old.history 1 ∷ [] }
         ensures over { is_live self.new.history 1 ≡ false }
     {
@@ -93,14 +97,15 @@ impl Store {
         let _ = self.world.apply(alloc, &end);
         self.history.push_reserved(end);
         self.serial = serial;
+        self.live = false;
     }
 
     /// Answers a request of the session, by a legal step. Only a quit ends the session.
     pub(crate) fn ask(&mut self, alloc: Global, request: &Request, limits: &Limits) -> Reply
-        requires live { is_live self.old.history 1 ≡ true }
-        requires room { 1 ≤ self.old.room }
+        requires { is_live self.old.history 1 ≡ true }
+        ensures valid { IsReply (plain_reply result) }
         ensures step { Steps limits.now 1 self.old.history (plain_request request.now) (plain_reply result) self.new.history false }
-        ensures stays { request.now ≢ Request.Quit → (is_live self.new.history 1 ≡ true) × (1 ≤ self.new.room) }
+        ensures stays { request.now ≢ Request.Quit → is_live self.new.history 1 ≡ true }
         ensures quits { request.now ≡ Request.Quit → is_live self.new.history 1 ≡ false }
     {
         if let Request::Quit = request {
@@ -119,10 +124,11 @@ impl Store {
 
     /// Makes a change that is no end of the session, and answers its reply; or there is no memory.
     fn make(&mut self, alloc: Global, made: Effect) -> Reply
-        requires room { 1 ≤ self.old.room }
-        requires no_end { plain_change made.change ≢ ended }
+        requires live { is_live self.old.history 1 ≡ true }
+        requires stays { LeavesLive (plain_change made.change) }
+        requires valid { IsReply (plain_reply made.reply) }
         ensures made { IsMade self.old.history (plain_effect made) (plain_reply result) self.new.history }
-        ensures room { 1 ≤ self.new.room }
+        ensures valid { IsReply (plain_reply result) }
     {
         if self.history.reserve(2).is_err() {
             return Reply::Refused(Refusal::Memory);
@@ -140,6 +146,13 @@ impl Store {
         self.history.push_reserved(entry);
         self.serial = serial;
         made.reply
+    }
+
+    /// Whether the session has begun and not ended.
+    pub(crate) fn is_live(&self) -> bool
+        ensures { result ≡ is_live self.now.history 1 }
+    {
+        self.live
     }
 
     /// The number of entries.

@@ -9,7 +9,7 @@ returns-then-is_err g c =
     let answer = c.in-Got.ensures.answer in
     record { read = record {
       read = c.reading.text.items ++ piece;
-      consumed = consumes_more _ (g.S.Source.left c.reading.source.now) _ c.reading.text.items piece c.reading.invariant.consumed answer.2;
+      consumed = consumes_more _ (g.S.Source.left c.reading.source) _ c.reading.text.items piece c.reading.invariant.consumed answer.2;
       given = omega (arith, length-append c.reading.text.items piece, length-take c.in-Got.n c.read.new.into, c.len-in-Got.ensures, answer.1);
       input = tt;
     } }

@@ -1,0 +1,5 @@
+use Rattle.flat_world.proofs.Numbered.{inserts_numbered}
+use Rattle.flat_world.proofs.laws.inserts_numbered.Goals as goal
+
+pub returns : goal.returns
+returns c = inserts_numbered

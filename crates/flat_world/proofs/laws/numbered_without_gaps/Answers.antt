@@ -1,0 +1,5 @@
+use Rattle.flat_world.proofs.Numbered.{numbered_without_gaps}
+use Rattle.flat_world.proofs.laws.numbered_without_gaps.Goals as goal
+
+pub returns : goal.returns
+returns c = numbered_without_gaps
