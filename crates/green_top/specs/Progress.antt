@@ -1,6 +1,7 @@
 -- How far a session has come.
-use Rattle.std.specs.Prelude.{false, ◌≡◌, ◌≢◌, ◌⊎◌, ℕ, ◌≤◌, List, [], ◌∷◌, ◌++◌, length, All, map}
+use Rattle.std.specs.Prelude.{false, ◌≡◌, ◌≢◌, ◌⊎◌, ℕ, ◌≤◌, List, [], ◌∷◌, ◌++◌, length, Option}
 use Rattle.std.specs.Io.{StartsWith}
+use Rattle.std.specs.Io.KnownBytes.{Appends}
 use Rattle.green_io.specs.Outside.{HasRisen}
 use Rattle.febe_data.specs.LimitsView.{LimitsView}
 use Rattle.febe_data.specs.Plain.{PlainRequest, PlainReply, PlainEntry}
@@ -27,3 +28,25 @@ abbrev pub TookOf : Answered → List ℕ → List ℕ → ℕ → ℕ → Type 
 TookOf Done output written before after = written ≡ output
 TookOf WriteFault output written before after = StartsWith output written × HasRisen before after
 TookOf Memory output written before after = written ≡ []
+
+-- the request was answered, and this came of its reply
+pub record Happened (limits : LimitsView) (before : List PlainEntry) (points : List ℕ) (request : PlainRequest) (after : List PlainEntry) (points' : List ℕ) (taken taken' : Option (List ℕ)) (faults faults' : ℕ) (result : Answered) : Type 0 where
+  pub output : List ℕ
+  pub written : List ℕ
+  pub answers : Answers limits before points request after points' output
+  pub appended : Appends taken taken' written
+  pub took : TookOf result output written faults faults'
+  pub never_falls : faults ≤ faults'
+
+-- there was no memory, and all is as it was
+pub record Stayed (before : List PlainEntry) (points : List ℕ) (after : List PlainEntry) (points' : List ℕ) (taken taken' : Option (List ℕ)) (faults faults' : ℕ) (result : Answered) : Type 0 where
+  pub memory : result ≡ Memory
+  pub history_stays : after ≡ before
+  pub points_stay : points' ≡ points
+  pub sink_stays : taken' ≡ taken
+  pub faults_stay : faults' ≡ faults
+
+abbrev pub IsAnswered : LimitsView → List PlainEntry → List ℕ → PlainRequest → List PlainEntry → List ℕ → Option (List ℕ) → Option (List ℕ) → ℕ → ℕ → Answered → Type 0
+IsAnswered limits before points request after points' taken taken' faults faults' result =
+    Happened limits before points request after points' taken taken' faults faults' result
+    ⊎ Stayed before points after points' taken taken' faults faults' result

@@ -1,11 +1,13 @@
 //! The top call: one session from a source to a sink.
 #![tactic(auto)]
 
+mod batch;
 mod exchange;
 mod outside;
 mod report;
 mod status;
 mod store;
 
+pub use batch::run_batch;
 pub use outside::MOST_INPUT;
 pub use report::Report;

@@ -21,7 +21,7 @@ returns-in-Ok-Changed c =
     let made = ap (λ (v : FlatView). effect v.world 1 request) (sym world) ∙ served in
     let asks = not_quit c.args.request.now c.in_default.not-Quit in
     record {
-      valid = ?;
+      valid = c.make.ensures.valid;
       step = step_changed limits h request c.requires (plain_effect c.in-Ok-Changed.made) _ _ given asks made c.make.ensures.made;
       stays = λ n. stays_live h (state_of h).world request (plain_effect c.in-Ok-Changed.made) _ _ c.requires asks made c.make.ensures.made;
       quits = λ e. absurd (c.in_default.not-Quit e);
@@ -36,7 +36,7 @@ returns-in-Ok-Answered c =
     let given : wanted_after limits h 1 request ≡ None = ap (λ (v : FlatView). wanted limits v.counted v.world 1 request) (sym world) ∙ sym c.refusal.ensures ∙ c.in_default-refusal.is in
     let served = rw c.in-Ok-Answered.field-0-is at c.in-Ok-Answered.ensures.served in
     record {
-      valid = ?;
+      valid = rw c.in-Ok-Answered.field-0-is at c.in-Ok-Answered.ensures.valid;
       step = step_answered limits h request c.requires _ given (ap (λ (v : FlatView). effect v.world 1 request) (sym world) ∙ served.0) (served.1 ∙ ap (λ (v : FlatView). answer v.world request) world);
       stays = λ n. c.requires;
       quits = λ e. absurd (c.in_default.not-Quit e);
