@@ -1,3 +1,5 @@
 pub mod Histories
 pub mod Steps
 pub mod Fronts
+pub mod Progresses
+pub mod Goings

@@ -1,7 +1,6 @@
 -- What one call of the top does, by the status that it answers.
 use Rattle.std.specs.Prelude.{◌≡◌, ◌≢◌, ◌⊎◌, ◌==◌, ℕ, ◌<◌, ◌≤◌, Bool, true, false, not, List, [], ◌∷◌, ◌++◌, length, map, Option, IsTrue}
 use Rattle.std.specs.Io.KnownBytes.{Consumes, Appends, IsAtEnd}
-use Rattle.std.specs.Io.{StartsWith}
 use Rattle.green_io.specs.Outside.{HasRisen}
 use Rattle.febe_data.specs.LimitsView.{standard_limits}
 use Rattle.febe_data.specs.Plain.{PlainRequest, PlainEntry, plain_history}
@@ -12,7 +11,7 @@ use Rattle.green_top.specs.declared.report.Report.{Report}
 use Rattle.green_top.specs.declared.status.Status.{Status}
 use Rattle.green_top.specs.declared.status.Status.TheVariants.{Done, Usage, Malformed, ReadFault, WriteFault, Memory, Budget}
 use Rattle.green_top.specs.Session.{restart_entry}
-use Rattle.green_top.specs.Transcript.{Transcript}
+use Rattle.green_top.specs.Transcript.{IsFrontOf, Transcript}
 
 -- the most bytes of input
 abbrev pub most_input : ℕ
@@ -85,7 +84,7 @@ pub record FrontOfSession (read : List ℕ) (report : PlainReport) (written : Li
   pub output : List ℕ
   pub rest : List PlainRequest
   pub front : all ≡ answered ++ rest
-  pub written_front : StartsWith output written
+  pub written_front : IsFrontOf written output
   pub session : Session read report all answered output
 
 -- ---- the statuses

@@ -1,15 +1,18 @@
 -- How far a session has come.
-use Rattle.std.specs.Prelude.{false, ◌≡◌, ◌≢◌, ◌⊎◌, ℕ, ◌≤◌, List, [], ◌∷◌, ◌++◌, length, Option}
-use Rattle.std.specs.Io.{StartsWith}
+use Rattle.std.specs.Prelude.{false, true, take, ◌<◌, ◌≡◌, ◌≢◌, ◌⊎◌, ℕ, ◌≤◌, List, [], ◌∷◌, ◌++◌, length, map, All, Option}
+use Rattle.std.specs.List.{flat_map, AllByRecursion}
+use Rattle.std.specs.List.Sorted.{IsNonDecreasing}
 use Rattle.std.specs.Io.KnownBytes.{Appends}
 use Rattle.green_io.specs.Outside.{HasRisen}
-use Rattle.febe_data.specs.LimitsView.{LimitsView}
+use Rattle.febe_data.specs.LimitsView.{LimitsView, standard_limits}
 use Rattle.febe_data.specs.Plain.{PlainRequest, PlainReply, PlainEntry}
 use Rattle.febe_reply.specs.ReplyGrammar.{spell_reply}
-use Rattle.flat_world.specs.Apply.{entries_of}
-use Rattle.flat_world.specs.Legal.{IsLegal}
-use Rattle.green_top.specs.Session.{restart_entry}
-use Rattle.green_top.specs.Transcript.{Transcript}
+use Rattle.flat_world.specs.Apply.{entries_of, is_live}
+use Rattle.flat_world.specs.Legal.{IsLegal, Exchange, TookPlace}
+use Rattle.green_top.specs.Session.{restart_entry, begin_entry}
+use Rattle.green_top.specs.Transcript.{IsFrontOf, output_of}
+use Rattle.green_top.specs.declared.status.Status.{Status}
+use Rattle.green_top.specs.declared.status.Status.TheVariants as statuses
 use Rattle.green_top.specs.declared.exchange.Answered.{Answered}
 use Rattle.green_top.specs.declared.exchange.Answered.TheVariants.{Done, WriteFault, Memory}
 
@@ -26,7 +29,7 @@ pub record Answers (limits : LimitsView) (before : List PlainEntry) (points : Li
 -- what the sink took of a reply's bytes, by what came of it
 abbrev pub TookOf : Answered → List ℕ → List ℕ → ℕ → ℕ → Type 0
 TookOf Done output written before after = written ≡ output
-TookOf WriteFault output written before after = StartsWith output written × HasRisen before after
+TookOf WriteFault output written before after = IsFrontOf written output × HasRisen before after
 TookOf Memory output written before after = written ≡ []
 
 -- the request was answered, and this came of its reply
@@ -50,3 +53,44 @@ abbrev pub IsAnswered : LimitsView → List PlainEntry → List ℕ → PlainReq
 IsAnswered limits before points request after points' taken taken' faults faults' result =
     Happened limits before points request after points' taken taken' faults faults' result
     ⊎ Stayed before points after points' taken taken' faults faults' result
+
+-- The session so far: the requests answered, with their points and the output, in a history that is one
+-- Restart, the session's Begin and what the exchanges added.
+pub record Progress (limits : LimitsView) (history : List PlainEntry) (points : List ℕ) (answered : List PlainRequest) (output : List ℕ) : Type 0 where
+  pub exchanges : List Exchange
+  pub requests_are : answered ≡ map (λ (e : Exchange). e.request) exchanges
+  pub points_are : points ≡ map (λ (e : Exchange). e.point) exchanges
+  pub output_is : output ≡ output_of exchanges
+  pub each : AllByRecursion (TookPlace limits 1 history) exchanges
+  pub history_is : history ≡ restart_entry ∷ begin_entry 1 ∷ flat_map (λ (e : Exchange). e.added) exchanges
+  pub own : entries_of 1 (flat_map (λ (e : Exchange). e.added) exchanges) ≡ flat_map (λ (e : Exchange). e.added) exchanges
+  pub rising : IsNonDecreasing points
+  pub within : All (λ point. point ≤ length history) points
+  pub above : All (λ point. 2 ≤ point) points
+
+-- what came of answering requests: all of them, or the first ones
+abbrev pub CameOf : Status → List PlainRequest → List ℕ → List ℕ → ℕ → ℕ → Type 0
+CameOf statuses.Done rest output written before after = (rest ≡ []) × (written ≡ output)
+CameOf statuses.WriteFault rest output written before after = IsFrontOf written output × HasRisen before after
+CameOf statuses.Memory rest output written before after = IsFrontOf written output
+CameOf other rest output written before after = ⊥
+
+-- the requests were answered up to some place, and this came of it
+pub record AllAnswered (all : List PlainRequest) (history : List PlainEntry) (points : List ℕ) (taken taken' : Option (List ℕ)) (faults faults' : ℕ) (status : Status) : Type 0 where
+  pub answered : List PlainRequest
+  pub rest : List PlainRequest
+  pub front : all ≡ answered ++ rest
+  pub output : List ℕ
+  pub written : List ℕ
+  pub progress : Progress standard_limits history points answered output
+  pub appended : Appends taken taken' written
+  pub never_falls : faults ≤ faults'
+  pub came : CameOf status rest output written faults faults'
+
+-- the first i requests were answered, and all of their output written; the session is live while there are more
+pub record Going (all : List PlainRequest) (i : ℕ) (history : List PlainEntry) (points : List ℕ) (taken taken' : Option (List ℕ)) (faults faults' : ℕ) : Type 0 where
+  pub written : List ℕ
+  pub progress : Progress standard_limits history points (take i all) written
+  pub appended : Appends taken taken' written
+  pub never_falls : faults ≤ faults'
+  pub live : i < length all → is_live history 1 ≡ true

@@ -9,6 +9,10 @@ use Rattle.flat_world.specs.Apply.{entries_of}
 use Rattle.flat_world.specs.Legal.{Exchange, TookPlace}
 use Rattle.green_top.specs.Session.{begin_entry}
 
+-- the front is what the whole begins with
+abbrev pub IsFrontOf : List ℕ → List ℕ → Type 0
+IsFrontOf front whole = (rest : List ℕ) × (whole ≡ front ++ rest)
+
 -- what a session is greeted with, and then its replies
 abbrev pub output_of : List Exchange → List ℕ
 output_of exchanges = codes "P0~" ++ flat_map (λ (e : Exchange). spell_reply e.reply) exchanges

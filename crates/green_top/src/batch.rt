@@ -2,6 +2,9 @@
 ghost use Rattle.std.specs.Prelude.{◌≡◌, ◌∷◌, [], true, map, string_bytes};
 ghost use Rattle.febe_data.specs.Plain.{plain_request};
 ghost use Rattle.febe_data.specs.LimitsView.{standard_limits};
+ghost use Rattle.febe_wire.specs.Grammar.{QuitsLast};
+ghost use Rattle.green_top.specs.Session.{restart_entry, begin_entry};
+ghost use Rattle.green_top.specs.Progress.{AllAnswered};
 ghost use Rattle.green_top.specs.Batch.{are_words, IsBatch};
 
 use crate::exchange::{Answered, answer_one};
@@ -41,7 +44,13 @@ fn answer_all<K: Sink>(
     requests: &[Request],
     sink: &mut K,
     points: &mut List<u64>,
-) -> Status {
+) -> Status
+    requires begun { store.old.history ≡ restart_entry ∷ begin_entry 1 ∷ [] }
+    requires no_points { points.old.items ≡ [] }
+    requires quits_last { QuitsLast (map plain_request requests.now) }
+    ensures answered { AllAnswered (map plain_request requests.now) store.new.history points.new.items (K.taken sink.old) (K.taken sink.new)
+        (K.fault_count sink.old) (K.fault_count sink.new) result }
+{
     if let Put::WriteFault = put_bytes(sink, b"P0~") {
         return Status::WriteFault;
     }
