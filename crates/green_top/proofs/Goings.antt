@@ -1,5 +1,5 @@
 -- One request after the other is answered.
-use Rattle.std.proofs.Common.{◌≡◌, ◌≢◌, ℕ, ◌+◌, ◌-◌, ◌≤◌, ◌<◌, Bool, true, false, List, [], ◌∷◌, ◌++◌, length, take, drop, get_or, map, Option, refl, ap, ◌∙◌, sym, subst, inl, inr, arith, le_trans, le_refl}
+use Rattle.std.proofs.Common.{◌≡◌, ◌≢◌, ℕ, zero, suc, ◌+◌, ◌-◌, ◌≤◌, ◌<◌, Bool, true, false, List, [], ◌∷◌, ◌++◌, length, take, drop, get_or, map, Option, refl, ap, ◌∙◌, sym, subst, inl, inr, arith, le_trans, le_refl}
 use Rattle.std.specs.Prelude.{codes}
 use Rattle.std.specs.Io.KnownBytes.{Appends}
 use Rattle.std.proofs.lemmas.List.{append_assoc, append-nil, take_more, take_all, take-append-drop, length-map, get_or-map, drop_all}
@@ -20,7 +20,10 @@ use Rattle.green_top.proofs.Progresses.{progress_begins, progress_goes_on}
 
 -- a request that is not the last is no quit
 pub no_quit_before : (all : List PlainRequest) (i : ℕ) (d : PlainRequest) → QuitsLast all → i + 1 < length all → get_or all i d ≢ quit
-no_quit_before all i d q lt = ?
+no_quit_before [] i d q lt = absurd (omega arith)
+no_quit_before (r ∷ []) i d q lt = absurd (omega arith)
+no_quit_before (r ∷ next ∷ rest) zero d q lt = q.0
+no_quit_before (r ∷ next ∷ rest) (suc i) d q lt = no_quit_before (next ∷ rest) i d q.1 (omega arith)
 
 module _ (all : List PlainRequest) (taken taken' : Option (List ℕ)) (faults faults' : ℕ) where
   pub going_starts : IsPut taken taken' faults faults' (codes "P0~") puts.Done → Going all 0 (restart_entry ∷ begin_entry 1 ∷ []) [] taken taken' faults faults'

@@ -3,3 +3,4 @@ pub mod Steps
 pub mod Fronts
 pub mod Progresses
 pub mod Goings
+pub mod Outcomes

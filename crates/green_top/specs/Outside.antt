@@ -7,7 +7,10 @@ use Rattle.green_top.specs.declared.outside.Input.TheVariants.{Whole, TooLong, F
 use Rattle.green_top.specs.declared.outside.ReadInput.{ReadInput}
 use Rattle.green_top.specs.declared.outside.Put.{Put}
 use Rattle.green_top.specs.declared.outside.Put.TheVariants.{Done, WriteFault}
-use Rattle.green_top.specs.Batch.{most_input}
+
+-- the most bytes of input
+abbrev pub most_input : ℕ
+most_input = 1048576
 
 -- the whole input, or why there is none
 abbrev pub InputIs : Input → List ℕ → Option (List ℕ) → ℕ → ℕ → Type 0

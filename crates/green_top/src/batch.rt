@@ -1,10 +1,11 @@
 //! One session from a source to a sink.
 ghost use Rattle.std.specs.Prelude.{◌≡◌, ◌∷◌, [], true, map, string_bytes};
-ghost use Rattle.febe_data.specs.Plain.{plain_request};
+ghost use Rattle.febe_data.specs.Plain.{plain_request, plain_history};
 ghost use Rattle.febe_data.specs.LimitsView.{standard_limits};
 ghost use Rattle.febe_wire.specs.Grammar.{QuitsLast};
 ghost use Rattle.green_top.specs.Session.{restart_entry, begin_entry};
 ghost use Rattle.green_top.specs.Progress.{AllAnswered};
+ghost use Rattle.green_top.specs.Outcome.{IsRan, IsRun};
 ghost use Rattle.green_top.specs.Batch.{are_words, IsBatch};
 
 use crate::exchange::{Answered, answer_one};
@@ -72,10 +73,16 @@ fn run_session<K: Sink>(
     requests: &[Request],
     sink: &mut K,
     points: &mut List<u64>,
-) -> Status {
-    if store.begin(alloc).is_err() {
+) -> Status
+    requires begun { store.old.history ≡ restart_entry ∷ [] }
+    requires no_points { points.old.items ≡ [] }
+    requires quits_last { QuitsLast (map plain_request requests.now) }
+    ensures ran { IsRan (map plain_request requests.now) store.new.history points.new.items (K.taken sink.old) (K.taken sink.new)
+        (K.fault_count sink.old) (K.fault_count sink.new) result }
+{
+    let Ok(()) = store.begin(alloc) else {
         return Status::Memory;
-    }
+    };
     let status = answer_all(alloc, store, requests, sink, points);
     if store.is_live() {
         store.end(alloc);
@@ -90,7 +97,13 @@ fn run<S: Source, K: Sink>(
     source: &mut S,
     sink: &mut K,
     report: &mut Report,
-) -> Status {
+) -> Status
+    requires begun { store.old.history ≡ restart_entry ∷ [] }
+    requires no_points { report.old.points.items ≡ [] }
+    ensures run { IsRun (S.left source.old) (S.left source.new) (K.taken sink.old) (K.taken sink.new) (S.fault_count source.old) (S.fault_count source.new)
+        (K.fault_count sink.old) (K.fault_count sink.new) store.new.history report.new.points.items report.new.bytes_read result }
+    ensures place_stays { report.new.place ≡ report.old.place }
+{
     let read = read_all(alloc, source);
     report.bytes_read = read.given;
     let input = match read.input {
