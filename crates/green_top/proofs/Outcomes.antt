@@ -5,7 +5,7 @@ use Rattle.std.proofs.lemmas.List.{append-nil}
 use Rattle.febe_data.specs.LimitsView.{standard_limits}
 use Rattle.febe_data.specs.Plain.{PlainRequest, PlainEntry}
 use Rattle.febe_wire.specs.Grammar.{IsSmallSession}
-use Rattle.flat_world.specs.Apply.{is_live, entries_of, next_serial}
+use Rattle.flat_world.specs.Apply.{is_live, entries_of}
 use Rattle.green_top.specs.declared.status.Status.{Status}
 use Rattle.green_top.specs.declared.status.Status.TheVariants.{Done, Usage, Malformed, ReadFault, WriteFault, Memory, Budget}
 use Rattle.green_top.specs.Session.{restart_entry, end_entry}
@@ -15,7 +15,7 @@ use Rattle.green_top.specs.Outcome.{IsOver, Ended, NotBegun, IsRan, IsRead, IsRu
 use Rattle.green_top.proofs.Fronts.{appends_nothing}
 use Rattle.green_top.proofs.Progresses.{transcript_of, history_of_one}
 
-is_over : (h : List PlainEntry) (points : List ℕ) (answered : List PlainRequest) (output : List ℕ) (more after : List PlainEntry) → Progress standard_limits h points answered output → IsEnding 1 more → entries_of 1 more ≡ more
+is_over : (h : List PlainEntry) (points : List ℕ) (answered : List PlainRequest) (output : List ℕ) (more after : List PlainEntry) → Progress standard_limits h points answered output → IsEnding 1 (length (entries_of 1 h)) more → entries_of 1 more ≡ more
     → after ≡ h ++ more → is_live after 1 ≡ false → IsOver after points answered output
 is_over h points answered output more after p ending own e dead = record {
   history_is = e ∙ history_of_one standard_limits h points answered output more p own ∙ ap (λ (x : List PlainEntry). restart_entry ∷ entries_of 1 x) (sym e);
@@ -24,7 +24,7 @@ is_over h points answered output more after p ending own e dead = record {
 }
 
 module _ (all : List PlainRequest) (h : List PlainEntry) (points : List ℕ) (taken taken' : Option (List ℕ)) (faults faults' : ℕ) (status : Status) (a : AllAnswered all h points taken taken' faults faults' status) where
-  ends_with : (more after : List PlainEntry) → IsEnding 1 more → entries_of 1 more ≡ more → after ≡ h ++ more → is_live after 1 ≡ false → Ended all after points taken taken' faults faults' status
+  ends_with : (more after : List PlainEntry) → IsEnding 1 (length (entries_of 1 h)) more → entries_of 1 more ≡ more → after ≡ h ++ more → is_live after 1 ≡ false → Ended all after points taken taken' faults faults' status
   ends_with more after ending own e dead = record {
     answered = a.answered;
     rest = a.rest;
@@ -38,7 +38,7 @@ module _ (all : List PlainRequest) (h : List PlainEntry) (points : List ℕ) (ta
   }
 
   pub ends_by_end : (after : List PlainEntry) → after ≡ h ++ end_entry h 1 ∷ [] → is_live after 1 ≡ false → Ended all after points taken taken' faults faults' status
-  ends_by_end after e dead = ends_with (end_entry h 1 ∷ []) after (inr (next_serial h 1, refl)) refl e dead
+  ends_by_end after e dead = ends_with (end_entry h 1 ∷ []) after (inr refl) refl e dead
 
   pub ends_by_quit : is_live h 1 ≡ false → Ended all h points taken taken' faults faults' status
   ends_by_quit dead = ends_with [] h (inl refl) refl (sym (append-nil h)) dead
@@ -75,7 +75,7 @@ module _ (all : List PlainRequest) (h : List PlainEntry) (points : List ℕ) (le
     consumed = consumed;
     appended = d.appended;
     counted = counted;
-    comes = (is_read, (d.came.1, record { all = all; answered = d.answered; rest = d.rest; output = d.output; input = input; front = d.front; written_front = d.came.0; over = d.over }));
+    comes = (is_read, d.came.1, record { all = all; answered = d.answered; rest = d.rest; output = d.output; input = input; front = d.front; written_front = d.came.0; over = d.over });
   }
   run_ended Memory input d = record {
     read = read;

@@ -15,7 +15,7 @@ use Rattle.flat_world.specs.Apply.{entries_of, world_of}
 use Rattle.flat_world.specs.Effects.{Effect, effect}
 use Rattle.flat_world.specs.Legal.{IsLegal, IsServed, IsRefused, IsAnswered, IsDone, IsDiskFault, Exchange, TookPlace, wanted_after}
 use Rattle.green_top.specs.Session.{restart_entry, begin_entry, end_entry}
-use Rattle.green_top.specs.Transcript.{output_of, IsFrontOf, BeginsBefore, EntriesAre, IsEnding, Transcript}
+use Rattle.green_top.specs.Transcript.{output_of, IsFrontOf, BeginsBefore, EntriesAre, IsEnding, IsCalm, Transcript}
 use Rattle.green_top.specs.Progress.{Answers, Progress}
 
 abbrev asked : Exchange → PlainRequest
@@ -44,6 +44,10 @@ each_before limits session h more (e ∷ es) all = (took_place_before limits ses
 each_push : (limits : LimitsView) (session : ℕ) (h : List PlainEntry) (es : List Exchange) (e : Exchange) → AllByRecursion (TookPlace limits session h) es → TookPlace limits session h e → AllByRecursion (TookPlace limits session h) (es ++ e ∷ [])
 each_push limits session h [] e all last = (last, tt)
 each_push limits session h (x ∷ es) e all last = (all.0, each_push limits session h es e all.1 last)
+
+calm_push : (es : List Exchange) (e : Exchange) → AllByRecursion IsCalm es → IsCalm e → AllByRecursion IsCalm (es ++ e ∷ [])
+calm_push [] e all last = (last, tt)
+calm_push (x ∷ es) e all last = (all.0, calm_push es e all.1 last)
 
 flat_map_push : {X A : Type 0} (f : X → List A) (xs : List X) (x : X) → flat_map f (xs ++ x ∷ []) ≡ flat_map f xs ++ f x
 flat_map_push f [] x = append-nil (f x)
@@ -92,6 +96,7 @@ progress_goes_on limits h points answered output request after points' o p a =
       points_are = a.points_are ∙ ap (λ (ps : List ℕ). ps ++ length after ∷ []) p.points_are ∙ sym (map_push at_point p.exchanges e);
       output_is = ap (λ (x : List ℕ). x ++ o) p.output_is ∙ ap (λ (x : List ℕ). output_of p.exchanges ++ x) a.output_is ∙ ap (λ (x : List ℕ). codes "P0~" ++ x) (sym (flat_map_push says p.exchanges e));
       each = each_push limits 1 after p.exchanges e earlier here;
+      calm = calm_push p.exchanges e p.calm refl;
       history_is = a.grows ∙ ap (λ (x : List PlainEntry). x ++ a.added) p.history_is ∙ ap (λ (x : List PlainEntry). restart_entry ∷ begin_entry 1 ∷ x) (sym (flat_map_push adds p.exchanges e));
       own = subst IsOwn (sym (flat_map_push adds p.exchanges e)) (own_append (flat_map adds p.exchanges) a.added p.own (own_added limits h request a.reply a.added a.legal));
       rising = rw a.points_are (IsNonDecreasingBy-push (λ n. n) points (length after) p.rising (λ d filled. all_within (length points - 1) d (omega arith)));
@@ -106,6 +111,7 @@ progress_begins limits = record {
   points_are = refl;
   output_is = refl;
   each = tt;
+  calm = tt;
   history_is = refl;
   own = refl;
   rising = IsNonDecreasingBy-short (λ n. n) [] (omega arith);
@@ -127,19 +133,22 @@ entries_so_far : (limits : LimitsView) (h : List PlainEntry) (points : List ℕ)
 entries_so_far limits h points answered output p = ap (entries_of 1) p.history_is ∙ ap (λ (x : List PlainEntry). begin_entry 1 ∷ x) p.own
 
 pub transcript_of : (limits : LimitsView) (h : List PlainEntry) (points : List ℕ) (answered : List PlainRequest) (output : List ℕ) (more : List PlainEntry) → Progress limits h points answered output
-    → IsEnding 1 more → entries_of 1 more ≡ more → Transcript limits 1 (h ++ more) answered points output
+    → IsEnding 1 (length (entries_of 1 h)) more → entries_of 1 more ≡ more → Transcript limits 1 (h ++ more) answered points output
 transcript_of limits h points answered output more p ending own = record {
   exchanges = p.exchanges;
   requests_are = p.requests_are;
   points_are = p.points_are;
   output_is = p.output_is;
   each = each_before limits 1 h more p.exchanges p.each;
+  calm = p.calm;
   rising = p.rising;
   begun = begun limits h points answered output p more;
   entries = record {
+    own = entries_of 1 h;
     ending = more;
+    own_are = entries_so_far limits h points answered output p;
     is_ending = ending;
-    parts = filter-append (λ (e : PlainEntry). eqb e.session 1) h more ∙ ap (λ (x : List PlainEntry). x ++ entries_of 1 more) (entries_so_far limits h points answered output p) ∙ ap (λ (x : List PlainEntry). (begin_entry 1 ∷ flat_map adds p.exchanges) ++ x) own;
+    parts = filter-append (λ (e : PlainEntry). eqb e.session 1) h more ∙ ap (λ (x : List PlainEntry). entries_of 1 h ++ x) own;
   };
 }
 

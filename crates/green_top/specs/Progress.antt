@@ -10,7 +10,7 @@ use Rattle.febe_reply.specs.ReplyGrammar.{spell_reply}
 use Rattle.flat_world.specs.Apply.{entries_of, is_live}
 use Rattle.flat_world.specs.Legal.{IsLegal, Exchange, TookPlace}
 use Rattle.green_top.specs.Session.{restart_entry, begin_entry}
-use Rattle.green_top.specs.Transcript.{IsFrontOf, output_of}
+use Rattle.green_top.specs.Transcript.{IsFrontOf, output_of, IsCalm}
 use Rattle.green_top.specs.declared.status.Status.{Status}
 use Rattle.green_top.specs.declared.status.Status.TheVariants as statuses
 use Rattle.green_top.specs.declared.exchange.Answered.{Answered}
@@ -62,6 +62,7 @@ pub record Progress (limits : LimitsView) (history : List PlainEntry) (points : 
   pub points_are : points ≡ map (λ (e : Exchange). e.point) exchanges
   pub output_is : output ≡ output_of exchanges
   pub each : AllByRecursion (TookPlace limits 1 history) exchanges
+  pub calm : AllByRecursion IsCalm exchanges
   pub history_is : history ≡ restart_entry ∷ begin_entry 1 ∷ flat_map (λ (e : Exchange). e.added) exchanges
   pub own : entries_of 1 (flat_map (λ (e : Exchange). e.added) exchanges) ≡ flat_map (λ (e : Exchange). e.added) exchanges
   pub rising : IsNonDecreasing points

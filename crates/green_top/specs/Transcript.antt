@@ -1,5 +1,5 @@
 -- What a session's requests, replies and points have to do with the history.
-use Rattle.std.specs.Prelude.{◌≡◌, ◌⊎◌, ℕ, ◌+◌, ◌≤◌, List, [], ◌∷◌, ◌++◌, length, map, All, codes}
+use Rattle.std.specs.Prelude.{false, ◌≡◌, ◌⊎◌, ℕ, ◌+◌, ◌≤◌, List, [], ◌∷◌, ◌++◌, length, map, All, codes}
 use Rattle.std.specs.List.{flat_map, AllByRecursion}
 use Rattle.std.specs.List.Sorted.{IsNonDecreasing}
 use Rattle.febe_data.specs.LimitsView.{LimitsView}
@@ -17,6 +17,10 @@ IsFrontOf front whole = (rest : List ℕ) × (whole ≡ front ++ rest)
 abbrev pub output_of : List Exchange → List ℕ
 output_of exchanges = codes "P0~" ++ flat_map (λ (e : Exchange). spell_reply e.reply) exchanges
 
+-- no count of disk faults rose in the exchange, so its reply is no disk fault
+abbrev pub IsCalm : Exchange → Type 0
+IsCalm exchange = exchange.rose ≡ false
+
 -- the session's Begin stands in the history, and no point is below its place
 pub record BeginsBefore (session : ℕ) (history : List PlainEntry) (points : List ℕ) : Type 0 where
   pub before : List PlainEntry
@@ -24,16 +28,18 @@ pub record BeginsBefore (session : ℕ) (history : List PlainEntry) (points : Li
   pub parts : history ≡ before ++ begin_entry session ∷ more
   pub above : All (λ point. length before + 1 ≤ point) points
 
--- nothing, or the session's End
-abbrev pub IsEnding : ℕ → List PlainEntry → Type 0
-IsEnding session ending = (ending ≡ []) ⊎ ((serial : ℕ) × (ending ≡ record { session = session; serial = serial; change = ended } ∷ []))
+-- nothing, or the session's End after this many of its entries
+abbrev pub IsEnding : ℕ → ℕ → List PlainEntry → Type 0
+IsEnding session count ending = (ending ≡ []) ⊎ (ending ≡ record { session = session; serial = count + 1; change = ended } ∷ [])
 
 -- The session's entries are its Begin, then what each exchange added, in their order, then at most one
 -- End, which is last.
 pub record EntriesAre (session : ℕ) (history : List PlainEntry) (exchanges : List Exchange) : Type 0 where
+  pub own : List PlainEntry
   pub ending : List PlainEntry
-  pub is_ending : IsEnding session ending
-  pub parts : entries_of session history ≡ (begin_entry session ∷ flat_map (λ (e : Exchange). e.added) exchanges) ++ ending
+  pub own_are : own ≡ begin_entry session ∷ flat_map (λ (e : Exchange). e.added) exchanges
+  pub is_ending : IsEnding session (length own) ending
+  pub parts : entries_of session history ≡ own ++ ending
 
 -- The requests were answered at these points, with this output: each exchange took place in the history,
 -- the points never fall, and the session's entries are those of its accepted changes.
@@ -43,6 +49,7 @@ pub record Transcript (limits : LimitsView) (session : ℕ) (history : List Plai
   pub points_are : points ≡ map (λ (e : Exchange). e.point) exchanges
   pub output_is : output ≡ output_of exchanges
   pub each : AllByRecursion (TookPlace limits session history) exchanges
+  pub calm : AllByRecursion IsCalm exchanges
   pub rising : IsNonDecreasing points
   pub begun : BeginsBefore session history points
   pub entries : EntriesAre session history exchanges
