@@ -3,4 +3,6 @@
 
 pub mod fakes;
 #[cfg(test)]
+mod rows;
+#[cfg(test)]
 mod tests;
