@@ -1,12 +1,10 @@
 -- One request after the other is answered.
-use Rattle.std.proofs.Common.{◌≡◌, ◌≢◌, ℕ, zero, suc, ◌+◌, ◌-◌, ◌≤◌, ◌<◌, Bool, true, false, List, [], ◌∷◌, ◌++◌, length, take, drop, get_or, map, Option, refl, ap, ◌∙◌, sym, subst, inl, inr, arith, le_trans, le_refl}
+use Rattle.std.proofs.Common.{◌≡◌, ◌≢◌, ℕ, zero, suc, ◌+◌, ◌≤◌, ◌<◌, true, List, [], ◌∷◌, ◌++◌, length, take, drop, get_or, Option, refl, ap, ◌∙◌, sym, subst, inl, inr, arith, le_trans}
 use Rattle.std.specs.Prelude.{codes}
 use Rattle.std.specs.Io.KnownBytes.{Appends}
-use Rattle.std.proofs.lemmas.List.{append_assoc, append-nil, take_more, take_all, take-append-drop, length-map, get_or-map, drop_all}
-use Rattle.green_io.specs.Outside.{HasRisen}
-use Rattle.febe_data.specs.declared.request.Request.{Request}
-use Rattle.febe_data.specs.LimitsView.{LimitsView, standard_limits}
-use Rattle.febe_data.specs.Plain.{PlainRequest, quit, PlainEntry, plain_request}
+use Rattle.std.proofs.lemmas.List.{append_assoc, append-nil, take_more, take-append-drop, drop_all}
+use Rattle.febe_data.specs.LimitsView.{standard_limits}
+use Rattle.febe_data.specs.Plain.{PlainRequest, quit, PlainEntry}
 use Rattle.febe_wire.specs.Grammar.{QuitsLast}
 use Rattle.flat_world.specs.Apply.{is_live}
 use Rattle.green_top.specs.Session.{restart_entry, begin_entry}
@@ -14,7 +12,7 @@ use Rattle.green_top.specs.Outside.{IsPut}
 use Rattle.green_top.specs.declared.outside.Put.TheVariants as puts
 use Rattle.green_top.specs.declared.status.Status.TheVariants as statuses
 use Rattle.green_top.specs.declared.exchange.Answered.TheVariants as came
-use Rattle.green_top.specs.Progress.{Progress, IsAnswered, Happened, Stayed, Going, AllAnswered}
+use Rattle.green_top.specs.Progress.{Progress, IsAnswered, Going, AllAnswered}
 use Rattle.green_top.proofs.Fronts.{appends_both, risen_since}
 use Rattle.green_top.proofs.Progresses.{progress_begins, progress_goes_on}
 
@@ -59,7 +57,7 @@ module _ (all : List PlainRequest) (i : ℕ) (h : List PlainEntry) (points : Lis
   going_on q (inl a) stays = record {
     written = going.written ++ a.output;
     progress = subst (λ (rs : List PlainRequest). Progress standard_limits after points' rs (going.written ++ a.output)) (sym next)
-      (progress_goes_on standard_limits h points (take i all) going.written request after points' a.output going.progress a.answers);
+        (progress_goes_on standard_limits h points (take i all) going.written request after points' a.output going.progress a.answers);
     appended = appends_both taken mid taken' going.written a.output going.appended (subst (λ (w : List ℕ). Appends mid taken' w) a.took a.appended);
     never_falls = le_trans going.never_falls a.never_falls;
     live = λ more. stays (λ e. no_quit_before all i request q more (sym is ∙ e));
@@ -89,7 +87,7 @@ module _ (all : List PlainRequest) (i : ℕ) (h : List PlainEntry) (points : Lis
     written = going.written;
     progress = progress_goes_on standard_limits h points (take i all) going.written request after points' a.output going.progress a.answers;
     appended = subst (λ (w : List ℕ). Appends taken taken' w) (append-nil going.written)
-      (appends_both taken mid taken' going.written [] going.appended (subst (λ (w : List ℕ). Appends mid taken' w) a.took a.appended));
+        (appends_both taken mid taken' going.written [] going.appended (subst (λ (w : List ℕ). Appends mid taken' w) a.took a.appended));
     never_falls = le_trans going.never_falls a.never_falls;
     came = (a.output, refl);
   }

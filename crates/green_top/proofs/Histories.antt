@@ -1,16 +1,15 @@
 -- A history with one entry more.
-use Rattle.std.proofs.Common.{◌≡◌, ℕ, ◌+◌, ◌≤◌, Bool, true, false, cond, eqb, List, [], ◌∷◌, ◌++◌, length, map, refl, ap, ◌∙◌, sym, arith}
+use Rattle.std.proofs.Common.{◌≡◌, ℕ, ◌+◌, ◌≤◌, Bool, true, false, cond, eqb, List, [], ◌∷◌, ◌++◌, length, refl, ap, ◌∙◌, arith}
 use Rattle.std.specs.Prelude.{filter}
-use Rattle.std.specs.List.{fold}
 use Rattle.std.proofs.lemmas.List.{length-append, length-map, map_push}
 use Rattle.std.proofs.lemmas.List.Elements.{filter-append}
-use Rattle.std.proofs.lemmas.Grind.{fold-append, common_steps}
+use Rattle.std.proofs.lemmas.Grind.{fold-append}
 use Rattle.std.proofs.lemmas.Bool.{eq-eqb}
 use Rattle.febe_data.specs.declared.entry.Entry.{Entry}
-use Rattle.febe_data.specs.Plain.{PlainEntry, PlainChange, plain_entry, plain_history}
+use Rattle.febe_data.specs.Plain.{PlainEntry, plain_entry, plain_history}
 use Rattle.flat_world.specs.World.{empty_world}
-use Rattle.flat_world.specs.FlatView.{FlatView, after_entry}
-use Rattle.flat_world.specs.Apply.{apply, world_of, kept, is_counted, is_live, live_after, entries_of, next_serial}
+use Rattle.flat_world.specs.FlatView.{after_entry}
+use Rattle.flat_world.specs.Apply.{apply, world_of, kept, is_counted, is_live, live_after, entries_of}
 use Rattle.green_top.specs.Session.{state_of}
 
 length-filter : {X : Type 0} (p : X → Bool) (xs : List X) → length (filter p xs) ≤ length xs

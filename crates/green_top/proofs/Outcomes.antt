@@ -1,6 +1,6 @@
 -- A session is over, and a run comes to its status.
-use Rattle.std.proofs.Common.{◌≡◌, ℕ, ◌≤◌, Bool, false, List, [], ◌∷◌, ◌++◌, length, Option, refl, ap, ◌∙◌, sym, subst, inl, inr}
-use Rattle.std.specs.Io.KnownBytes.{Appends, Consumes}
+use Rattle.std.proofs.Common.{◌≡◌, ℕ, false, List, [], ◌∷◌, ◌++◌, length, Option, refl, ap, ◌∙◌, sym, subst, inl, inr}
+use Rattle.std.specs.Io.KnownBytes.{Consumes}
 use Rattle.std.proofs.lemmas.List.{append-nil}
 use Rattle.febe_data.specs.LimitsView.{standard_limits}
 use Rattle.febe_data.specs.Plain.{PlainRequest, PlainEntry}

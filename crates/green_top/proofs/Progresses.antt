@@ -1,11 +1,9 @@
 -- A session goes on by one exchange, and ends.
-use Rattle.std.proofs.Common.{◌≡◌, ◌≢◌, ℕ, ◌-◌, ◌+◌, ◌≤◌, ◌<◌, eqb, Bool, true, false, List, [], ◌∷◌, ◌++◌, length, map, All, Option, Some, None, get_or, refl, ap, ◌∙◌, sym, subst, inl, inr, ◌⊎◌, arith, append_assoc, le_trans}
+use Rattle.std.proofs.Common.{◌≡◌, ℕ, ◌-◌, ◌≤◌, eqb, false, List, [], ◌∷◌, ◌++◌, length, All, Option, Some, None, refl, ap, ◌∙◌, sym, subst, inl, inr, ◌⊎◌, arith, append_assoc, le_trans}
 use Rattle.std.specs.Prelude.{MatchOption, codes}
 use Rattle.std.specs.List.{flat_map, AllByRecursion}
-use Rattle.std.specs.List.Sorted.{IsNonDecreasing}
 use Rattle.std.proofs.lemmas.List.{append-nil, map_push, length-append}
 use Rattle.std.proofs.lemmas.List.Elements.{All-push, All-weaker, All-nil, filter-append}
-use Rattle.std.proofs.lemmas.List.Concat.{flat_map-append}
 use Rattle.std.proofs.lemmas.List.Sorted.{IsNonDecreasingBy-push, IsNonDecreasingBy-short}
 use Rattle.febe_data.specs.declared.refusal.Refusal.{Refusal}
 use Rattle.febe_data.specs.LimitsView.{LimitsView}
@@ -14,8 +12,8 @@ use Rattle.febe_reply.specs.ReplyGrammar.{spell_reply}
 use Rattle.flat_world.specs.Apply.{entries_of, world_of}
 use Rattle.flat_world.specs.Effects.{Effect, effect}
 use Rattle.flat_world.specs.Legal.{IsLegal, IsServed, IsRefused, IsAnswered, IsDone, IsDiskFault, Exchange, TookPlace, wanted_after}
-use Rattle.green_top.specs.Session.{restart_entry, begin_entry, end_entry}
-use Rattle.green_top.specs.Transcript.{output_of, IsFrontOf, BeginsBefore, EntriesAre, IsEnding, IsCalm, Transcript}
+use Rattle.green_top.specs.Session.{restart_entry, begin_entry}
+use Rattle.green_top.specs.Transcript.{output_of, BeginsBefore, IsEnding, IsCalm, Transcript}
 use Rattle.green_top.specs.Progress.{Answers, Progress}
 
 abbrev asked : Exchange → PlainRequest

@@ -1,18 +1,16 @@
 -- What the store does is a legal step.
-use Rattle.std.proofs.Common.{◌≡◌, ◌≢◌, ℕ, ◌+◌, Bool, true, false, List, [], ◌∷◌, ◌++◌, length, Option, Some, None, refl, ap, ◌∙◌, sym, subst, inl, inr}
+use Rattle.std.proofs.Common.{◌≡◌, ◌≢◌, ℕ, Bool, true, false, List, [], ◌∷◌, Option, Some, None, refl, ap, ◌∙◌, sym, subst, inl, inr}
 use Rattle.std.proofs.lemmas.List.{append-nil}
 use Rattle.febe_data.specs.declared.refusal.Refusal.TheVariants.{Memory}
 use Rattle.febe_data.specs.declared.request.Request.{Request}
 use Rattle.febe_data.specs.declared.request.Request.TheVariants as requests
 use Rattle.febe_data.specs.LimitsView.{LimitsView}
-use Rattle.febe_data.specs.Plain.{PlainRequest, insert, retrieve, create, quit, set_account, plain_request, PlainReply, refused, PlainChange, restarted, began, ended, account_changed, document_created, text_inserted, PlainEntry}
+use Rattle.febe_data.specs.Plain.{PlainRequest, insert, retrieve, create, quit, set_account, plain_request, PlainReply, refused, PlainEntry}
 use Rattle.flat_world.specs.World.{World}
-use Rattle.flat_world.specs.FlatView.{FlatView}
 use Rattle.flat_world.specs.Apply.{is_live, live_after}
-use Rattle.flat_world.specs.Refusals.{wanted}
 use Rattle.flat_world.specs.Effects.{Effect, effect}
 use Rattle.flat_world.specs.Answers.{answer}
-use Rattle.flat_world.specs.Legal.{IsLegal, IsServed, IsOutOfMemory, IsRefused, wanted_after, entry_after}
+use Rattle.flat_world.specs.Legal.{IsLegal, IsServed, wanted_after, entry_after}
 use Rattle.green_top.specs.Session.{state_of, Steps, IsMade, LeavesLive}
 use Rattle.green_top.proofs.Histories.{is_live-push}
 

@@ -1,10 +1,10 @@
 -- One session in the history of a back end.
-use Rattle.std.specs.Prelude.{◌≡◌, ◌≢◌, ◌⊎◌, ◌+◌, ℕ, Bool, true, false, List, [], ◌∷◌, ◌++◌, length}
+use Rattle.std.specs.Prelude.{◌≡◌, ◌⊎◌, ℕ, Bool, true, List, [], ◌∷◌, ◌++◌, length}
 use Rattle.febe_data.specs.declared.refusal.Refusal.TheVariants.{Memory}
 use Rattle.febe_data.specs.LimitsView.{LimitsView}
 use Rattle.febe_data.specs.Plain.{PlainRequest, PlainReply, PlainChange, PlainEntry, refused, restarted, began, ended}
 use Rattle.flat_world.specs.FlatView.{FlatView}
-use Rattle.flat_world.specs.Apply.{world_of, kept, is_live, live_after, next_serial}
+use Rattle.flat_world.specs.Apply.{world_of, kept, live_after, next_serial}
 use Rattle.flat_world.specs.Effects.{Effect}
 use Rattle.flat_world.specs.Legal.{IsLegal, entry_after}
 

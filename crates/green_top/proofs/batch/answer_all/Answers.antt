@@ -1,9 +1,7 @@
-use Rattle.std.proofs.Common.{ℕ, List, ◌≡◌, ◌≢◌, ◌<◌, ◌∙◌, refl, ap, sym, subst, map, length, get_or, arith}
+use Rattle.std.proofs.Common.{ℕ, List, ◌≡◌, ◌<◌, ◌∙◌, ap, sym, map, length, get_or, arith}
 use Rattle.std.proofs.lemmas.List.{length-map, get_or-map}
 use Rattle.febe_data.specs.declared.request.Request.{Request}
-use Rattle.febe_data.specs.LimitsView.{standard_limits}
-use Rattle.febe_data.specs.Plain.{PlainRequest, plain_request, quit}
-use Rattle.green_top.specs.Progress.{Going, AllAnswered, IsAnswered}
+use Rattle.febe_data.specs.Plain.{plain_request}
 use Rattle.green_top.proofs.Goings.{greeting_fails, going_on, fault_ends, memory_ends}
 use Rattle.green_top.proofs.batch.answer_all.Goals as goal
 

@@ -1,8 +1,7 @@
-use Rattle.std.proofs.Common.{length, ◌==◌, false, ◌≡◌, ◌≢◌, List, ℕ, [], map, refl, sym, ◌∙◌, ap, subst}
+use Rattle.std.proofs.Common.{length, ◌==◌, false, ◌≡◌, List, ℕ, [], map, refl, ◌∙◌, ap, subst}
 use Rattle.febe_data.specs.Plain.{plain_request}
 use Rattle.febe_wire.specs.Grammar.{IsSmallSession}
 use Rattle.febe_wire.specs.Found.{IsNoSession}
-use Rattle.green_top.specs.Outcome.{IsRun, IsRead}
 use Rattle.green_top.proofs.Fronts.{appends_nothing}
 use Rattle.green_top.proofs.Outcomes.{run_of_session}
 use Rattle.green_top.proofs.batch.run.Goals as goal
@@ -19,8 +18,8 @@ returns-in-Ok-Some-clause-run g c =
     let small : IsSmallSession c.as_slice.result.now (map plain_request c.in-Ok-Some.requests.items) = rw c.in-Ok-Some.field-0-is at c.in-Ok-Some.ensures.found in
     let asked : IsSmallSession c.as_slice.result.now (map plain_request c.as_slice-in-Ok-Some.result.now) = rw c.as_slice-in-Ok-Some.ensures small in
     run_of_session (map plain_request c.as_slice-in-Ok-Some.result.now) _ _ _ _ _ _ (g.S.Source.fault_count c.args.source.now) (g.S.Source.fault_count c.read_all-read.new.source) _ _
-      read.read _ read.consumed read.given (record { at_end = input.1; within = input.2 }) _
-      (subst (λ (bytes : List ℕ). IsSmallSession bytes (map plain_request c.as_slice-in-Ok-Some.result.now)) slice asked) c.run_session.ensures.ran
+    read.read _ read.consumed read.given (record { at_end = input.1; within = input.2 }) _
+    (subst (λ (bytes : List ℕ). IsSmallSession bytes (map plain_request c.as_slice-in-Ok-Some.result.now)) slice asked) c.run_session.ensures.ran
 
 pub returns-in-Ok-None-clause-run : goal.returns-in-Ok-None-clause-run
 returns-in-Ok-None-clause-run g c =
@@ -37,5 +36,6 @@ returns-in-Ok-None-clause-run g c =
         record { at_end = input.1; within = input.2 },
         (λ empty. no_bytes (rw c.in-Whole.is at c.if-is_empty.ensures) (input.0 ∙ empty)),
         subst IsNoSession slice (rw c.in-Ok-None.field-0-is at c.in-Ok-None.ensures.none),
-        record { history_is = c.requires.begun; no_points = c.requires.no_points; nothing = refl });
+        record { history_is = c.requires.begun; no_points = c.requires.no_points; nothing = refl },
+      );
     }

@@ -1,4 +1,4 @@
-use Rattle.std.proofs.Common.{map, inr, sym, ◌∙◌}
+use Rattle.std.proofs.Common.{map, inr, sym}
 use Rattle.febe_data.specs.Plain.{plain_request}
 use Rattle.green_top.proofs.Outcomes.{ends_by_end, ends_by_quit}
 use Rattle.green_top.proofs.batch.run_session.Goals as goal

@@ -1,5 +1,5 @@
-use Rattle.std.proofs.Common.{◌≡◌, ◌∙◌, sym, ap, None, List}
-use Rattle.febe_data.specs.Plain.{plain_request, plain_history}
+use Rattle.std.proofs.Common.{◌≡◌, ◌∙◌, sym, ap, None}
+use Rattle.febe_data.specs.Plain.{plain_request}
 use Rattle.flat_world.specs.FlatView.{FlatView}
 use Rattle.flat_world.specs.Refusals.{wanted}
 use Rattle.flat_world.specs.Effects.{effect}
