@@ -263,18 +263,6 @@ fn the_longest_inputs_are_answered(rt: HostRuntime) -> Result<(), Fail> {
 }
 
 #[test]
-fn the_longest_text_is_inserted_or_refused(rt: HostRuntime) -> Result<(), Fail> {
-    let alloc = rt.alloc();
-    let row = "P0~ 34~0.1.1.0.1~ 11~ 0~0.1.1.0.1.0.1~0.1.1~t1048526:";
-    let ran = run_bytes(alloc, filled(alloc, row, 1_048_576)?, usize::MAX)?;
-    assert_eq!(rt; ran.status, 0);
-    let front = bytes_of(alloc, "P0~ 34~ 11~0.1.1.0.1.0.1~")?;
-    assert!(rt; ran.sink.bytes().starts_with(front.as_slice()));
-    assert_ne!(rt; ran.sink.bytes().len(), front.len());
-    Ok(())
-}
-
-#[test]
 fn one_byte_more_is_too_long(rt: HostRuntime) -> Result<(), Fail> {
     let alloc = rt.alloc();
     for front in ["", "P0~", HELLO, "P0~ 0~0.1.1.0.1.0.1~0.1.1~t1048543:"] {
