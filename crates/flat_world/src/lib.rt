@@ -11,6 +11,8 @@ mod requests;
 mod retrieve;
 mod rows;
 mod search;
+#[cfg(test)]
+mod tests;
 
 pub use effects::Effect;
 pub use flat::FlatWorld;
