@@ -87,6 +87,7 @@ impl Store {
         ensures ended { self.new.history ≡ self.old.history ++ end_entry self.old.history 1 ∷ [] }
         ensures over { is_live self.new.history 1 ≡ false }
     {
+        // A list with its spare is shorter than 2^64, so there is a next serial.
         let _ = self.history.spare();
         let serial = self.serial + 1;
         let end = Entry {
@@ -133,6 +134,7 @@ impl Store {
         if self.history.reserve(2).is_err() {
             return Reply::Refused(Refusal::Memory);
         }
+        // A list with its spare is shorter than 2^64, so there is a next serial.
         let _ = self.history.spare();
         let serial = self.serial + 1;
         let entry = Entry {
