@@ -4,3 +4,4 @@ pub mod Fronts
 pub mod Progresses
 pub mod Goings
 pub mod Outcomes
+pub mod Serials

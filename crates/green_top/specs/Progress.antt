@@ -10,7 +10,7 @@ use Rattle.febe_reply.specs.ReplyGrammar.{spell_reply}
 use Rattle.flat_world.specs.Apply.{entries_of, is_live}
 use Rattle.flat_world.specs.Legal.{IsLegal, Exchange, TookPlace}
 use Rattle.green_top.specs.Session.{restart_entry, begin_entry}
-use Rattle.green_top.specs.Transcript.{IsFrontOf, output_of, IsCalm}
+use Rattle.green_top.specs.Transcript.{IsFrontOf, output_of, IsCalm, AreSerials}
 use Rattle.green_top.specs.declared.status.Status.{Status}
 use Rattle.green_top.specs.declared.status.Status.TheVariants as statuses
 use Rattle.green_top.specs.declared.exchange.Answered.{Answered}
@@ -65,6 +65,7 @@ pub record Progress (limits : LimitsView) (history : List PlainEntry) (points : 
   pub calm : AllByRecursion IsCalm exchanges
   pub history_is : history ≡ restart_entry ∷ begin_entry 1 ∷ flat_map (λ (e : Exchange). e.added) exchanges
   pub own : entries_of 1 (flat_map (λ (e : Exchange). e.added) exchanges) ≡ flat_map (λ (e : Exchange). e.added) exchanges
+  pub serials : AreSerials (entries_of 1 history)
   pub rising : IsNonDecreasing points
   pub within : All (λ point. point ≤ length history) points
   pub above : All (λ point. 2 ≤ point) points

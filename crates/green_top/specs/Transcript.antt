@@ -7,6 +7,7 @@ use Rattle.febe_data.specs.Plain.{PlainRequest, PlainEntry, ended}
 use Rattle.febe_reply.specs.ReplyGrammar.{spell_reply}
 use Rattle.flat_world.specs.Apply.{entries_of}
 use Rattle.flat_world.specs.Legal.{Exchange, TookPlace}
+use Rattle.flat_world.specs.Laws.{numbers_from}
 use Rattle.green_top.specs.Session.{begin_entry}
 
 -- the front is what the whole begins with
@@ -32,14 +33,19 @@ pub record BeginsBefore (session : ℕ) (history : List PlainEntry) (points : Li
 abbrev pub IsEnding : ℕ → ℕ → List PlainEntry → Type 0
 IsEnding session count ending = (ending ≡ []) ⊎ (ending ≡ record { session = session; serial = count + 1; change = ended } ∷ [])
 
+-- the serial of each entry is its place among these, from 1
+abbrev pub AreSerials : List PlainEntry → Type 0
+AreSerials entries = map (λ (e : PlainEntry). e.serial) entries ≡ numbers_from 1 (length entries)
+
 -- The session's entries are its Begin, then what each exchange added, in their order, then at most one
--- End, which is last.
+-- End, which is last. Their serials count them, so none of them is another one's copy.
 pub record EntriesAre (session : ℕ) (history : List PlainEntry) (exchanges : List Exchange) : Type 0 where
   pub own : List PlainEntry
   pub ending : List PlainEntry
   pub own_are : own ≡ begin_entry session ∷ flat_map (λ (e : Exchange). e.added) exchanges
   pub is_ending : IsEnding session (length own) ending
   pub parts : entries_of session history ≡ own ++ ending
+  pub serials : AreSerials (entries_of session history)
 
 -- The requests were answered at these points, with this output: each exchange took place in the history,
 -- the points never fall, and the session's entries are those of its accepted changes.
