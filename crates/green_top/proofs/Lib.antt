@@ -5,3 +5,4 @@ pub mod Progresses
 pub mod Goings
 pub mod Outcomes
 pub mod Serials
+pub mod Places

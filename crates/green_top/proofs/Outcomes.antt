@@ -13,6 +13,7 @@ use Rattle.green_top.specs.Transcript.{IsEnding, Transcript}
 use Rattle.green_top.specs.Progress.{Progress, AllAnswered}
 use Rattle.green_top.specs.Outcome.{IsOver, Ended, NotBegun, IsRan, IsRead, IsRun}
 use Rattle.green_top.proofs.Fronts.{appends_nothing}
+use Rattle.green_top.proofs.Places.{placed_ends}
 use Rattle.green_top.proofs.Progresses.{transcript_of, history_of_one}
 
 is_over : (h : List PlainEntry) (points : List ℕ) (answered : List PlainRequest) (output : List ℕ) (more after : List PlainEntry) → Progress standard_limits h points answered output → IsEnding 1 (length (entries_of 1 h)) more → entries_of 1 more ≡ more
@@ -20,6 +21,7 @@ is_over : (h : List PlainEntry) (points : List ℕ) (answered : List PlainReques
 is_over h points answered output more after p ending own e dead = record {
   history_is = e ∙ history_of_one standard_limits h points answered output more p own ∙ ap (λ (x : List PlainEntry). restart_entry ∷ entries_of 1 x) (sym e);
   over = dead;
+  placed = placed_ends (length (entries_of 1 h)) h more after p.placed ending e;
   transcript = subst (λ (x : List PlainEntry). Transcript standard_limits 1 x answered points output) (sym e) (transcript_of standard_limits h points answered output more p ending own);
 }
 

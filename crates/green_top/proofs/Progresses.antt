@@ -15,6 +15,7 @@ use Rattle.flat_world.specs.Legal.{IsLegal, IsServed, IsRefused, IsAnswered, IsD
 use Rattle.green_top.specs.Session.{restart_entry, begin_entry}
 use Rattle.green_top.specs.Transcript.{output_of, BeginsBefore, IsEnding, IsCalm, Transcript}
 use Rattle.green_top.specs.Progress.{Answers, Progress}
+use Rattle.green_top.proofs.Places.{placed_goes_on}
 use Rattle.green_top.proofs.Serials.{serials_go_on, serials_end}
 
 abbrev asked : Exchange → PlainRequest
@@ -99,6 +100,7 @@ progress_goes_on limits h points answered output request after points' o p a =
       history_is = a.grows ∙ ap (λ (x : List PlainEntry). x ++ a.added) p.history_is ∙ ap (λ (x : List PlainEntry). restart_entry ∷ begin_entry 1 ∷ x) (sym (flat_map_push adds p.exchanges e));
       own = subst IsOwn (sym (flat_map_push adds p.exchanges e)) (own_append (flat_map adds p.exchanges) a.added p.own (own_added limits h request a.reply a.added a.legal));
       serials = serials_go_on limits h request a.reply a.added after p.serials a.legal (own_added limits h request a.reply a.added a.legal) a.grows;
+      placed = placed_goes_on limits h request a.reply a.added after p.placed a.legal a.grows;
       rising = rw a.points_are (IsNonDecreasingBy-push (λ n. n) points (length after) p.rising (λ d filled. all_within (length points - 1) d (omega arith)));
       within = rw a.points_are (All-push (λ point. point ≤ length after) points (length after) all_within (omega arith));
       above = rw a.points_are (All-push (λ point. 2 ≤ point) points (length after) p.above two);
@@ -115,6 +117,7 @@ progress_begins limits = record {
   history_is = refl;
   own = refl;
   serials = refl;
+  placed = (tt, (tt, tt));
   rising = IsNonDecreasingBy-short (λ n. n) [] (omega arith);
   within = All-nil (λ point. point ≤ 2);
   above = All-nil (λ point. 2 ≤ point);

@@ -6,6 +6,8 @@ use Rattle.febe_data.specs.LimitsView.{standard_limits}
 use Rattle.febe_data.specs.Plain.{PlainRequest, PlainEntry}
 use Rattle.febe_wire.specs.Grammar.{IsSmallSession}
 use Rattle.febe_wire.specs.Found.{IsNoSession}
+use Rattle.flat_world.specs.World.{empty_world}
+use Rattle.flat_world.specs.Laws.{AllPlaced}
 use Rattle.flat_world.specs.Apply.{is_live, entries_of}
 use Rattle.green_top.specs.declared.status.Status.{Status}
 use Rattle.green_top.specs.declared.status.Status.TheVariants as statuses
@@ -17,10 +19,11 @@ use Rattle.green_top.specs.Outside.{most_input}
 -- ---- the requests of one session
 
 -- a session is over: these requests were answered with this output, and the history is one Restart and the
--- session's entries
+-- session's entries, whose texts came in at places that were there
 pub record IsOver (history : List PlainEntry) (points : List ℕ) (answered : List PlainRequest) (output : List ℕ) : Type 0 where
   pub history_is : history ≡ restart_entry ∷ entries_of 1 history
   pub over : is_live history 1 ≡ false
+  pub placed : AllPlaced empty_world history
   pub transcript : Transcript standard_limits 1 history answered points output
 
 -- the requests were answered up to some place, this came of it, and the session is over

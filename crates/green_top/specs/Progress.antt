@@ -8,6 +8,8 @@ use Rattle.febe_data.specs.LimitsView.{LimitsView, standard_limits}
 use Rattle.febe_data.specs.Plain.{PlainRequest, PlainReply, PlainEntry}
 use Rattle.febe_reply.specs.ReplyGrammar.{spell_reply}
 use Rattle.flat_world.specs.Apply.{entries_of, is_live}
+use Rattle.flat_world.specs.World.{empty_world}
+use Rattle.flat_world.specs.Laws.{AllPlaced}
 use Rattle.flat_world.specs.Legal.{IsLegal, Exchange, TookPlace}
 use Rattle.green_top.specs.Session.{restart_entry, begin_entry}
 use Rattle.green_top.specs.Transcript.{IsFrontOf, output_of, IsCalm, AreSerials}
@@ -66,6 +68,7 @@ pub record Progress (limits : LimitsView) (history : List PlainEntry) (points : 
   pub history_is : history ≡ restart_entry ∷ begin_entry 1 ∷ flat_map (λ (e : Exchange). e.added) exchanges
   pub own : entries_of 1 (flat_map (λ (e : Exchange). e.added) exchanges) ≡ flat_map (λ (e : Exchange). e.added) exchanges
   pub serials : AreSerials (entries_of 1 history)
+  pub placed : AllPlaced empty_world history
   pub rising : IsNonDecreasing points
   pub within : All (λ point. point ≤ length history) points
   pub above : All (λ point. 2 ≤ point) points
