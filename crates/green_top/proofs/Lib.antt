@@ -6,3 +6,4 @@ pub mod Goings
 pub mod Outcomes
 pub mod Serials
 pub mod Places
+pub mod Turns

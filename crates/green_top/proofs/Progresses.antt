@@ -1,7 +1,8 @@
 -- A session goes on by one exchange, and ends.
-use Rattle.std.proofs.Common.{◌≡◌, ℕ, ◌-◌, ◌≤◌, eqb, false, List, [], ◌∷◌, ◌++◌, length, All, Option, Some, None, refl, ap, ◌∙◌, sym, subst, inl, inr, ◌⊎◌, arith, append_assoc, le_trans}
+use Rattle.std.proofs.Common.{◌≡◌, ℕ, ◌-◌, ◌≤◌, eqb, false, List, [], ◌∷◌, ◌++◌, length, take, All, Option, Some, None, refl, ap, ◌∙◌, sym, subst, inl, inr, ◌⊎◌, arith, append_assoc, le_trans}
 use Rattle.std.specs.Prelude.{MatchOption, codes}
 use Rattle.std.specs.List.{flat_map, AllByRecursion}
+use Rattle.std.proofs.Math.Seq.{take-length}
 use Rattle.std.proofs.lemmas.List.{append-nil, map_push, length-append}
 use Rattle.std.proofs.lemmas.List.Elements.{All-push, All-weaker, All-nil, filter-append}
 use Rattle.std.proofs.lemmas.List.Sorted.{IsNonDecreasingBy-push, IsNonDecreasingBy-short}
@@ -13,10 +14,11 @@ use Rattle.flat_world.specs.Apply.{entries_of, world_of}
 use Rattle.flat_world.specs.Effects.{Effect, effect}
 use Rattle.flat_world.specs.Legal.{IsLegal, IsServed, IsRefused, IsAnswered, IsDone, IsDiskFault, Exchange, TookPlace, wanted_after}
 use Rattle.green_top.specs.Session.{restart_entry, begin_entry}
-use Rattle.green_top.specs.Transcript.{output_of, BeginsBefore, IsEnding, IsCalm, Transcript}
+use Rattle.green_top.specs.Transcript.{output_of, BeginsBefore, IsEnding, IsCalm, InTurn, Transcript}
 use Rattle.green_top.specs.Progress.{Answers, Progress}
 use Rattle.green_top.proofs.Places.{placed_goes_on}
-use Rattle.green_top.proofs.Serials.{serials_go_on, serials_end}
+use Rattle.green_top.proofs.Serials.{own_behind, serials_go_on, serials_end}
+use Rattle.green_top.proofs.Turns.{turn_before, turn_push}
 
 abbrev asked : Exchange → PlainRequest
 asked e = e.request
@@ -81,6 +83,9 @@ own_added limits h request reply added legal =
 own_append : (xs ys : List PlainEntry) → IsOwn xs → IsOwn ys → IsOwn (xs ++ ys)
 own_append xs ys p q = filter-append (λ (e : PlainEntry). eqb e.session 1) xs ys ∙ ap (λ (r : List PlainEntry). r ++ entries_of 1 ys) p ∙ ap (λ (r : List PlainEntry). xs ++ r) q
 
+entries_so_far : (limits : LimitsView) (h : List PlainEntry) (points : List ℕ) (answered : List PlainRequest) (output : List ℕ) (p : Progress limits h points answered output) → entries_of 1 h ≡ begin_entry 1 ∷ flat_map adds p.exchanges
+entries_so_far limits h points answered output p = ap (entries_of 1) p.history_is ∙ ap (λ (x : List PlainEntry). begin_entry 1 ∷ x) p.own
+
 pub progress_goes_on : (limits : LimitsView) (h : List PlainEntry) (points : List ℕ) (answered : List PlainRequest) (output : List ℕ) (request : PlainRequest) (after : List PlainEntry) (points' : List ℕ) (o : List ℕ)
     → Progress limits h points answered output → Answers limits h points request after points' o → Progress limits after points' (answered ++ request ∷ []) (output ++ o)
 progress_goes_on limits h points answered output request after points' o p a =
@@ -89,6 +94,11 @@ progress_goes_on limits h points answered output request after points' o p a =
     let here : TookPlace limits 1 after e = record { before = h; more = []; parts = a.grows ∙ sym (append-nil (h ++ a.added)); point_is = ap length a.grows; legal = a.legal } in
     let earlier : AllByRecursion (TookPlace limits 1 after) p.exchanges = subst (λ (x : List PlainEntry). AllByRecursion (TookPlace limits 1 x) p.exchanges) (sym a.grows) (each_before limits 1 h a.added p.exchanges p.each) in
     let all_within : All (λ point. point ≤ length after) points = All-weaker (λ point. point ≤ length h) (λ point. point ≤ length after) (λ x le. le_trans le longer) points p.within in
+    let own = own_added limits h request a.reply a.added a.legal in
+    let start : List PlainEntry = begin_entry 1 ∷ [] in
+    let turns : InTurn 1 after start p.exchanges = subst (λ (x : List PlainEntry). InTurn 1 x start p.exchanges) (sym a.grows) (turn_before limits 1 h a.added start p.exchanges p.each p.in_turn) in
+    let last : entries_of 1 (take (length after) after) ≡ (start ++ flat_map adds p.exchanges) ++ a.added =
+    ap (entries_of 1) (take-length after ∙ a.grows) ∙ sym (own_behind h a.added own) ∙ ap (λ (x : List PlainEntry). x ++ a.added) (entries_so_far limits h points answered output p) in
     let two : 2 ≤ length after = omega (arith, ap length p.history_is) in
     record {
       exchanges = p.exchanges ++ e ∷ [];
@@ -98,8 +108,9 @@ progress_goes_on limits h points answered output request after points' o p a =
       each = each_push limits 1 after p.exchanges e earlier here;
       calm = calm_push p.exchanges e p.calm refl;
       history_is = a.grows ∙ ap (λ (x : List PlainEntry). x ++ a.added) p.history_is ∙ ap (λ (x : List PlainEntry). restart_entry ∷ begin_entry 1 ∷ x) (sym (flat_map_push adds p.exchanges e));
-      own = subst IsOwn (sym (flat_map_push adds p.exchanges e)) (own_append (flat_map adds p.exchanges) a.added p.own (own_added limits h request a.reply a.added a.legal));
-      serials = serials_go_on limits h request a.reply a.added after p.serials a.legal (own_added limits h request a.reply a.added a.legal) a.grows;
+      own = subst IsOwn (sym (flat_map_push adds p.exchanges e)) (own_append (flat_map adds p.exchanges) a.added p.own own);
+      serials = serials_go_on limits h request a.reply a.added after p.serials a.legal own a.grows;
+      in_turn = turn_push 1 after start p.exchanges e turns last;
       placed = placed_goes_on limits h request a.reply a.added after p.placed a.legal a.grows;
       rising = rw a.points_are (IsNonDecreasingBy-push (λ n. n) points (length after) p.rising (λ d filled. all_within (length points - 1) d (omega arith)));
       within = rw a.points_are (All-push (λ point. point ≤ length after) points (length after) all_within (omega arith));
@@ -117,6 +128,7 @@ progress_begins limits = record {
   history_is = refl;
   own = refl;
   serials = refl;
+  in_turn = tt;
   placed = (tt, (tt, tt));
   rising = IsNonDecreasingBy-short (λ n. n) [] (omega arith);
   within = All-nil (λ point. point ≤ 2);
@@ -132,9 +144,6 @@ begun limits h points answered output p more = record {
   parts = ap (λ (x : List PlainEntry). x ++ more) p.history_is;
   above = p.above;
 }
-
-entries_so_far : (limits : LimitsView) (h : List PlainEntry) (points : List ℕ) (answered : List PlainRequest) (output : List ℕ) (p : Progress limits h points answered output) → entries_of 1 h ≡ begin_entry 1 ∷ flat_map adds p.exchanges
-entries_so_far limits h points answered output p = ap (entries_of 1) p.history_is ∙ ap (λ (x : List PlainEntry). begin_entry 1 ∷ x) p.own
 
 pub transcript_of : (limits : LimitsView) (h : List PlainEntry) (points : List ℕ) (answered : List PlainRequest) (output : List ℕ) (more : List PlainEntry) → Progress limits h points answered output
     → IsEnding 1 (length (entries_of 1 h)) more → entries_of 1 more ≡ more → Transcript limits 1 (h ++ more) answered points output
@@ -154,6 +163,7 @@ transcript_of limits h points answered output more p ending own = record {
     is_ending = ending;
     parts = filter-append (λ (e : PlainEntry). eqb e.session 1) h more ∙ ap (λ (x : List PlainEntry). entries_of 1 h ++ x) own;
     serials = serials_end h more p.serials ending own;
+    in_turn = turn_before limits 1 h more (begin_entry 1 ∷ []) p.exchanges p.each p.in_turn;
   };
 }
 

@@ -49,7 +49,7 @@ by_legal limits h request reply added s legal =
     elim legal.given [ inl m ↦ by_none (entries_of 1 h) added s m.nothing | inr g ↦ by_given h request reply added (wanted_after limits h 1 request) s g ]
 
 -- what is the session's own comes behind its entries
-own_behind : (h added : List PlainEntry) → entries_of 1 added ≡ added → entries_of 1 h ++ added ≡ entries_of 1 (h ++ added)
+pub own_behind : (h added : List PlainEntry) → entries_of 1 added ≡ added → entries_of 1 h ++ added ≡ entries_of 1 (h ++ added)
 own_behind h added own = sym (filter-append (λ (e : PlainEntry). eqb e.session 1) h added ∙ ap (λ (x : List PlainEntry). entries_of 1 h ++ x) own)
 
 pub serials_go_on : (limits : LimitsView) (h : List PlainEntry) (request : PlainRequest) (reply : PlainReply) (added after : List PlainEntry) → AreSerials (entries_of 1 h)

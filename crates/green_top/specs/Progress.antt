@@ -12,7 +12,7 @@ use Rattle.flat_world.specs.World.{empty_world}
 use Rattle.flat_world.specs.Laws.{AllPlaced}
 use Rattle.flat_world.specs.Legal.{IsLegal, Exchange, TookPlace}
 use Rattle.green_top.specs.Session.{restart_entry, begin_entry}
-use Rattle.green_top.specs.Transcript.{IsFrontOf, output_of, IsCalm, AreSerials}
+use Rattle.green_top.specs.Transcript.{IsFrontOf, output_of, IsCalm, AreSerials, InTurn}
 use Rattle.green_top.specs.declared.status.Status.{Status}
 use Rattle.green_top.specs.declared.status.Status.TheVariants as statuses
 use Rattle.green_top.specs.declared.exchange.Answered.{Answered}
@@ -68,6 +68,7 @@ pub record Progress (limits : LimitsView) (history : List PlainEntry) (points : 
   pub history_is : history ≡ restart_entry ∷ begin_entry 1 ∷ flat_map (λ (e : Exchange). e.added) exchanges
   pub own : entries_of 1 (flat_map (λ (e : Exchange). e.added) exchanges) ≡ flat_map (λ (e : Exchange). e.added) exchanges
   pub serials : AreSerials (entries_of 1 history)
+  pub in_turn : InTurn 1 history (begin_entry 1 ∷ []) exchanges
   pub placed : AllPlaced empty_world history
   pub rising : IsNonDecreasing points
   pub within : All (λ point. point ≤ length history) points

@@ -1,5 +1,5 @@
 -- What a session's requests, replies and points have to do with the history.
-use Rattle.std.specs.Prelude.{false, ◌≡◌, ◌⊎◌, ℕ, ◌+◌, ◌≤◌, List, [], ◌∷◌, ◌++◌, length, map, All, codes}
+use Rattle.std.specs.Prelude.{⊤, take, false, ◌≡◌, ◌⊎◌, ℕ, ◌+◌, ◌≤◌, List, [], ◌∷◌, ◌++◌, length, map, All, codes}
 use Rattle.std.specs.List.{flat_map, AllByRecursion}
 use Rattle.std.specs.List.Sorted.{IsNonDecreasing}
 use Rattle.febe_data.specs.LimitsView.{LimitsView}
@@ -37,6 +37,13 @@ IsEnding session count ending = (ending ≡ []) ⊎ (ending ≡ record { session
 abbrev pub AreSerials : List PlainEntry → Type 0
 AreSerials entries = map (λ (e : PlainEntry). e.serial) entries ≡ numbers_from 1 (length entries)
 
+-- At the point of each exchange the session's entries are its own ones so far, and what this exchange added:
+-- none is answered before the one in front of it was, or after the one behind it.
+abbrev pub InTurn : ℕ → List PlainEntry → List PlainEntry → List Exchange → Type 0
+InTurn session history own [] = ⊤
+InTurn session history own (exchange ∷ exchanges) =
+    (entries_of session (take exchange.point history) ≡ own ++ exchange.added) × InTurn session history (own ++ exchange.added) exchanges
+
 -- The session's entries are its Begin, then what each exchange added, in their order, then at most one
 -- End, which is last. Their serials count them, so none of them is another one's copy.
 pub record EntriesAre (session : ℕ) (history : List PlainEntry) (exchanges : List Exchange) : Type 0 where
@@ -46,6 +53,7 @@ pub record EntriesAre (session : ℕ) (history : List PlainEntry) (exchanges : L
   pub is_ending : IsEnding session (length own) ending
   pub parts : entries_of session history ≡ own ++ ending
   pub serials : AreSerials (entries_of session history)
+  pub in_turn : InTurn session history (begin_entry session ∷ []) exchanges
 
 -- The requests were answered at these points, with this output: each exchange took place in the history,
 -- the points never fall, and the session's entries are those of its accepted changes.
