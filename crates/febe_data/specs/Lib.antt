@@ -5,6 +5,8 @@ pub use Rattle.tumbler.specs.Address
 pub use Rattle.tumbler.specs.Laws
 pub mod LimitsView
 pub mod Refusal
+pub mod Access
 pub mod Plain
+pub mod Parts
 pub mod Spelling
 pub mod Validity

@@ -1,21 +1,30 @@
 //! What front ends and the back end say to each other, as values: requests, replies, and the entries of the history.
 #![tactic(auto)]
 
+mod access;
 mod entry;
 mod limits;
 mod refusal;
 mod reply;
 mod request;
+mod run;
 mod spec;
 #[cfg(test)]
 mod tests;
+mod want;
 mod writing;
 
+pub use access::{Mode, Rule};
 pub use entry::{Change, Entry};
 pub use limits::{BadLimits, Limits};
 pub use refusal::Refusal;
 pub use reply::{Item, Reply};
 pub use request::Request;
-pub use spec::{Mode, Run, Spec};
+pub use run::{Diagonal, Run};
+pub use spec::Spec;
 pub use tumbler::{List, Memory, Span, Text, Tumbler};
-pub use writing::{append_number, append_text, append_tumbler};
+pub use want::Want;
+pub use writing::{
+    append_diagonals, append_items, append_number, append_span, append_spans, append_spec,
+    append_specs, append_text, append_tumbler, append_tumblers,
+};

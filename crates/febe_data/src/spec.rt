@@ -1,4 +1,4 @@
-//! What requests and links name: spans of documents, and runs of content.
+//! Spans of documents, which requests and links name.
 ghost use Rattle.std.specs.Prelude.{◌≡◌, IfOk, map};
 ghost use Rattle.febe_data.specs.Plain.{plain_spec};
 
@@ -24,7 +24,7 @@ impl Spec {
     }
 }
 
-fn clone_spans(alloc: Global, spans: &[Span]) -> Result<List<Span>, Memory>
+pub(crate) fn clone_spans(alloc: Global, spans: &[Span]) -> Result<List<Span>, Memory>
     ensures { IfOk result (λ copy. copy.items ≡ spans.now) }
 {
     let mut copy = List::new(alloc);
@@ -46,45 +46,13 @@ pub(crate) fn clone_specs(alloc: Global, specs: &[Spec]) -> Result<List<Spec>, M
     Ok(copy)
 }
 
-/// Bytes that follow each other in one document's content.
-#[derive(Debug, Drop)]
-pub struct Run {
-    /// The document through which the run was picked.
-    pub origin: Tumbler,
-    /// The document whose content it is.
-    pub content: Tumbler,
-    /// The number of the first byte, from 1.
-    pub first: u32,
-    /// The number of bytes, 1 or more.
-    pub length: u32,
-}
-
-impl Run {
-    /// The same run.
-    pub fn copy(&self) -> Run
-        ensures { result ≡ self.now }
-    {
-        Run {
-            origin: self.origin.copy(),
-            content: self.content.copy(),
-            first: self.first,
-            length: self.length,
-        }
+pub(crate) fn clone_tumblers(alloc: Global, tumblers: &[Tumbler]) -> Result<List<Tumbler>, Memory>
+    ensures { IfOk result (λ copy. copy.items ≡ tumblers.now) }
+{
+    let mut copy = List::new(alloc);
+    copy.reserve(tumblers.len())?;
+    for tumbler in tumblers {
+        copy.push_reserved(tumbler.copy());
     }
-}
-
-/// What a document is open for.
-#[derive(Clone, Copy, Debug, PartialEq, Eq)]
-pub enum Mode {
-    Read,
-    Write,
-}
-
-impl Mode {
-    /// The same mode.
-    pub fn copy(&self) -> Mode
-        ensures { result ≡ self.now }
-    {
-        *self
-    }
+    Ok(copy)
 }

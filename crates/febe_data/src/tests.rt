@@ -1,41 +1,339 @@
 //! The bounds, the copies, the spellings and the numbers, at values that are stated here.
+ghost use Rattle.std.specs.Prelude.{◌<◌};
 
 use super::*;
 use std::alloc::Global;
 use std::test::Fail;
 
-fn tumbler_of(alloc: Global, places: &[u32]) -> Result<Tumbler, Fail> {
-    Ok(Tumbler::from_places(alloc, places)?)
+/// The tumbler of that one place.
+fn made(alloc: Global, n: u32) -> Tumbler
+    requires { 0 < n }
+{
+    Tumbler::zero(alloc).child(n)
 }
 
-fn text_of(alloc: Global, bytes: &[u8]) -> Result<Text, Fail> {
-    Ok(List::from_slice(alloc, bytes)?)
+fn is(tumbler: &Tumbler, n: u32) -> bool {
+    tumbler.places() == [n].as_slice()
+}
+
+fn tumblers_of(alloc: Global, n: u32) -> Result<List<Tumbler>, Memory>
+    requires { 0 < n }
+{
+    let mut tumblers = List::new(alloc);
+    tumblers.push(made(alloc, n))?;
+    Ok(tumblers)
+}
+
+fn are_tumblers(tumblers: &List<Tumbler>, n: u32) -> bool {
+    match tumblers.get(0) {
+        Some(tumbler) => tumblers.len() == 1 && is(tumbler, n),
+        None => false,
+    }
+}
+
+/// The span from that number on, 5 wide.
+fn span_of(alloc: Global, n: u32) -> Span
+    requires { 0 < n }
+{
+    Span {
+        start: made(alloc, n),
+        width: made(alloc, 5),
+    }
+}
+
+fn spans_of(alloc: Global, n: u32) -> Result<List<Span>, Memory>
+    requires { 0 < n }
+{
+    let mut spans = List::new(alloc);
+    spans.push(span_of(alloc, n))?;
+    Ok(spans)
+}
+
+fn are_spans(spans: &List<Span>, n: u32) -> bool {
+    match spans.get(0) {
+        Some(span) => spans.len() == 1 && is(&span.start, n) && is(&span.width, 5),
+        None => false,
+    }
+}
+
+fn spec_of(alloc: Global, n: u32) -> Result<Spec, Memory>
+    requires { 0 < n }
+{
+    Ok(Spec {
+        document: made(alloc, n),
+        spans: spans_of(alloc, n)?,
+    })
+}
+
+fn is_spec(spec: &Spec, n: u32) -> bool {
+    is(&spec.document, n) && are_spans(&spec.spans, n)
+}
+
+fn specs_of(alloc: Global, n: u32) -> Result<List<Spec>, Memory>
+    requires { 0 < n }
+{
+    let mut specs = List::new(alloc);
+    specs.push(spec_of(alloc, n)?)?;
+    Ok(specs)
+}
+
+fn are_specs(specs: &List<Spec>, n: u32) -> bool {
+    match specs.get(0) {
+        Some(spec) => specs.len() == 1 && is_spec(spec, n),
+        None => false,
+    }
+}
+
+/// A want whose homes are those of that number, and whose ends are 51, 52 and 53.
+fn want_of(alloc: Global, n: u32) -> Result<Want, Memory>
+    requires { 0 < n }
+{
+    Ok(Want {
+        homes: spans_of(alloc, n)?,
+        from: specs_of(alloc, 51)?,
+        to: specs_of(alloc, 52)?,
+        three: specs_of(alloc, 53)?,
+    })
+}
+
+fn is_want(want: &Want, n: u32) -> bool {
+    are_spans(&want.homes, n)
+        && are_specs(&want.from, 51)
+        && are_specs(&want.to, 52)
+        && are_specs(&want.three, 53)
+}
+
+/// Requests that change documents, each with numbers of its own.
+fn changing(alloc: Global) -> Result<List<Request>, Memory> {
+    let mut requests = List::new(alloc);
+    requests.push(Request::Insert {
+        document: made(alloc, 1),
+        at: made(alloc, 2),
+        text: List::from_slice(alloc, b"hello")?,
+    })?;
+    requests.push(Request::Copy {
+        document: made(alloc, 3),
+        at: made(alloc, 4),
+        specs: specs_of(alloc, 5)?,
+    })?;
+    requests.push(Request::Rearrange {
+        document: made(alloc, 6),
+        cuts: tumblers_of(alloc, 7)?,
+    })?;
+    requests.push(Request::CreateLink {
+        home: made(alloc, 8),
+        from: specs_of(alloc, 9)?,
+        to: specs_of(alloc, 10)?,
+        three: specs_of(alloc, 11)?,
+    })?;
+    Ok(requests)
+}
+
+fn is_changing(request: &Request) -> bool {
+    match request {
+        Request::Insert { document, at, text } => {
+            is(document, 1) && is(at, 2) && text.as_slice() == b"hello".as_slice()
+        }
+        Request::Copy {
+            document,
+            at,
+            specs,
+        } => is(document, 3) && is(at, 4) && are_specs(specs, 5),
+        Request::Rearrange { document, cuts } => is(document, 6) && are_tumblers(cuts, 7),
+        Request::CreateLink {
+            home,
+            from,
+            to,
+            three,
+        } => { is(home, 8) && are_specs(from, 9) && are_specs(to, 10) && are_specs(three, 11) }
+        _ => false,
+    }
+}
+
+/// Requests that look, each with numbers of its own.
+fn looking(alloc: Global) -> Result<List<Request>, Memory> {
+    let mut requests = List::new(alloc);
+    requests.push(Request::Retrieve {
+        specs: specs_of(alloc, 21)?,
+    })?;
+    requests.push(Request::Relate {
+        left: spec_of(alloc, 22)?,
+        right: spec_of(alloc, 23)?,
+    })?;
+    requests.push(Request::FindDocuments {
+        specs: specs_of(alloc, 24)?,
+    })?;
+    requests.push(Request::EndSets {
+        specs: specs_of(alloc, 25)?,
+    })?;
+    requests.push(Request::CountLinks {
+        want: want_of(alloc, 26)?,
+    })?;
+    requests.push(Request::FindLinks {
+        want: want_of(alloc, 27)?,
+    })?;
+    requests.push(Request::NextLinks {
+        want: want_of(alloc, 28)?,
+        after: made(alloc, 29),
+        limit: 30,
+    })?;
+    Ok(requests)
+}
+
+fn is_looking(request: &Request) -> bool {
+    match request {
+        Request::Retrieve { specs } => are_specs(specs, 21),
+        Request::Relate { left, right } => is_spec(left, 22) && is_spec(right, 23),
+        Request::FindDocuments { specs } => are_specs(specs, 24),
+        Request::EndSets { specs } => are_specs(specs, 25),
+        Request::CountLinks { want } => is_want(want, 26),
+        Request::FindLinks { want } => is_want(want, 27),
+        Request::NextLinks { want, after, limit } => is_want(want, 28)
+            && is(after, 29)
+            && *limit == 30,
+        _ => false,
+    }
+}
+
+/// Replies that hold lists, each with numbers of its own.
+fn replies(alloc: Global) -> Result<List<Reply>, Memory> {
+    let mut replies = List::new(alloc);
+    let mut items = List::new(alloc);
+    items.push(Item::Bytes(List::from_slice(alloc, b"abc")?))?;
+    items.push(Item::Link(made(alloc, 1)))?;
+    replies.push(Reply::Retrieved(items))?;
+    replies.push(Reply::SpanSet(spans_of(alloc, 2)?))?;
+    let diagonal = Diagonal {
+        left: 3,
+        right: 4,
+        length: 5,
+    };
+    replies.push(Reply::Related(List::from_slice(alloc, &[diagonal.copy()])?))?;
+    replies.push(Reply::Followed(specs_of(alloc, 6)?))?;
+    replies.push(Reply::Documents(tumblers_of(alloc, 7)?))?;
+    replies.push(Reply::EndSets {
+        from: specs_of(alloc, 8)?,
+        to: specs_of(alloc, 9)?,
+        three: specs_of(alloc, 10)?,
+    })?;
+    replies.push(Reply::Links(tumblers_of(alloc, 11)?))?;
+    replies.push(Reply::NextLinks(tumblers_of(alloc, 12)?))?;
+    Ok(replies)
+}
+
+fn are_items(items: &List<Item>) -> bool {
+    match (items.get(0), items.get(1)) {
+        (Some(Item::Bytes(text)), Some(Item::Link(id))) => {
+            items.len() == 2 && text.as_slice() == b"abc".as_slice() && is(id, 1)
+        }
+        _ => false,
+    }
+}
+
+fn is_reply(reply: &Reply) -> bool {
+    match reply {
+        Reply::Retrieved(items) => are_items(items),
+        Reply::SpanSet(spans) => are_spans(spans, 2),
+        Reply::Related(diagonals) => {
+            diagonals.as_slice()
+                == [Diagonal {
+                    left: 3,
+                    right: 4,
+                    length: 5,
+                }]
+                .as_slice()
+        }
+        Reply::Followed(specs) => are_specs(specs, 6),
+        Reply::Documents(documents) => are_tumblers(documents, 7),
+        Reply::EndSets { from, to, three } => {
+            are_specs(from, 8) && are_specs(to, 9) && are_specs(three, 10)
+        }
+        Reply::Links(ids) => are_tumblers(ids, 11),
+        Reply::NextLinks(ids) => are_tumblers(ids, 12),
+        _ => false,
+    }
+}
+
+/// Changes that hold lists, each with numbers of its own.
+fn changes(alloc: Global) -> Result<List<Change>, Memory> {
+    let mut changes = List::new(alloc);
+    changes.push(Change::Insert {
+        document: made(alloc, 1),
+        at: 4,
+        first: 9,
+        text: List::from_slice(alloc, b"abc")?,
+    })?;
+    changes.push(Change::Rearrange {
+        document: made(alloc, 2),
+        cuts: List::from_slice(alloc, &[2, 3, 5])?,
+    })?;
+    changes.push(Change::Copy {
+        document: made(alloc, 3),
+        at: 6,
+        specs: specs_of(alloc, 4)?,
+    })?;
+    changes.push(Change::Link {
+        home: made(alloc, 5),
+        number: 7,
+        place: 8,
+        from: specs_of(alloc, 6)?,
+        to: specs_of(alloc, 7)?,
+        three: specs_of(alloc, 8)?,
+    })?;
+    Ok(changes)
+}
+
+fn is_change(change: &Change) -> bool {
+    match change {
+        Change::Insert {
+            document,
+            at,
+            first,
+            text,
+        } => { is(document, 1) && *at == 4 && *first == 9 && text.as_slice() == b"abc".as_slice() }
+        Change::Rearrange { document, cuts } => is(document, 2)
+            && cuts.as_slice() == [2, 3, 5].as_slice(),
+        Change::Copy {
+            document,
+            at,
+            specs,
+        } => is(document, 3) && *at == 6 && are_specs(specs, 4),
+        Change::Link {
+            home,
+            number,
+            place,
+            from,
+            to,
+            three,
+        } => {
+            is(home, 5)
+                && *number == 7
+                && *place == 8
+                && are_specs(from, 6)
+                && are_specs(to, 7)
+                && are_specs(three, 8)
+        }
+        _ => false,
+    }
 }
 
 #[test]
-fn limits_at_their_bounds(rt: HostRuntime) -> Result<(), Fail> {
-    let greatest = Limits::new(4_194_304, 1_073_741_824, 4_194_304)?;
+fn limits_at_and_past_their_bounds(rt: HostRuntime) -> Result<(), Fail> {
+    let greatest = Limits::new(4_194_304, 1_073_741_824, 4_194_304)?.copy();
     assert_eq!(rt; greatest.entries(), 4_194_304);
     assert_eq!(rt; greatest.text(), 1_073_741_824);
     assert_eq!(rt; greatest.flush(), 4_194_304);
-    let least = Limits::new(0, 0, 1)?;
-    assert_eq!(rt; least.entries(), 0);
-    assert_eq!(rt; least.text(), 0);
-    assert_eq!(rt; least.flush(), 1);
-    Ok(())
-}
-
-#[test]
-fn limits_one_past_each_bound(rt: HostRuntime) {
+    assert_eq!(rt; Limits::new(0, 0, 1)?.flush(), 1);
     assert_eq!(rt; Limits::new(4_194_305, 0, 1), Err(BadLimits));
     assert_eq!(rt; Limits::new(0, 1_073_741_825, 1), Err(BadLimits));
     assert_eq!(rt; Limits::new(0, 0, 0), Err(BadLimits));
     assert_eq!(rt; Limits::new(0, 0, 4_194_305), Err(BadLimits));
+    Ok(())
 }
 
 #[test]
-fn numbers_of_the_refusals(rt: HostRuntime) {
-    let table = [
+fn numbers_of_refusals_modes_and_rules(rt: HostRuntime) {
+    let refusals = [
         (Refusal::NoAccount, 1),
         (Refusal::NoSuchDocument, 2),
         (Refusal::NotOpen, 3),
@@ -51,141 +349,98 @@ fn numbers_of_the_refusals(rt: HostRuntime) {
         (Refusal::Disk, 13),
         (Refusal::Memory, 14),
     ];
-    for (refusal, number) in table.iter() {
-        assert_eq!(rt; refusal.number(), *number);
+    for (refusal, number) in refusals.iter() {
+        assert_eq!(rt; refusal.copy().number(), *number);
     }
+    assert_eq!(rt; Mode::Read.copy().number(), 1);
+    assert_eq!(rt; Mode::Write.number(), 2);
+    assert_eq!(rt; Rule::Refuse.copy().number(), 1);
+    assert_eq!(rt; Rule::Copy.number(), 2);
+    assert_eq!(rt; Rule::Always.number(), 3);
 }
 
 #[test]
-fn a_copy_of_a_run(rt: HostRuntime) -> Result<(), Fail> {
+fn copies(rt: HostRuntime) {
     let run = Run {
-        origin: tumbler_of(rt.alloc(), &[1, 1, 0, 1, 0, 2])?,
-        content: tumbler_of(rt.alloc(), &[1, 1, 0, 1, 0, 1])?,
+        origin: made(rt.alloc(), 2),
+        content: made(rt.alloc(), 1),
         first: 3,
         length: 5,
     };
     let copy = run.copy();
-    assert_eq!(rt; copy.origin.places(), [1, 1, 0, 1, 0, 2].as_slice());
-    assert_eq!(rt; copy.content.places(), [1, 1, 0, 1, 0, 1].as_slice());
-    assert_eq!(rt; copy.first, 3);
-    assert_eq!(rt; copy.length, 5);
-    Ok(())
+    assert!(rt; is(&copy.origin, 2) && is(&copy.content, 1));
+    assert!(rt; copy.first == 3 && copy.length == 5);
 }
 
 #[test]
-fn a_clone_of_a_request_to_insert(rt: HostRuntime) -> Result<(), Fail> {
-    let request = Request::Insert {
-        document: tumbler_of(rt.alloc(), &[1, 1, 0, 1, 0, 1])?,
-        at: tumbler_of(rt.alloc(), &[1, 3])?,
-        text: text_of(rt.alloc(), b"hello")?,
-    };
-    let Request::Insert { document, at, text } = request.try_clone(rt.alloc())? else {
-        panic!(rt; "another request");
-    };
-    assert_eq!(rt; document.places(), [1, 1, 0, 1, 0, 1].as_slice());
-    assert_eq!(rt; at.places(), [1, 3].as_slice());
-    assert_eq!(rt; text.as_slice(), b"hello".as_slice());
-    Ok(())
-}
-
-#[test]
-fn a_clone_of_a_request_to_retrieve(rt: HostRuntime) -> Result<(), Fail> {
-    let mut spans = List::new(rt.alloc());
-    spans.push(Span {
-        start: tumbler_of(rt.alloc(), &[1, 2])?,
-        width: tumbler_of(rt.alloc(), &[0, 5])?,
-    })?;
-    let mut specs = List::new(rt.alloc());
-    specs.push(Spec {
-        document: tumbler_of(rt.alloc(), &[1, 1, 0, 1, 0, 1])?,
-        spans,
-    })?;
-    let request = Request::Retrieve { specs };
-    let Request::Retrieve { specs } = request.try_clone(rt.alloc())? else {
-        panic!(rt; "another request");
-    };
-    assert_eq!(rt; specs.len(), 1);
-    for spec in specs.as_slice() {
-        assert_eq!(rt; spec.document.places(), [1, 1, 0, 1, 0, 1].as_slice());
-        assert_eq!(rt; spec.spans.len(), 1);
-        for span in spec.spans.as_slice() {
-            assert_eq!(rt; span.start.places(), [1, 2].as_slice());
-            assert_eq!(rt; span.width.places(), [0, 5].as_slice());
-        }
+fn clones_of_requests(rt: HostRuntime) -> Result<(), Fail> {
+    for request in changing(rt.alloc())?.as_slice() {
+        assert!(rt; is_changing(&request.try_clone(rt.alloc())?));
+    }
+    for request in looking(rt.alloc())?.as_slice() {
+        assert!(rt; is_looking(&request.try_clone(rt.alloc())?));
     }
     Ok(())
 }
 
 #[test]
-fn a_clone_of_a_reply(rt: HostRuntime) -> Result<(), Fail> {
-    let mut items = List::new(rt.alloc());
-    items.push(Item::Bytes(text_of(rt.alloc(), b"abc")?))?;
-    let reply = Reply::Retrieved(items);
-    let Reply::Retrieved(items) = reply.try_clone(rt.alloc())? else {
-        panic!(rt; "another reply");
-    };
-    assert_eq!(rt; items.len(), 1);
-    for item in items.as_slice() {
-        let Item::Bytes(text) = item else {
-            panic!(rt; "another item");
+fn clones_of_replies(rt: HostRuntime) -> Result<(), Fail> {
+    for reply in replies(rt.alloc())?.as_slice() {
+        assert!(rt; is_reply(&reply.try_clone(rt.alloc())?));
+    }
+    Ok(())
+}
+
+#[test]
+fn clones_of_entries(rt: HostRuntime) -> Result<(), Fail> {
+    for change in changes(rt.alloc())?.as_slice() {
+        let entry = Entry {
+            session: 2,
+            serial: 7,
+            change: change.try_clone(rt.alloc())?,
         };
-        assert_eq!(rt; text.as_slice(), b"abc".as_slice());
+        let copy = entry.try_clone(rt.alloc())?;
+        assert!(rt; copy.session == 2 && copy.serial == 7 && is_change(&copy.change));
     }
     Ok(())
 }
 
 #[test]
-fn a_clone_of_an_entry(rt: HostRuntime) -> Result<(), Fail> {
-    let entry = Entry {
-        session: 2,
-        serial: 7,
-        change: Change::Insert {
-            document: tumbler_of(rt.alloc(), &[1, 1, 0, 1, 0, 1])?,
-            at: 4,
-            first: 9,
-            text: text_of(rt.alloc(), b"abc")?,
-        },
-    };
-    let Entry {
-        session,
-        serial,
-        change,
-    } = entry.try_clone(rt.alloc())?;
-    assert_eq!(rt; session, 2);
-    assert_eq!(rt; serial, 7);
-    let Change::Insert {
-        document,
-        at,
-        first,
-        text,
-    } = change
-    else {
-        panic!(rt; "another change");
-    };
-    assert_eq!(rt; document.places(), [1, 1, 0, 1, 0, 1].as_slice());
-    assert_eq!(rt; at, 4);
-    assert_eq!(rt; first, 9);
-    assert_eq!(rt; text.as_slice(), b"abc".as_slice());
-    Ok(())
-}
-
-#[test]
-fn spellings_of_tumblers(rt: HostRuntime) -> Result<(), Fail> {
-    let mut out = List::new(rt.alloc());
-    append_tumbler(&mut out, &tumbler_of(rt.alloc(), &[1, 1, 0, 1])?)?;
-    append_tumbler(&mut out, &tumbler_of(rt.alloc(), &[0, 5])?)?;
-    append_tumbler(&mut out, &Tumbler::zero(rt.alloc()))?;
-    assert_eq!(rt; out.as_slice(), b"0.1.1.0.1~1.5~0~".as_slice());
-    Ok(())
-}
-
-#[test]
-fn spellings_of_numbers_and_texts(rt: HostRuntime) -> Result<(), Fail> {
-    let mut out = List::new(rt.alloc());
-    append_number(&mut out, 0)?;
+fn spellings_of_parts(rt: HostRuntime) -> Result<(), Fail> {
+    let alloc = rt.alloc();
+    let mut out = List::new(alloc);
+    append_tumbler(&mut out, &Tumbler::from_places(alloc, &[1, 1, 0, 1])?)?;
+    append_tumbler(&mut out, &Tumbler::from_places(alloc, &[0, 5])?)?;
+    append_tumbler(&mut out, &Tumbler::zero(alloc))?;
+    append_span(&mut out, &span_of(alloc, 3))?;
     append_number(&mut out, 4_294_967_295)?;
     append_text(&mut out, b"hello")?;
     append_text(&mut out, b"")?;
-    assert_eq!(rt; out.as_slice(), b"0~4294967295~t5:hellot0:".as_slice());
+    let spelling = b"0.1.1.0.1~1.5~0~0.3~0.5~4294967295~t5:hellot0:";
+    assert_eq!(rt; out.as_slice(), spelling.as_slice());
+    Ok(())
+}
+
+#[test]
+fn spellings_of_lists(rt: HostRuntime) -> Result<(), Fail> {
+    let alloc = rt.alloc();
+    let mut out = List::new(alloc);
+    append_tumblers(&mut out, &[made(alloc, 7)])?;
+    append_spans(&mut out, &[span_of(alloc, 3)])?;
+    let spec = Spec {
+        document: made(alloc, 8),
+        spans: List::new(alloc),
+    };
+    append_spec(&mut out, &spec)?;
+    append_specs(&mut out, &[spec])?;
+    append_items(&mut out, &[Item::Link(made(alloc, 9))])?;
+    let diagonal = Diagonal {
+        left: 1,
+        right: 12,
+        length: 3,
+    };
+    append_diagonals(&mut out, &[diagonal])?;
+    let spelling = b"1~0.7~1~0.3~0.5~0.8~0~1~0.8~0~1~0.9~1~0.1.1~0.1.12~3~";
+    assert_eq!(rt; out.as_slice(), spelling.as_slice());
     Ok(())
 }

@@ -1,55 +1,81 @@
 //! A reply's bytes: its number, and what it gives.
-ghost use Rattle.std.specs.Prelude.{◌≡◌, ◌++◌, map, OnOk, IfOk};
-ghost use Rattle.febe_data.specs.Plain.{plain_item, plain_reply};
-ghost use Rattle.febe_data.specs.Spelling.{spell_list};
-ghost use Rattle.febe_data.specs.Validity.{IsItem, AreItems, IsReply};
-ghost use Rattle.febe_reply.specs.ReplyGrammar.{spell_item, spell_reply};
+ghost use Rattle.std.specs.Prelude.{◌≡◌, ◌++◌, OnOk, IfOk};
+ghost use Rattle.std.specs.List.{flat_map};
+ghost use Rattle.febe_data.specs.Plain.{plain_reply};
+ghost use Rattle.febe_data.specs.Parts.{reply_parts};
+ghost use Rattle.febe_data.specs.Spelling.{spell_part};
+ghost use Rattle.febe_data.specs.Validity.{IsReply};
+ghost use Rattle.febe_reply.specs.ReplyGrammar.{reply_head, spell_reply};
 
-use febe_data::{Item, List, Memory, Reply, Text, append_number, append_text, append_tumbler};
+use febe_data::{
+    List, Memory, Reply, Text, append_diagonals, append_items, append_number, append_span,
+    append_spans, append_specs, append_tumbler, append_tumblers,
+};
 use std::alloc::Global;
 
-fn append_item(out: &mut Text, item: &Item) -> Result<(), Memory>
-    requires { IsItem (plain_item item.now) }
-    ensures { OnOk result (out.new.items ≡ out.old.items ++ spell_item (plain_item item.now)) }
-{
-    match item {
-        Item::Bytes(text) => append_text(out, text.as_slice()),
-        Item::Link(id) => append_tumbler(out, id),
-    }
-}
-
-fn append_items(out: &mut Text, items: &[Item]) -> Result<(), Memory>
-    requires { AreItems (map plain_item items.now) }
-    ensures { OnOk result (out.new.items
-        ≡ out.old.items ++ spell_list spell_item (map plain_item items.now)) }
-{
-    append_number(out, items.len() as u32)?;
-    for item in items {
-        append_item(out, item)?;
-    }
-    Ok(())
-}
-
-fn append_reply(out: &mut Text, reply: &Reply) -> Result<(), Memory>
-    requires { IsReply (plain_reply reply.now) }
-    ensures { OnOk result (out.new.items ≡ out.old.items ++ spell_reply (plain_reply reply.now)) }
+fn append_head(out: &mut Text, reply: &Reply) -> Result<(), Memory>
+    ensures { OnOk result (out.new.items ≡ out.old.items ++ reply_head (plain_reply reply.now)) }
 {
     match reply {
-        Reply::Inserted => out.extend_from_slice(b"0~"),
-        Reply::Quit => out.extend_from_slice(b"16~"),
-        Reply::AccountSet => out.extend_from_slice(b"34~"),
-        Reply::Retrieved(items) => {
-            out.extend_from_slice(b"5~")?;
-            append_items(out, items.as_slice())
-        }
-        Reply::Created(document) => {
-            out.extend_from_slice(b"11~")?;
-            append_tumbler(out, document)
-        }
+        Reply::Inserted => append_number(out, 0),
+        Reply::SpanSet(_) => append_number(out, 1),
+        Reply::Copied => append_number(out, 2),
+        Reply::Rearranged => append_number(out, 3),
+        Reply::Retrieved(_) => append_number(out, 5),
+        Reply::Related(_) => append_number(out, 10),
+        Reply::Created(_) => append_number(out, 11),
+        Reply::Deleted => append_number(out, 12),
+        Reply::Versioned(_) => append_number(out, 13),
+        Reply::WholeSpan(_) => append_number(out, 14),
+        Reply::Quit => append_number(out, 16),
+        Reply::Followed(_) => append_number(out, 18),
+        Reply::Documents(_) => append_number(out, 22),
+        Reply::Linked(_) => append_number(out, 27),
+        Reply::EndSets { .. } => append_number(out, 28),
+        Reply::LinkCount(_) => append_number(out, 29),
+        Reply::Links(_) => append_number(out, 30),
+        Reply::NextLinks(_) => append_number(out, 31),
+        Reply::AccountSet => append_number(out, 34),
+        Reply::Opened(_) => append_number(out, 35),
+        Reply::Closed => append_number(out, 36),
         Reply::Refused(refusal) => {
             out.push(b'?')?;
             append_number(out, u32::from(refusal.number()))
         }
+    }
+}
+
+fn append_payload(out: &mut Text, reply: &Reply) -> Result<(), Memory>
+    requires { IsReply (plain_reply reply.now) }
+    ensures { OnOk result (out.new.items ≡ out.old.items ++ flat_map spell_part (reply_parts (plain_reply reply.now))) }
+{
+    match reply {
+        Reply::Inserted
+        | Reply::Copied
+        | Reply::Rearranged
+        | Reply::Deleted
+        | Reply::Quit
+        | Reply::AccountSet
+        | Reply::Closed
+        | Reply::Refused(_) => Ok(()),
+        Reply::SpanSet(spans) => append_spans(out, spans.as_slice()),
+        Reply::WholeSpan(span) => append_span(out, span),
+        Reply::Retrieved(items) => append_items(out, items.as_slice()),
+        Reply::Related(diagonals) => append_diagonals(out, diagonals.as_slice()),
+        Reply::Created(place) => append_tumbler(out, place),
+        Reply::Versioned(place) => append_tumbler(out, place),
+        Reply::Linked(place) => append_tumbler(out, place),
+        Reply::Opened(place) => append_tumbler(out, place),
+        Reply::Followed(specs) => append_specs(out, specs.as_slice()),
+        Reply::Documents(places) => append_tumblers(out, places.as_slice()),
+        Reply::Links(places) => append_tumblers(out, places.as_slice()),
+        Reply::NextLinks(places) => append_tumblers(out, places.as_slice()),
+        Reply::EndSets { from, to, three } => {
+            append_specs(out, from.as_slice())?;
+            append_specs(out, to.as_slice())?;
+            append_specs(out, three.as_slice())
+        }
+        Reply::LinkCount(count) => append_number(out, *count),
     }
 }
 
@@ -59,6 +85,7 @@ pub fn write_reply(alloc: Global, reply: &Reply) -> Result<Text, Memory>
     ensures { IfOk result (λ text. text.items ≡ spell_reply (plain_reply reply.now)) }
 {
     let mut out = List::new(alloc);
-    append_reply(&mut out, reply)?;
+    append_head(&mut out, reply)?;
+    append_payload(&mut out, reply)?;
     Ok(out)
 }

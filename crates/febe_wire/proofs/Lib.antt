@@ -1,4 +1,3 @@
-pub mod Loop
-pub mod FieldLaws
 pub mod RequestLaws
-pub mod SessionLaws
+pub mod RequestScans
+pub mod PartScans

@@ -1,94 +1,10 @@
--- Reading from left to right: a value and the bytes after it, or nothing.
-use Rattle.std.specs.Prelude.{◌≡◌, ℕ, zero, suc, ◌+◌, ◌-◌, ◌*◌, Bool, false, List, [], ◌∷◌, ◌++◌, length, take, drop, replicate, Option, Some, None, Result, Ok, Err, nat_lt, ◌==◌, ◌||◌, not, if◌then◌else◌}
-use Rattle.std.specs.Char.{is_ascii_digit}
-use Rattle.tumbler.specs.declared.memory.Memory.{Memory}
-use Rattle.tumbler.specs.declared.span.Span.{Span}
-use Rattle.tumbler.specs.Places.{place}
-use Rattle.febe_data.specs.Plain.{PlainRequest, insert, retrieve, create, quit, set_account}
+-- Reading a request from left to right: the request and the bytes after it, or nothing.
+use Rattle.std.specs.Prelude.{ℕ, List, Option, Some, None, ◌==◌, ◌||◌, if◌then◌else◌}
+use Rattle.febe_data.specs.Plain.{PlainSpec, PlainWant, PlainRequest, insert, span_set, copy, rearrange, retrieve, relate, create, delete, version, whole_span, quit, follow, find_documents, create_link, end_sets, count_links, find_links, next_links, set_account, opens, closes}
+use Rattle.febe_fields.specs.Reading.{◌>>=◌, number_at, text_at, tumbler_at, tumblers_at, span_at, spans_at, spec_at, specs_at, mode_at, rule_at}
 
-infixl 10 ◌>>=◌
-abbrev pub ◌>>=◌ : {A B : Type 0} → Option A → (A → Option B) → Option B
-(Some x) >>= f = f x
-None >>= f = None
+-- ---- requests that edit a document
 
--- what a function returned, seen by view, is what reading gives
-abbrev pub Reads : {X Y : Type 0} → (X → Y) → Option X → Option Y → Type 0
-Reads view (Some x) read = read ≡ Some (view x)
-Reads view None read = read ≡ None
-
--- the same, unless memory ran out
-abbrev pub Gives : {X Y : Type 0} → (X → Y) → Result (Option X) Memory → Option Y → Type 0
-Gives view (Ok o) read = Reads view o read
-Gives view (Err e) read = Unit {0}
-
--- the bytes after this one
-abbrev pub after : ℕ → List ℕ → Option (List ℕ)
-after byte [] = None
-after byte (b ∷ bytes) = if b == byte then Some bytes else None
-
--- the digits in front, which go on from the number so far
-unfoldable pub digits_after : ℕ → List ℕ → Option (ℕ × List ℕ)
-digits_after n [] = Some (n, [])
-digits_after n (b ∷ bytes) = if is_ascii_digit b then (if nat_lt (n * 10 + (b - 48)) 4294967296 then digits_after (n * 10 + (b - 48)) bytes else None) else Some (n, b ∷ bytes)
-
--- the digits of a number, of which the first is 0 for 0 alone
-unfoldable pub digits_at : List ℕ → Option (ℕ × List ℕ)
-digits_at [] = None
-digits_at (b ∷ bytes) = if b == 48 then Some (0, bytes) else (if is_ascii_digit b then digits_after (b - 48) bytes else None)
-
--- a number and its tilde
-unfoldable pub number_at : List ℕ → Option (ℕ × List ℕ)
-number_at bytes = do
-  n ← digits_at bytes
-  rest ← after 126 n.1
-  Some (n.0, rest)
-
--- the number 1 and its tilde
-unfoldable pub one_at : List ℕ → Option (List ℕ)
-one_at bytes = do
-  n ← number_at bytes
-  if n.0 == 1 then Some n.1 else None
-
--- places, each behind a dot, as many as there are and room at most
-unfoldable pub places_at : ℕ → List ℕ → Option (List ℕ × List ℕ)
-places_at zero bytes = Some ([], bytes)
-places_at (suc room) [] = Some ([], [])
-places_at (suc room) (b ∷ bytes) = if b == 46 then (do
-  first ← digits_at bytes
-  others ← places_at room first.1
-  Some (first.0 ∷ others.0, others.1)) else Some ([], b ∷ bytes)
-
--- the first place is 0
-abbrev pub starts_with_zero : List ℕ → Bool
-starts_with_zero [] = false
-starts_with_zero (p ∷ places) = p == 0
-
--- the last place is not 0
-abbrev pub ends_well : List ℕ → Bool
-ends_well places = (length places == 0) || not (place places (length places - 1) == 0)
-
--- the places that a count of zeros and the written ones make
-unfoldable pub all_places_at : List ℕ → Option (List ℕ × List ℕ)
-all_places_at bytes = do
-  zeros ← digits_at bytes
-  written ← (if nat_lt 24 zeros.0 then None else places_at (24 - zeros.0) zeros.1)
-  if starts_with_zero written.0 then None else Some (replicate zeros.0 0 ++ written.0, written.1)
-
--- a tumbler and its tilde: the last place is not 0
-unfoldable pub tumbler_at : List ℕ → Option (List ℕ × List ℕ)
-tumbler_at bytes = do
-  places ← all_places_at bytes
-  rest ← after 126 places.1
-  if ends_well places.0 then Some (places.0, rest) else None
-
--- a text: its length is at most 16777216, and that many bytes stand there
-unfoldable pub text_at : List ℕ → Option (List ℕ × List ℕ)
-text_at bytes = do
-  len ← after 116 bytes >>= digits_at
-  rest ← after 58 len.1
-  if nat_lt 16777216 len.0 || nat_lt (length rest) len.0 then None else Some (take len.0 rest, drop len.0 rest)
-
--- the parts of an insert
 unfoldable pub insert_at : List ℕ → Option (PlainRequest × List ℕ)
 insert_at bytes = do
   document ← tumbler_at bytes
@@ -96,31 +12,132 @@ insert_at bytes = do
   text ← text_at at.1
   Some (insert document.0 at.0 text.0, text.1)
 
--- one document and one span of it
-unfoldable pub one_span_at : List ℕ → Option (List ℕ × Span × List ℕ)
-one_span_at bytes = do
-  document ← one_at bytes >>= tumbler_at
-  start ← one_at document.1 >>= tumbler_at
-  width ← tumbler_at start.1
-  Some (document.0, record { start = start.0; width = width.0 }, width.1)
+unfoldable pub copy_at : List ℕ → Option (PlainRequest × List ℕ)
+copy_at bytes = do
+  document ← tumbler_at bytes
+  at ← tumbler_at document.1
+  specs ← specs_at at.1
+  Some (copy document.0 at.0 specs.0, specs.1)
 
--- the parts of a retrieve
-unfoldable pub retrieve_at : List ℕ → Option (PlainRequest × List ℕ)
-retrieve_at bytes = do
-  x ← one_span_at bytes
-  Some (retrieve (record { document = x.0; spans = x.1 ∷ [] } ∷ []), x.2)
+unfoldable pub rearrange_at : List ℕ → Option (PlainRequest × List ℕ)
+rearrange_at bytes = do
+  document ← tumbler_at bytes
+  cuts ← tumblers_at document.1
+  Some (rearrange document.0 cuts.0, cuts.1)
 
--- the part of an account
-unfoldable pub account_at : List ℕ → Option (PlainRequest × List ℕ)
-account_at bytes = do
-  account ← tumbler_at bytes
-  Some (set_account account.0, account.1)
+unfoldable pub delete_at : List ℕ → Option (PlainRequest × List ℕ)
+delete_at bytes = do
+  document ← tumbler_at bytes
+  span ← span_at document.1
+  Some (delete document.0 span.0, span.1)
 
--- what stands behind the number of a request
+-- ---- requests that open documents, and ask what is in them
+
+unfoldable pub open_at : List ℕ → Option (PlainRequest × List ℕ)
+open_at bytes = do
+  document ← tumbler_at bytes
+  mode ← mode_at document.1
+  rule ← rule_at mode.1
+  Some (opens document.0 mode.0 rule.0, rule.1)
+
+-- the request of this number that gives one tumbler alone
+abbrev pub request_with_tumbler : ℕ → List ℕ → Option PlainRequest
+request_with_tumbler n places =
+    if n == 1 then Some (span_set places) else (
+    if n == 13 then Some (version places) else (
+    if n == 14 then Some (whole_span places) else (
+    if n == 34 then Some (set_account places) else (
+    if n == 36 then Some (closes places) else None))))
+
+unfoldable pub with_tumbler_at : ℕ → List ℕ → Option (PlainRequest × List ℕ)
+with_tumbler_at n bytes = do
+  places ← tumbler_at bytes
+  request ← request_with_tumbler n places.0
+  Some (request, places.1)
+
+-- the request of this number that gives specs alone
+abbrev pub request_with_specs : ℕ → List PlainSpec → Option PlainRequest
+request_with_specs n specs =
+    if n == 5 then Some (retrieve specs) else (
+    if n == 22 then Some (find_documents specs) else (
+    if n == 28 then Some (end_sets specs) else None))
+
+unfoldable pub with_specs_at : ℕ → List ℕ → Option (PlainRequest × List ℕ)
+with_specs_at n bytes = do
+  specs ← specs_at bytes
+  request ← request_with_specs n specs.0
+  Some (request, specs.1)
+
+unfoldable pub relate_at : List ℕ → Option (PlainRequest × List ℕ)
+relate_at bytes = do
+  left ← spec_at bytes
+  right ← spec_at left.1
+  Some (relate left.0 right.0, right.1)
+
+-- ---- requests that make links, and look for them
+
+unfoldable pub create_link_at : List ℕ → Option (PlainRequest × List ℕ)
+create_link_at bytes = do
+  home ← tumbler_at bytes
+  from ← specs_at home.1
+  to ← specs_at from.1
+  three ← specs_at to.1
+  Some (create_link home.0 from.0 to.0 three.0, three.1)
+
+unfoldable pub follow_at : List ℕ → Option (PlainRequest × List ℕ)
+follow_at bytes = do
+  link ← tumbler_at bytes
+  end ← number_at link.1
+  Some (follow link.0 end.0, end.1)
+
+unfoldable pub want_at : List ℕ → Option (PlainWant × List ℕ)
+want_at bytes = do
+  homes ← spans_at bytes
+  from ← specs_at homes.1
+  to ← specs_at from.1
+  three ← specs_at to.1
+  Some (record { homes = homes.0; from = from.0; to = to.0; three = three.0 }, three.1)
+
+-- the request of this number that gives what links are looked for alone
+abbrev pub request_with_want : ℕ → PlainWant → Option PlainRequest
+request_with_want n want =
+    if n == 29 then Some (count_links want) else (
+    if n == 30 then Some (find_links want) else None)
+
+unfoldable pub with_want_at : ℕ → List ℕ → Option (PlainRequest × List ℕ)
+with_want_at n bytes = do
+  want ← want_at bytes
+  request ← request_with_want n want.0
+  Some (request, want.1)
+
+unfoldable pub next_links_at : List ℕ → Option (PlainRequest × List ℕ)
+next_links_at bytes = do
+  want ← want_at bytes
+  after ← tumbler_at want.1
+  limit ← number_at after.1
+  Some (next_links want.0 after.0 limit.0, limit.1)
+
+-- ---- requests
+
+-- the request of this number
 unfoldable pub request_of : ℕ → List ℕ → Option (PlainRequest × List ℕ)
-request_of n bytes = if n == 0 then insert_at bytes else (if n == 5 then retrieve_at bytes else (if n == 11 then Some (create, bytes) else (if n == 16 then Some (quit, bytes) else (if n == 34 then account_at bytes else None))))
+request_of n bytes =
+    if n == 0 then insert_at bytes else (
+    if n == 2 then copy_at bytes else (
+    if n == 3 then rearrange_at bytes else (
+    if n == 10 then relate_at bytes else (
+    if n == 11 then Some (create, bytes) else (
+    if n == 12 then delete_at bytes else (
+    if n == 16 then Some (quit, bytes) else (
+    if n == 18 then follow_at bytes else (
+    if n == 27 then create_link_at bytes else (
+    if n == 31 then next_links_at bytes else (
+    if n == 35 then open_at bytes else (
+    if n == 5 || n == 22 || n == 28 then with_specs_at n bytes else (
+    if n == 29 || n == 30 then with_want_at n bytes else (
+    with_tumbler_at n bytes)))))))))))))
 
--- a request: its number, and what stands behind it
+-- a request: its number, then its parts
 unfoldable pub request_at : List ℕ → Option (PlainRequest × List ℕ)
 request_at bytes = do
   n ← number_at bytes

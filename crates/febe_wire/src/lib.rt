@@ -1,13 +1,21 @@
 //! The bytes of requests.
 #![tactic(auto)]
 
-mod fields;
+mod edits;
+mod got;
 pub mod laws;
+mod links;
+mod parts;
+mod questions;
 mod request;
-mod session;
+mod scan;
+mod writing;
 
-pub use request::{Small, read_small};
-pub use session::read_session;
+pub use febe_data::{Memory, Request, Text};
+pub use got::{Got, read_request};
+pub use parts::{GotNumber, GotSpans, read_number, read_spans};
+pub use scan::{RequestProgress, RequestScanner};
+pub use writing::{write_number, write_request, write_tumbler};
 
 #[cfg(test)]
 mod tests;

@@ -110,6 +110,7 @@ change_keeps_early world session ended placed document early = early
 change_keeps_early world session (account_changed account) placed document early = early
 change_keeps_early world session (document_created created) placed document early = early
 change_keeps_early world session (text_inserted other at first text) placed document early = insert_keeps_early world document other at first text (is_same other document) refl placed early
+change_keeps_early world session change placed document early = early
 
 early_along : (history : List PlainEntry) (world : World) → AllPlaced world history → (document : List ℕ) → AllEarly world document → AllEarly (fold apply world history) document
 early_along [] world placed document early = early

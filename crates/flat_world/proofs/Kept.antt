@@ -22,6 +22,7 @@ contents_step one other session serial (document_created document) history same 
 contents_step one other session serial (text_inserted document at first text) history same rest =
     rest (change_world one session (text_inserted document at first text)) (change_world other session (text_inserted document at first text))
     (record { documents = same.documents; rows = ap (λ rows. rows_with rows document at first text) same.rows; bytes = ap (λ bytes. bytes ++ new_bytes document first text) same.bytes; links = same.links })
+contents_step one other session serial change history same rest = rest one other same
 
 contents_along : (history : List PlainEntry) (one other : World) → HasContentsOf one other → HasContentsOf (fold apply one (kept history)) (fold apply other history)
 contents_along [] one other same = same

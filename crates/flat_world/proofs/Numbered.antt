@@ -143,6 +143,7 @@ change_keeps_numbers world session (account_changed account) numbered placed doc
 change_keeps_numbers world session (document_created created) numbered placed document = numbered document
 change_keeps_numbers world session (text_inserted other at first text) numbered placed document =
     inserts_numbered world other at first text (record { numbered = numbered other; from_one = placed.from_one; to_end = placed.to_end }) document (numbered document)
+change_keeps_numbers world session change numbered placed document = numbered document
 
 numbered_along : (history : List PlainEntry) (world : World) → AllPlaced world history → ((document : List ℕ) → IsNumbered world document) → (document : List ℕ) → IsNumbered (fold apply world history) document
 numbered_along [] world placed numbered = numbered

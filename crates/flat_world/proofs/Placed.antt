@@ -50,6 +50,7 @@ placed limits counted world session quit made none e =
 placed limits counted world session (set_account account) made none e =
     let same : record { change = account_changed account; reply = account_set } ≡ made = cc in
     subst (λ (m : Effect). IsPlaced world m.change) same tt
+placed limits counted world session other made none e = cc
 
 pub served_is_placed : ServedIsPlaced
 served_is_placed = placed

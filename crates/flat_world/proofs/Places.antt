@@ -140,6 +140,7 @@ change_keeps_order world session ended up = up
 change_keeps_order world session (account_changed account) up = up
 change_keeps_order world session (document_created document) up = up
 change_keeps_order world session (text_inserted other at first text) up = λ document. insert_keeps_order world.rows document other at first text (is_same other document) refl (up document)
+change_keeps_order world session change up = up
 
 pub text_in_order : TextInOrder
 text_in_order history document =

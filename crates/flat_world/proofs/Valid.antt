@@ -9,7 +9,7 @@ use Rattle.std.proofs.lemmas.List.Sums.{sum_by-cons}
 use Rattle.tumbler.specs.declared.span.Span.{Span}
 use Rattle.febe_data.specs.declared.reply.Item.{Item}
 use Rattle.febe_data.specs.Plain.{PlainItem, PlainSpec, plain_item, bytes, link}
-use Rattle.febe_data.specs.Validity.{IsItem, AreItems}
+use Rattle.febe_data.specs.Validity.{IsItem, IsList}
 use Rattle.flat_world.specs.declared.rows.Row.{Row}
 use Rattle.flat_world.specs.World.{World, byte_at, picked_text, picked_links}
 use Rattle.flat_world.specs.Refusals.{span_bytes, span_items, total_of}
@@ -96,7 +96,7 @@ item_of_both (bytes text) short named = short
 item_of_both (link id) short named = named
 
 pub are_items : (world : World) (specs : List PlainSpec) (items : List PlainItem) → items ≡ items_of world specs → All NamesTumbler items
-    → total_of (span_bytes world) specs ≤ 16777216 → total_of (span_items world) specs ≤ 65536 → AreItems items
+    → total_of (span_bytes world) specs ≤ 16777216 → total_of (span_items world) specs ≤ 65536 → IsList IsItem items
 are_items world specs items e named short few =
     let all : All (IsShort (total_of (span_bytes world) specs)) items = rw e (items_short world specs) in
     let count : length items ≤ 65536 = rw (e, items_are world specs) few in

@@ -22,7 +22,7 @@ items_of_span world document span = text_item world (picked_text world document 
 abbrev pub items_of : World → List PlainSpec → List PlainItem
 items_of world specs = flat_map (λ (spec : PlainSpec). flat_map (items_of_span world spec.document) spec.spans) specs
 
--- the reply of a query; what is no query gives nothing
+-- the reply of a query; what is no query, or none that is answered yet, gives nothing
 abbrev pub answer : World → PlainRequest → PlainReply
 answer world (retrieve specs) = retrieved (items_of world specs)
 answer world other = retrieved []

@@ -1,7 +1,7 @@
 -- What each entry of the history does to the world.
 use Rattle.std.specs.Prelude.{ℕ, ◌+◌, ◌==◌, ◌&&◌, ◌||◌, Bool, true, false, not, List, [], ◌∷◌, ◌++◌, length, map, filter, nat_le}
 use Rattle.std.specs.List.{fold}
-use Rattle.febe_data.specs.declared.spec.Mode.TheVariants.{Write}
+use Rattle.febe_data.specs.declared.access.Mode.TheVariants.{Write}
 use Rattle.febe_data.specs.Plain.{PlainChange, PlainEntry, restarted, began, ended, account_changed, document_created, text_inserted}
 use Rattle.flat_world.specs.declared.rows.Part.TheVariants.{Text}
 use Rattle.flat_world.specs.declared.rows.Row.{Row}
@@ -56,6 +56,8 @@ change_world world session (account_changed account) = record world { accounts =
 change_world world session (document_created document) = record world { documents = world.documents ++ document ∷ []; open_rows = world.open_rows ++ record { session = session; document = document; mode = Write } ∷ [] }
 -- the rows from `at` on move up, and the new ones come in with their bytes
 change_world world session (text_inserted document at first text) = record world { rows = rows_with world.rows document at first text; bytes = world.bytes ++ new_bytes document first text }
+-- no request makes the other changes yet
+change_world world session other = world
 
 -- what an entry makes of a world
 abbrev pub apply : World → PlainEntry → World
@@ -75,6 +77,8 @@ is_counted ended = false
 is_counted (account_changed account) = false
 is_counted (document_created document) = true
 is_counted (text_inserted document at first text) = true
+-- no request makes the other changes yet
+is_counted other = false
 
 -- the counted entries, in their order
 abbrev pub kept : List PlainEntry → List PlainEntry

@@ -19,3 +19,5 @@ effect world session (retrieve specs) = None
 effect world session create = Some (record { change = document_created (document_to_come world session); reply = created (document_to_come world session) })
 effect world session quit = Some (record { change = ended; reply = has_quit })
 effect world session (set_account account) = Some (record { change = account_changed account; reply = account_set })
+-- the other requests are not answered yet
+effect world session other = None

@@ -8,6 +8,7 @@ pub use Rattle.febe_data.specs.Plain
 pub use Rattle.febe_data.specs.Validity
 pub mod World
 pub mod Apply
+pub mod Small
 pub mod Refusals
 pub mod Effects
 pub mod Answers

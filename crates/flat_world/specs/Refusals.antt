@@ -4,8 +4,8 @@ use Rattle.std.specs.List.{list_any, sum_by}
 use Rattle.tumbler.specs.declared.span.Span.{Span}
 use Rattle.tumbler.specs.Places.{fits}
 use Rattle.tumbler.specs.Address.{account_test}
-use Rattle.febe_data.specs.declared.spec.Mode.{Mode}
-use Rattle.febe_data.specs.declared.spec.Mode.TheVariants.{Read, Write}
+use Rattle.febe_data.specs.declared.access.Mode.{Mode}
+use Rattle.febe_data.specs.declared.access.Mode.TheVariants.{Read, Write}
 use Rattle.febe_data.specs.declared.refusal.Refusal.{Refusal}
 use Rattle.febe_data.specs.declared.refusal.Refusal.TheVariants.{NoAccount, NoSuchDocument, NotOpen, NotOpenForWriting, BadAddress, TooLong, Full}
 use Rattle.febe_data.specs.LimitsView.{LimitsView}
@@ -77,6 +77,8 @@ checks limits counted world session quit = []
 checks limits counted world session (set_account account) =
     (not (account_test account), BadAddress)
     ∷ []
+-- the other requests are not answered yet, so nothing is tested
+checks limits counted world session other = []
 
 -- the refusal that a request is given, if it is refused
 abbrev pub wanted : LimitsView → ℕ → World → ℕ → PlainRequest → Option Refusal

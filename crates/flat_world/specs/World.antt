@@ -6,8 +6,8 @@ use Rattle.std.specs.Ordering.{nat_cmp, is_le, is_lt}
 use Rattle.std.specs.Cmp.Lexicographic.{slice_cmp, pointwise}
 use Rattle.tumbler.specs.declared.span.Span.{Span}
 use Rattle.tumbler.specs.Span.{end_of}
-use Rattle.febe_data.specs.declared.spec.Run.{Run}
-use Rattle.febe_data.specs.declared.spec.Mode.{Mode}
+use Rattle.febe_data.specs.declared.run.Run.{Run}
+use Rattle.febe_data.specs.declared.access.Mode.{Mode}
 use Rattle.flat_world.specs.declared.rows.Part.{Part}
 use Rattle.flat_world.specs.declared.rows.Part.TheVariants.{Text, Links}
 use Rattle.flat_world.specs.declared.rows.Row.{Row}

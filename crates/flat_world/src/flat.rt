@@ -65,6 +65,8 @@ impl FlatWorld {
                 first,
                 text,
             } => self.insert(alloc, document, *at, *first, text.as_slice())?,
+            // No request makes the others yet.
+            _ => {}
         }
         Ok(())
     }

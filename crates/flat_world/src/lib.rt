@@ -16,5 +16,5 @@ mod tests;
 
 pub use effects::Effect;
 pub use flat::FlatWorld;
-pub use requests::Served;
+pub use requests::{Served, is_small};
 pub use rows::{AccountRow, ByteRow, OpenRow, Part, Row};

@@ -1,7 +1,9 @@
 //! Requests as they come: which refusal one gets, and what serves it.
-ghost use Rattle.std.specs.Prelude.{◌≡◌, ◌∷◌, [], not, None, IsOk, IfOk};
+ghost use Rattle.std.specs.Prelude.{◌≡◌, ◌↔◌, ◌∷◌, [], not, None, IsTrue, IsOk, IfOk};
 ghost use Rattle.tumbler.specs.Address.{account_test};
 ghost use Rattle.febe_data.specs.declared.refusal.Refusal.TheVariants.{BadAddress};
+ghost use Rattle.febe_data.specs.Plain.{plain_request};
+ghost use Rattle.flat_world.specs.Small.{IsSmall};
 ghost use Rattle.flat_world.specs.Refusals.{first_holding};
 
 use crate::effects::Effect;
@@ -18,6 +20,20 @@ pub enum Served {
     Answered(Reply),
 }
 
+/// Whether the request is of a kind that is answered today.
+pub fn is_small(request: &Request) -> bool
+    ensures { IsTrue result ↔ IsSmall (plain_request request.now) }
+{
+    matches!(
+        request,
+        Request::Insert { .. }
+            | Request::Retrieve { .. }
+            | Request::Create
+            | Request::Quit
+            | Request::Account { .. }
+    )
+}
+
 fn account_refusal(account: &Tumbler) -> Option<Refusal>
     ensures { result ≡ first_holding ((not (account_test account.now), BadAddress) ∷ []) }
 {
@@ -29,7 +45,6 @@ fn account_refusal(account: &Tumbler) -> Option<Refusal>
 }
 
 impl FlatWorld {
-    ghost use Rattle.febe_data.specs.Plain.{plain_request};
     ghost use Rattle.flat_world.specs.Refusals.{wanted};
     ghost use Rattle.flat_world.specs.Served.{IsServedAs, IsValidServed};
 
@@ -47,10 +62,13 @@ impl FlatWorld {
             Request::Create => self.create_refusal(session, limits),
             Request::Quit => None,
             Request::Account { account } => account_refusal(account),
+            // The others are not answered yet.
+            _ => None,
         }
     }
 
     /// What a request that nothing refuses changes, or what it is answered. The world stays as it is.
+    /// It is one of the five kinds of requests that are answered today.
     pub fn serve(
         &self,
         alloc: Global,
@@ -58,7 +76,8 @@ impl FlatWorld {
         request: &Request,
         limits: &Limits,
     ) -> Result<Served, Memory>
-        requires { wanted limits.now self.now.counted self.now.world session (plain_request request.now) ≡ None }
+        requires small { IsSmall (plain_request request.now) }
+        requires allowed { wanted limits.now self.now.counted self.now.world session (plain_request request.now) ≡ None }
         ensures served { IfOk result (IsServedAs self.now.world session (plain_request request.now)) }
         ensures valid { IfOk result IsValidServed }
         ensures quit { request.now ≡ Request.Quit → IsOk result }
@@ -87,6 +106,7 @@ impl FlatWorld {
                 },
                 reply: Reply::AccountSet,
             })),
+            _ => unreachable!(),
         }
     }
 }

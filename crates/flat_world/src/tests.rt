@@ -59,7 +59,7 @@ fn add(alloc: Global, world: &mut FlatWorld, session: u64, change: Change) -> Re
     world.apply(alloc, &entry)
 }
 
-/// Serves the request, or gives its refusal.
+/// Serves the request, which is of a kind that is answered, or gives its refusal.
 fn ask_within(
     alloc: Global,
     world: &mut FlatWorld,
@@ -69,6 +69,9 @@ fn ask_within(
 ) -> Result<Reply, Memory> {
     if let Some(refusal) = world.refusal(session, request, limits) {
         return Ok(Reply::Refused(refusal));
+    }
+    if !is_small(request) {
+        return Err(Memory);
     }
     match world.serve(alloc, session, request, limits)? {
         Served::Answered(reply) => Ok(reply),
@@ -129,7 +132,7 @@ fn inserts(
     text: &[u8],
 ) -> Result<(), Fail> {
     let request = insertion(alloc, document, &[1, n], text)?;
-    let Reply::Inserted = ask(alloc, world, 1, &request)? else {
+    let Reply::Inserted = &ask(alloc, world, 1, &request)? else {
         panic!(rt; "nothing was inserted");
     };
     Ok(())
@@ -143,7 +146,7 @@ fn makes(
     session: u64,
     document: &[u32],
 ) -> Result<(), Fail> {
-    let Reply::Created(made) = ask(alloc, world, session, &Request::Create)? else {
+    let Reply::Created(made) = &ask(alloc, world, session, &Request::Create)? else {
         panic!(rt; "no document was made");
     };
     assert_eq!(rt; made.places(), document);
@@ -157,8 +160,8 @@ fn refusal_of(
     request: &Request,
     limits: &Limits,
 ) -> Result<Option<Refusal>, Memory> {
-    match ask_within(alloc, world, session, request, limits)? {
-        Reply::Refused(refusal) => Ok(Some(refusal)),
+    match &ask_within(alloc, world, session, request, limits)? {
+        Reply::Refused(refusal) => Ok(Some(refusal.copy())),
         _ => Ok(None),
     }
 }
@@ -417,7 +420,7 @@ fn sessions_that_end(rt: HostRuntime) -> Result<(), Fail> {
     let mut world = with_hello(&rt, alloc)?;
     settle(alloc, &mut world, 2)?;
     makes(&rt, alloc, &mut world, 2, &SECOND)?;
-    let Reply::Quit = ask(alloc, &mut world, 2, &Request::Quit)? else {
+    let Reply::Quit = &ask(alloc, &mut world, 2, &Request::Quit)? else {
         panic!(rt; "it did not end");
     };
     let second = whole(alloc, &SECOND)?;

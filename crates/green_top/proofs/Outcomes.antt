@@ -4,7 +4,7 @@ use Rattle.std.specs.Io.KnownBytes.{Consumes}
 use Rattle.std.proofs.lemmas.List.{append-nil}
 use Rattle.febe_data.specs.LimitsView.{standard_limits}
 use Rattle.febe_data.specs.Plain.{PlainRequest, PlainEntry}
-use Rattle.febe_wire.specs.Grammar.{IsSmallSession}
+use Rattle.green_top.specs.SmallSession.{IsSmallSession}
 use Rattle.flat_world.specs.Apply.{is_live, entries_of}
 use Rattle.green_top.specs.declared.status.Status.{Status}
 use Rattle.green_top.specs.declared.status.Status.TheVariants.{Done, Usage, Malformed, ReadFault, WriteFault, Memory, Budget}

@@ -15,11 +15,8 @@ use Rattle.green_top.specs.Session.{state_of, Steps, IsMade, LeavesLive}
 use Rattle.green_top.proofs.Histories.{is_live-push}
 
 pub not_quit : (request : Request) → (request ≡ requests.Quit → ⊥) → plain_request request ≡ quit → ⊥
-not_quit (requests.Insert document at text) n e = cc
-not_quit (requests.Retrieve specs) n e = cc
-not_quit requests.Create n e = cc
 not_quit requests.Quit n e = n refl
-not_quit (requests.Account account) n e = cc
+not_quit other n e = cc
 
 -- what an effect has, told by cases on the request
 pub Leaves : Effect → Type 0
@@ -39,6 +36,7 @@ leaves_live world session (retrieve specs) made n e = absurd cc
 leaves_live world session create made n e = along _ made e (λ serial. refl)
 leaves_live world session quit made n e = absurd (n refl)
 leaves_live world session (set_account account) made n e = along _ made e (λ serial. refl)
+leaves_live world session other made n e = absurd cc
 
 pub stays : (world : World) (session : ℕ) (request : PlainRequest) (made : Effect) → request ≢ quit → effect world session request ≡ Some made → LeavesLive made.change
 unfolding Leaves

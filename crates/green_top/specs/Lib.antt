@@ -1,3 +1,4 @@
+pub mod SmallSession
 pub mod Session
 pub mod IsStore
 pub mod Transcript

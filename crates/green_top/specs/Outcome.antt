@@ -4,8 +4,7 @@ use Rattle.std.specs.Io.KnownBytes.{Consumes, Appends, IsAtEnd}
 use Rattle.green_io.specs.Outside.{HasRisen}
 use Rattle.febe_data.specs.LimitsView.{standard_limits}
 use Rattle.febe_data.specs.Plain.{PlainRequest, PlainEntry}
-use Rattle.febe_wire.specs.Grammar.{IsSmallSession}
-use Rattle.febe_wire.specs.Found.{IsNoSession}
+use Rattle.green_top.specs.SmallSession.{IsSmallSession, IsNoSession}
 use Rattle.flat_world.specs.World.{empty_world}
 use Rattle.flat_world.specs.Laws.{AllPlaced}
 use Rattle.flat_world.specs.Apply.{is_live, entries_of}

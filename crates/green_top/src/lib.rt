@@ -3,6 +3,7 @@
 
 mod batch;
 mod exchange;
+mod input;
 mod outside;
 mod report;
 mod status;

@@ -36,6 +36,7 @@ impl Model for Store {
 #[tactic(auto, using(crate::proofs::Histories::histories))]
 impl Store {
     ghost use Rattle.febe_data.specs.Plain.{plain_request, plain_reply, plain_change, plain_history, ended};
+    ghost use Rattle.flat_world.specs.Small.{IsSmall};
     ghost use Rattle.flat_world.specs.PlainEffect.{plain_effect};
     ghost use Rattle.flat_world.specs.Apply.{is_live, entries_of};
     ghost use Rattle.green_top.specs.Session.{restart_entry, begin_entry, end_entry, Steps, IsMade, LeavesLive};
@@ -101,9 +102,10 @@ impl Store {
         self.live = false;
     }
 
-    /// Answers a request of the session, by a legal step. Only a quit ends the session.
+    /// Answers a request of the session, of a kind that is answered today, by a legal step. Only a quit ends the session.
     pub(crate) fn ask(&mut self, alloc: Global, request: &Request, limits: &Limits) -> Reply
-        requires { is_live self.old.history 1 ≡ true }
+        requires live { is_live self.old.history 1 ≡ true }
+        requires small { IsSmall (plain_request request.now) }
         ensures valid { IsReply (plain_reply result) }
         ensures step { Steps limits.now 1 self.old.history (plain_request request.now) (plain_reply result) self.new.history false }
         ensures stays { request.now ≢ Request.Quit → is_live self.new.history 1 ≡ true }

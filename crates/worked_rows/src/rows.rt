@@ -25,8 +25,16 @@ enum Kind {
     Begin,
     End,
     Account,
+    Open,
+    Close,
     Create,
+    Version,
+    OpenCopy,
     Insert,
+    Delete,
+    Rearrange,
+    Copy,
+    Link,
 }
 
 /// A kind, a session and a serial.
@@ -42,8 +50,16 @@ fn kind_of(change: &Change) -> Kind {
         Change::Begin => Kind::Begin,
         Change::End => Kind::End,
         Change::Account { .. } => Kind::Account,
+        Change::Open { .. } => Kind::Open,
+        Change::Close { .. } => Kind::Close,
         Change::Create { .. } => Kind::Create,
+        Change::Version { .. } => Kind::Version,
+        Change::OpenCopy { .. } => Kind::OpenCopy,
         Change::Insert { .. } => Kind::Insert,
+        Change::Delete { .. } => Kind::Delete,
+        Change::Rearrange { .. } => Kind::Rearrange,
+        Change::Copy { .. } => Kind::Copy,
+        Change::Link { .. } => Kind::Link,
     }
 }
 
@@ -209,6 +225,7 @@ fn sessions_beside_their_answers(rt: HostRuntime) -> Result<(), Fail> {
             "P0~ 34~0.1.1.0.1~ 11~ 0~0.1.1.0.1.0.1~0.1.1~t0:",
             "P0~ 34~ 11~0.1.1.0.1.0.1~ 0~",
         ),
+        ("P0~ 16~ 13~0.1.1.0.1.0.1~ 5~0~", "P0~ 16~"),
     ] {
         check_row(&rt, rt.alloc(), input, output, 0)?;
     }
@@ -349,7 +366,7 @@ fn a_sink_fails_midway(rt: HostRuntime) -> Result<(), Fail> {
     Ok(())
 }
 
-/// Inputs that are no session.
+/// Inputs that are no session of requests that are answered today.
 const MALFORMED: &[&str] = &[
     // greetings
     "P",
@@ -448,6 +465,32 @@ const MALFORMED: &[&str] = &[
     "P0~ 5~2~0.1.1.0.1.0.1~1~0.1.1~1.5~0.1.1.0.1.0.1~1~0.1.1~1.5~",
     "P0~ 5~01~0.1.1.0.1.0.1~1~0.1.1~1.5~",
     "P0~ 5~1~0.1.1.0.1.0.1~01~0.1.1~1.5~",
+    // whole requests that are not answered today
+    "P0~ 1~0.1.1.0.1.0.1~ 16~",
+    "P0~ 2~0.1.1.0.1.0.1~0.1.1~1~0.1.1.0.1.0.1~1~0.1.1~1.5~ 16~",
+    "P0~ 3~0.1.1.0.1.0.1~3~0.1.1~0.1.2~0.1.3~ 16~",
+    "P0~ 10~0.1.1.0.1.0.1~1~0.1.1~1.5~0.1.1.0.1.0.1~1~0.1.1~1.5~ 16~",
+    "P0~ 12~0.1.1.0.1.0.1~0.1.1~1.5~ 16~",
+    "P0~ 13~0.1.1~ 16~",
+    "P0~ 13~0.1.1.0.1.0.1~ 16~",
+    "P0~ 14~0.1.1.0.1.0.1~ 16~",
+    "P0~ 18~0.1.1.0.1.0.1.0.2.1~1~ 16~",
+    "P0~ 22~1~0.1.1.0.1.0.1~1~0.1.1~1.5~ 16~",
+    "P0~ 27~0.1.1.0.1.0.1~0~0~0~ 16~",
+    "P0~ 28~0~ 16~",
+    "P0~ 29~0~0~0~0~ 16~",
+    "P0~ 30~0~0~0~0~ 16~",
+    "P0~ 31~0~0~0~0~0~1~ 16~",
+    "P0~ 35~0.1.1.0.1.0.1~1~1~ 16~",
+    "P0~ 36~0.1.1.0.1.0.1~ 16~",
+    "P0~ 34~0.1.1.0.1~ 11~ 13~0.1.1.0.1.0.1~ 16~",
+    // whole retrieves of other than one span
+    "P0~ 5~0~ 16~",
+    "P0~ 5~1~0.1.1.0.1.0.1~0~ 16~",
+    "P0~ 5~1~0.1.1.0.1.0.1~2~0.1.1~1.5~0.1.1~1.5~ 16~",
+    "P0~ 5~2~0.1.1.0.1.0.1~0~0.1.1.0.1.0.1~1~0.1.1~1.5~ 16~",
+    "P0~ 5~2~0.1.1.0.1.0.1~1~0.1.1~1.5~0.1.1.0.1.0.1~1~0.1.1~1.5~ 16~",
+    "P0~ 34~0.1.1.0.1~ 11~ 5~0~ 16~",
     // bytes behind a request that is no quit
     "P0~ 11~ x",
     "P0~ 11~\n",

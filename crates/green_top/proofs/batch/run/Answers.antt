@@ -1,7 +1,6 @@
 use Rattle.std.proofs.Common.{length, ◌==◌, false, ◌≡◌, List, ℕ, [], map, refl, ◌∙◌, ap, subst}
 use Rattle.febe_data.specs.Plain.{plain_request}
-use Rattle.febe_wire.specs.Grammar.{IsSmallSession}
-use Rattle.febe_wire.specs.Found.{IsNoSession}
+use Rattle.green_top.specs.SmallSession.{IsSmallSession, IsNoSession}
 use Rattle.green_top.proofs.Fronts.{appends_nothing}
 use Rattle.green_top.proofs.Outcomes.{run_of_session}
 use Rattle.green_top.proofs.batch.run.Goals as goal

@@ -22,8 +22,8 @@ returns-in-Ok-Changed c =
     let asks = not_quit c.args.request.now c.in_default.not-Quit in
     record {
       valid = c.make.ensures.valid;
-      step = step_changed limits h request c.requires (plain_effect c.in-Ok-Changed.made) _ _ given asks made c.make.ensures.made;
-      stays = λ n. stays_live h (state_of h).world request (plain_effect c.in-Ok-Changed.made) _ _ c.requires asks made c.make.ensures.made;
+      step = step_changed limits h request c.requires.live (plain_effect c.in-Ok-Changed.made) _ _ given asks made c.make.ensures.made;
+      stays = λ n. stays_live h (state_of h).world request (plain_effect c.in-Ok-Changed.made) _ _ c.requires.live asks made c.make.ensures.made;
       quits = λ e. absurd (c.in_default.not-Quit e);
     }
 
@@ -37,7 +37,7 @@ returns-in-Ok-Answered c =
     let served = rw c.in-Ok-Answered.field-0-is at c.in-Ok-Answered.ensures.served in
     record {
       valid = rw c.in-Ok-Answered.field-0-is at c.in-Ok-Answered.ensures.valid;
-      step = step_answered limits h request c.requires _ given (ap (λ (v : FlatView). effect v.world 1 request) (sym world) ∙ served.0) (served.1 ∙ ap (λ (v : FlatView). answer v.world request) world);
-      stays = λ n. c.requires;
+      step = step_answered limits h request c.requires.live _ given (ap (λ (v : FlatView). effect v.world 1 request) (sym world) ∙ served.0) (served.1 ∙ ap (λ (v : FlatView). answer v.world request) world);
+      stays = λ n. c.requires.live;
       quits = λ e. absurd (c.in_default.not-Quit e);
     }

@@ -1,0 +1,51 @@
+//! Runs of content, and where two documents share it.
+ghost use Rattle.std.specs.Prelude.{◌≡◌};
+
+use tumbler::Tumbler;
+
+/// Bytes that follow each other in one document's content.
+#[derive(Debug, Drop)]
+pub struct Run {
+    /// The document through which the run was picked.
+    pub origin: Tumbler,
+    /// The document whose content it is.
+    pub content: Tumbler,
+    /// The number of the first byte, from 1.
+    pub first: u32,
+    /// The number of bytes, 1 or more.
+    pub length: u32,
+}
+
+impl Run {
+    /// The same run.
+    pub fn copy(&self) -> Run
+        ensures { result ≡ self.now }
+    {
+        Run {
+            origin: self.origin.copy(),
+            content: self.content.copy(),
+            first: self.first,
+            length: self.length,
+        }
+    }
+}
+
+/// Text positions of two documents that follow each other and have the same content, pair by pair.
+#[derive(Clone, Copy, Debug, PartialEq, Eq)]
+pub struct Diagonal {
+    /// The first position on the left: the x of the V-address `1.x`.
+    pub left: u32,
+    /// The first position on the right.
+    pub right: u32,
+    /// The number of pairs.
+    pub length: u32,
+}
+
+impl Diagonal {
+    /// The same diagonal.
+    pub fn copy(&self) -> Diagonal
+        ensures { result ≡ self.now }
+    {
+        *self
+    }
+}

@@ -1,0 +1,13 @@
+pub mod FieldLaws
+pub mod ListLaws
+pub mod Loop
+pub mod ManyLoop
+pub mod Scans
+pub mod NumberScans
+pub mod TumblerScans
+pub mod TumblersAgain
+pub mod FieldScans
+pub mod FieldsTaken
+pub mod FieldsAgain
+pub mod Live
+pub mod Passing

@@ -1,0 +1,10 @@
+pub use Rattle.febe_data.specs.Plain
+pub use Rattle.febe_data.specs.Parts
+pub use Rattle.febe_data.specs.Spelling
+pub use Rattle.febe_data.specs.Validity
+pub mod Prefixes
+pub mod Reading
+pub mod Leaves
+pub mod Scanning
+pub mod Machine
+pub mod Fields
