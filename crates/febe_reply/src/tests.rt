@@ -4,6 +4,8 @@ ghost use Rattle.tumbler.specs.Places.{IsTumbler};
 ghost use Rattle.febe_data.specs.Plain.{plain_reply, plain_spec, plain_specs};
 ghost use Rattle.febe_data.specs.Validity.{IsText, IsSpan, IsSpec, IsSpecSet, IsList, IsReply};
 
+mod reading;
+
 use super::write_reply;
 use febe_data::{Diagonal, Item, List, Memory, Refusal, Reply, Span, Spec, Text, Tumbler};
 use std::alloc::Global;

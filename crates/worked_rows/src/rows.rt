@@ -2,8 +2,8 @@
 //!
 //! The spaces in a row part its requests, and are no bytes of it.
 
-use crate::fakes::{FakeSink, FakeSource};
-use febe_data::Change;
+use febe_data::{Change, List};
+use green_fakes::{MemorySink, MemorySource};
 use green_io::{ReadAnswer, Source};
 use green_top::{MOST_INPUT, Report, run_batch};
 use std::alloc::{AllocError, Global};
@@ -96,16 +96,16 @@ fn filled(alloc: Global, row: &str, len: usize) -> Result<Text, Memory> {
 #[derive(Drop)]
 struct Ran {
     status: u8,
-    source: FakeSource,
-    sink: FakeSink,
+    source: MemorySource,
+    sink: MemorySink,
     report: Report,
 }
 
 fn run(
     alloc: Global,
     words: &[&str],
-    mut source: FakeSource,
-    mut sink: FakeSink,
+    mut source: MemorySource,
+    mut sink: MemorySink,
 ) -> Result<Ran, AllocError> {
     let mut owned = Vec::new(alloc);
     for word in words {
@@ -121,10 +121,32 @@ fn run(
     })
 }
 
+/// A source of these bytes. A read gives at most `piece` of them, or all where there is none, and fails where its
+/// number is listed.
+fn source_of(
+    alloc: Global,
+    bytes: Text,
+    piece: Option<u32>,
+    failing: &[u64],
+) -> Result<MemorySource, Memory> {
+    let mut pieces = List::new(alloc);
+    if let Some(piece) = piece {
+        for _ in 0..bytes.len() {
+            pieces.push(piece)?;
+        }
+    }
+    Ok(MemorySource::new(bytes, pieces, List::from_slice(alloc, failing)?))
+}
+
+/// A sink of which a write fails where its number is listed.
+fn sink_of(alloc: Global, failing: &[u64]) -> Result<MemorySink, Memory> {
+    Ok(MemorySink::new(alloc, List::from_slice(alloc, failing)?))
+}
+
 /// Runs these bytes, of which a read gives at most `piece`.
-fn run_bytes(alloc: Global, bytes: Text, piece: usize) -> Result<Ran, AllocError> {
-    let source = FakeSource::new(bytes, piece, 0);
-    run(alloc, WORDS, source, FakeSink::new(alloc, None, 0))
+fn run_bytes(alloc: Global, bytes: Text, piece: Option<u32>) -> Result<Ran, Fail> {
+    let source = source_of(alloc, bytes, piece, &[])?;
+    Ok(run(alloc, WORDS, source, sink_of(alloc, &[])?)?)
 }
 
 /// Runs the row on a source that gives all at once and on one that gives a byte at a time.
@@ -136,7 +158,7 @@ fn check_row(
     status: u8,
 ) -> Result<(), Fail> {
     let wanted = bytes_of(alloc, output)?;
-    for piece in [usize::MAX, 1] {
+    for piece in [None, Some(1)] {
         let ran = run_bytes(alloc, bytes_of(alloc, input)?, piece)?;
         assert_eq!(rt; ran.status, status, "at {input}");
         assert_eq!(rt; ran.sink.bytes(), wanted.as_slice(), "at {input}");
@@ -148,7 +170,7 @@ fn check_row(
 fn a_text_is_inserted_and_retrieved(rt: HostRuntime) -> Result<(), Fail> {
     let alloc = rt.alloc();
     let wanted = bytes_of(alloc, HELLO_ANSWERED)?;
-    for piece in [usize::MAX, 1] {
+    for piece in [None, Some(1)] {
         let bytes = bytes_of(alloc, HELLO)?;
         let len = bytes.len() as u64;
         let ran = run_bytes(alloc, bytes, piece)?;
@@ -174,7 +196,7 @@ fn a_text_is_inserted_and_retrieved(rt: HostRuntime) -> Result<(), Fail> {
 #[test]
 fn no_input_is_no_session(rt: HostRuntime) -> Result<(), Fail> {
     let alloc = rt.alloc();
-    let ran = run_bytes(alloc, Text::new(alloc), usize::MAX)?;
+    let ran = run_bytes(alloc, Text::new(alloc), None)?;
     assert_eq!(rt; ran.status, 0);
     assert!(rt; ran.sink.bytes().is_empty());
     assert_eq!(rt;
@@ -188,7 +210,7 @@ fn no_input_is_no_session(rt: HostRuntime) -> Result<(), Fail> {
 #[test]
 fn half_a_greeting_begins_no_session(rt: HostRuntime) -> Result<(), Fail> {
     let alloc = rt.alloc();
-    let ran = run_bytes(alloc, bytes_of(alloc, "P0")?, usize::MAX)?;
+    let ran = run_bytes(alloc, bytes_of(alloc, "P0")?, None)?;
     assert_eq!(rt; ran.status, 3);
     assert!(rt; ran.sink.bytes().is_empty());
     assert_eq!(rt;
@@ -201,7 +223,7 @@ fn half_a_greeting_begins_no_session(rt: HostRuntime) -> Result<(), Fail> {
 #[test]
 fn a_greeting_alone_is_a_session(rt: HostRuntime) -> Result<(), Fail> {
     let alloc = rt.alloc();
-    let ran = run_bytes(alloc, bytes_of(alloc, "P0~")?, usize::MAX)?;
+    let ran = run_bytes(alloc, bytes_of(alloc, "P0~")?, None)?;
     assert_eq!(rt; ran.status, 0);
     assert_eq!(rt; ran.sink.bytes(), b"P0~".as_slice());
     let marks = [RESTART, BEGIN, (Kind::End, 1, 2)];
@@ -238,7 +260,7 @@ fn bytes_behind_a_quit_are_not_judged(rt: HostRuntime) -> Result<(), Fail> {
     let wanted = bytes_of(alloc, HELLO_ANSWERED)?;
     let mut input = bytes_of(alloc, HELLO)?;
     input.extend_from_slice(b"garbage")?;
-    let ran = run_bytes(alloc, input, usize::MAX)?;
+    let ran = run_bytes(alloc, input, None)?;
     assert_eq!(rt; ran.status, 0);
     assert_eq!(rt; ran.sink.bytes(), wanted.as_slice());
     Ok(())
@@ -269,11 +291,11 @@ fn the_longest_inputs_are_answered(rt: HostRuntime) -> Result<(), Fail> {
     let alloc = rt.alloc();
     assert_eq!(rt; MOST_INPUT, 1_048_576);
     let refused = "P0~ 0~0.1.1.0.1.0.1~0.1.1~t1048542:";
-    let ran = run_bytes(alloc, filled(alloc, refused, 1_048_576)?, usize::MAX)?;
+    let ran = run_bytes(alloc, filled(alloc, refused, 1_048_576)?, None)?;
     assert_eq!(rt; ran.status, 0);
     assert_eq!(rt; ran.sink.bytes(), b"P0~?2~".as_slice());
     let wanted = bytes_of(alloc, HELLO_ANSWERED)?;
-    let ran = run_bytes(alloc, filled(alloc, HELLO, 1_048_576)?, usize::MAX)?;
+    let ran = run_bytes(alloc, filled(alloc, HELLO, 1_048_576)?, None)?;
     assert_eq!(rt; ran.status, 0);
     assert_eq!(rt; ran.sink.bytes(), wanted.as_slice());
     Ok(())
@@ -284,7 +306,7 @@ fn one_byte_more_is_too_long(rt: HostRuntime) -> Result<(), Fail> {
     let alloc = rt.alloc();
     for front in ["", "P0~", HELLO, "P0~ 0~0.1.1.0.1.0.1~0.1.1~t1048543:"] {
         let input = filled(alloc, front, 1_048_577)?;
-        let ran = run_bytes(alloc, input, usize::MAX)?;
+        let ran = run_bytes(alloc, input, None)?;
         assert_eq!(rt; ran.status, 10, "at {front}");
         assert!(rt; ran.sink.bytes().is_empty(), "at {front}");
     }
@@ -301,8 +323,8 @@ fn wrong_words_read_and_write_nothing(rt: HostRuntime) -> Result<(), Fail> {
         &["green_batch", ".", "."],
     ];
     for words in wrong {
-        let source = FakeSource::new(bytes_of(alloc, "P0~16~")?, usize::MAX, 0);
-        let mut ran = run(alloc, words, source, FakeSink::new(alloc, None, 0))?;
+        let source = source_of(alloc, bytes_of(alloc, "P0~16~")?, None, &[])?;
+        let mut ran = run(alloc, words, source, sink_of(alloc, &[])?)?;
         assert_eq!(rt; ran.status, 2, "at {words:?}");
         assert!(rt; ran.sink.bytes().is_empty(), "at {words:?}");
         assert!(rt; ran.report.history.is_empty(), "at {words:?}");
@@ -323,8 +345,8 @@ fn wrong_words_read_and_write_nothing(rt: HostRuntime) -> Result<(), Fail> {
 fn a_source_fails(rt: HostRuntime) -> Result<(), Fail> {
     let alloc = rt.alloc();
     for failing in [1, 2] {
-        let source = FakeSource::new(bytes_of(alloc, HELLO)?, 3, failing);
-        let ran = run(alloc, WORDS, source, FakeSink::new(alloc, None, 0))?;
+        let source = source_of(alloc, bytes_of(alloc, HELLO)?, Some(3), &[failing])?;
+        let ran = run(alloc, WORDS, source, sink_of(alloc, &[])?)?;
         assert_eq!(rt; ran.status, 5, "at {failing}");
         assert!(rt; ran.sink.bytes().is_empty(), "at {failing}");
         assert_eq!(rt;
@@ -338,8 +360,8 @@ fn a_source_fails(rt: HostRuntime) -> Result<(), Fail> {
 #[test]
 fn a_sink_fails_at_once(rt: HostRuntime) -> Result<(), Fail> {
     let alloc = rt.alloc();
-    let source = FakeSource::new(bytes_of(alloc, HELLO)?, usize::MAX, 0);
-    let ran = run(alloc, WORDS, source, FakeSink::new(alloc, None, 1))?;
+    let source = source_of(alloc, bytes_of(alloc, HELLO)?, None, &[])?;
+    let ran = run(alloc, WORDS, source, sink_of(alloc, &[1])?)?;
     assert_eq!(rt; ran.status, 6);
     assert!(rt; ran.sink.bytes().is_empty());
     Ok(())
@@ -349,19 +371,19 @@ fn a_sink_fails_at_once(rt: HostRuntime) -> Result<(), Fail> {
 fn a_sink_fails_midway(rt: HostRuntime) -> Result<(), Fail> {
     let alloc = rt.alloc();
     let whole = bytes_of(alloc, HELLO_ANSWERED)?;
-    for piece in [None, Some(1), Some(2), Some(3)] {
-        let source = FakeSource::new(bytes_of(alloc, HELLO)?, usize::MAX, 0);
-        let ran = run(alloc, WORDS, source, FakeSink::new(alloc, piece, 3))?;
-        assert_eq!(rt; ran.status, 6, "at {piece:?}");
+    for failing in [2, 3, 4, 5] {
+        let source = source_of(alloc, bytes_of(alloc, HELLO)?, None, &[])?;
+        let ran = run(alloc, WORDS, source, sink_of(alloc, &[failing])?)?;
+        assert_eq!(rt; ran.status, 6, "at {failing}");
         assert!(rt;
             whole.as_slice().starts_with(ran.sink.bytes()),
-            "at {piece:?}"
+            "at {failing}"
         );
-        assert_ne!(rt; ran.sink.bytes().len(), whole.len(), "at {piece:?}");
+        assert_ne!(rt; ran.sink.bytes().len(), whole.len(), "at {failing}");
         let marks = marks_of(alloc, &ran.report)?;
         let (kind, session, _) = *marks.last().ok_or("no entry")?;
-        assert_eq!(rt; kind, Kind::End, "at {piece:?}");
-        assert_eq!(rt; session, 1, "at {piece:?}");
+        assert_eq!(rt; kind, Kind::End, "at {failing}");
+        assert_eq!(rt; session, 1, "at {failing}");
     }
     Ok(())
 }

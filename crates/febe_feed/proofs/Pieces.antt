@@ -1,0 +1,96 @@
+-- What a feed has given is told by the stream.
+use Rattle.std.proofs.Common.{◌≡◌, ℕ, ◌+◌, Bool, true, List, [], ◌∷◌, ◌++◌, length, take, drop, refl, sym, ap, ◌∙◌, append_assoc, arith}
+use Rattle.std.specs.List.{flat_map, AllByRecursion}
+use Rattle.std.proofs.lemmas.List.{append-nil, append_cancel_left, length-append, length-take-le, take_at, take-append-drop}
+use Rattle.std.proofs.lemmas.List.Concat.{flat_map-append}
+use Rattle.febe_data.specs.Plain.{PlainRequest}
+use Rattle.febe_data.specs.Validity.{IsRequest}
+use Rattle.febe_fields.specs.Prefixes.{BeginsWithNone}
+use Rattle.febe_wire.specs.Grammar.{spell_request, IsSpelled}
+use Rattle.febe_wire.specs.Sessions.{greeting}
+use Rattle.febe_wire.proofs.RequestLaws.{same_request}
+use Rattle.febe_feed.specs.FeedView.{FeedView, later, Greets, Gives}
+use Rattle.febe_feed.specs.Pieces.{HasGiven, AnyPieces, GivesOn}
+
+abbrev spell_all : List PlainRequest → List ℕ
+spell_all rs = flat_map spell_request rs
+
+-- bytes that begin with a request do not begin with none
+begins : (bytes more : List ℕ) (r : PlainRequest) → IsRequest r → bytes ≡ spell_request r ++ more → BeginsWithNone IsSpelled bytes → ⊥
+begins bytes more r valid e none =
+    let front : take (length (spell_request r)) bytes ≡ spell_request r = ap (take (length (spell_request r))) e ∙ take_at (spell_request r) more (length (spell_request r)) refl in
+    none (length (spell_request r)) (omega (arith, ap length e, length-append (spell_request r) more)) (record { request = r; spells = record { valid = valid; spelled = front } })
+
+same_given : (rs ss : List PlainRequest) (x y : List ℕ) → AllByRecursion IsRequest rs → AllByRecursion IsRequest ss → spell_all rs ++ x ≡ spell_all ss ++ y → BeginsWithNone IsSpelled x → BeginsWithNone IsSpelled y → (rs ≡ ss) × (x ≡ y)
+same_given [] [] x y h g e none-x none-y = (refl, e)
+same_given [] (s ∷ ss) x y h g e none-x none-y = absurd (begins x (spell_all ss ++ y) s g.0 (e ∙ append_assoc (spell_request s) (spell_all ss) y) none-x)
+same_given (r ∷ rs) [] x y h g e none-x none-y = absurd (begins y (spell_all rs ++ x) r h.0 (sym e ∙ append_assoc (spell_request r) (spell_all rs) x) none-y)
+same_given (r ∷ rs) (s ∷ ss) x y h g e none-x none-y =
+    let whole : spell_request r ++ (spell_all rs ++ x) ≡ spell_request s ++ (spell_all ss ++ y) = sym (append_assoc (spell_request r) (spell_all rs) x) ∙ e ∙ append_assoc (spell_request s) (spell_all ss) y in
+    let same = same_request r s (spell_all rs ++ x) (spell_all ss ++ y) h.0 g.0 whole in
+    let on = same_given rs ss x y h.1 g.1 same.behind none-x none-y in
+    (ap (λ (q : PlainRequest). q ∷ rs) same.request ∙ ap (λ (qs : List PlainRequest). s ∷ qs) on.0, on.1)
+
+-- the stream behind the greeting
+behind_greeting : (stream : List ℕ) (rs : List PlainRequest) (feed : FeedView) → HasGiven stream rs feed → feed.greeted ≡ true → stream ≡ greeting ++ (spell_all rs ++ feed.held)
+behind_greeting stream rs feed h greeted =
+    let parts : stream ≡ (greeting ++ spell_all rs) ++ feed.held = rw greeted at h.parts in
+    parts ∙ append_assoc greeting (spell_all rs) feed.held
+
+place_of : (stream : List ℕ) (rs : List PlainRequest) (feed : FeedView) → HasGiven stream rs feed → feed.greeted ≡ true → feed.offset ≡ later 0 (length (greeting ++ spell_all rs))
+place_of stream rs feed h greeted = rw greeted at h.place
+
+same_view : (one other : FeedView) → one.greeted ≡ other.greeted → one.held ≡ other.held → one.offset ≡ other.offset → one ≡ other
+same_view one other e f g =
+    ap (λ (b : Bool). record { greeted = b; held = one.held; offset = one.offset }) e
+    ∙ ap (λ (bytes : List ℕ). record { greeted = other.greeted; held = bytes; offset = one.offset }) f
+    ∙ ap (λ (n : ℕ). record { greeted = other.greeted; held = other.held; offset = n }) g
+
+pub any_pieces : AnyPieces
+any_pieces stream rs ss one other h g greeted-one greeted-other none-one none-other =
+    let e : spell_all rs ++ one.held ≡ spell_all ss ++ other.held = append_cancel_left greeting (spell_all rs ++ one.held) (spell_all ss ++ other.held) (sym (behind_greeting stream rs one h greeted-one) ∙ behind_greeting stream ss other g greeted-other) in
+    let same = same_given rs ss one.held other.held h.valid g.valid e none-one none-other in
+    let place : one.offset ≡ other.offset = place_of stream rs one h greeted-one ∙ ap (λ (qs : List PlainRequest). later 0 (length (greeting ++ spell_all qs))) same.0 ∙ sym (place_of stream ss other g greeted-other) in
+    (same.0, same_view one other (greeted-one ∙ sym greeted-other) same.1 place)
+
+-- ---- what comes next
+
+all_push : (rs : List PlainRequest) (r : PlainRequest) → AllByRecursion IsRequest rs → IsRequest r → AllByRecursion IsRequest (rs ++ r ∷ [])
+all_push [] r h p = (p, tt)
+all_push (q ∷ rs) r h p = (h.0, all_push rs r h.1 p)
+
+spelled_push : (rs : List PlainRequest) (r : PlainRequest) → spell_all (rs ++ r ∷ []) ≡ spell_all rs ++ spell_request r
+spelled_push rs r = flat_map-append spell_request rs (r ∷ []) ∙ ap (λ (ds : List ℕ). spell_all rs ++ ds) (append-nil (spell_request r))
+
+greeted_given : (stream : List ℕ) (rs : List PlainRequest) (before after : FeedView) → HasGiven stream rs before → Greets before after → HasGiven stream [] after
+greeted_given stream rs before after h g =
+    let held : stream ≡ before.held = rw g.first at h.parts in
+    let place : before.offset ≡ later 0 0 = rw g.first at h.place in
+    let parts : stream ≡ (greeting ++ []) ++ after.held = held ∙ g.front in
+    let now : after.offset ≡ later 0 3 = g.offset ∙ ap (λ (n : ℕ). later n 3) place ∙ omega arith in
+    record {
+      parts = rw g.greeted parts;
+      valid = tt;
+      none = λ e. refl;
+      place = rw g.greeted now;
+    }
+
+request_given : (stream : List ℕ) (rs : List PlainRequest) (before after : FeedView) → HasGiven stream rs before → (r : PlainRequest) → Gives before after r → HasGiven stream (rs ++ r ∷ []) after
+request_given stream rs before after h r g =
+    let front : before.held ≡ spell_request r ++ drop g.used before.held = sym (take-append-drop g.used before.held) ∙ ap (λ (ds : List ℕ). ds ++ drop g.used before.held) g.read.spells.spelled in
+    let used : length (spell_request r) ≡ g.used = sym (ap length g.read.spells.spelled) ∙ length-take-le g.used before.held g.read.within in
+    let whole : stream ≡ greeting ++ (spell_all rs ++ (spell_request r ++ drop g.used before.held)) = behind_greeting stream rs before h g.greeted ∙ ap (λ (ds : List ℕ). greeting ++ (spell_all rs ++ ds)) front in
+    let regrouped : greeting ++ (spell_all rs ++ (spell_request r ++ drop g.used before.held)) ≡ (greeting ++ spell_all (rs ++ r ∷ [])) ++ drop g.used before.held =
+    ap (λ (ds : List ℕ). greeting ++ ds) (sym (append_assoc (spell_all rs) (spell_request r) (drop g.used before.held)) ∙ ap (λ (ds : List ℕ). ds ++ drop g.used before.held) (sym (spelled_push rs r))) ∙ sym (append_assoc greeting (spell_all (rs ++ r ∷ [])) (drop g.used before.held)) in
+    let len : length (spell_all (rs ++ r ∷ [])) ≡ length (spell_all rs) + g.used = ap length (spelled_push rs r) ∙ length-append (spell_all rs) (spell_request r) ∙ ap (λ (n : ℕ). length (spell_all rs) + n) used in
+    let place : later before.offset g.used ≡ later 0 (length (greeting ++ spell_all (rs ++ r ∷ []))) =
+    ap (λ (n : ℕ). later n g.used) (place_of stream rs before h g.greeted) ∙ omega (arith, len, length-append greeting (spell_all rs), length-append greeting (spell_all (rs ++ r ∷ []))) in
+    rw g.after_is (record {
+      parts = whole ∙ regrouped;
+      valid = all_push rs r h.valid g.read.spells.valid;
+      none = λ e. absurd cc;
+      place = place;
+    })
+
+pub gives_on : GivesOn
+gives_on stream rs before after h = ((λ g. greeted_given stream rs before after h g), (λ r g. request_given stream rs before after h r g))

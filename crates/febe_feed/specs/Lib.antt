@@ -1,0 +1,9 @@
+pub use Rattle.febe_data.specs.Plain
+pub use Rattle.febe_wire.specs.Grammar
+pub use Rattle.febe_wire.specs.Reads
+pub use Rattle.febe_wire.specs.Sessions
+pub use Rattle.febe_fields.specs.Prefixes
+pub mod FeedView
+pub mod IsFeed
+pub mod Greetings
+pub mod Pieces

@@ -1,0 +1,5 @@
+mod CountScans
+mod ItemScans
+mod DiagonalScans
+mod ReplyLaws
+mod ReplyScans

@@ -1,0 +1,2 @@
+pub use Rattle.green_io.specs.Outside
+pub mod MemoryView

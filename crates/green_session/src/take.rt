@@ -1,0 +1,95 @@
+//! Reading requests from a source.
+ghost use Rattle.std.specs.Prelude.{◌≡◌, ◌≤◌, ◌+◌, ◌^◌, ◌-◌, min, ℕ};
+ghost use Rattle.green_session.specs.Taking.{TurnsView, IsTaken, ended};
+
+use febe_data::Request;
+use febe_feed::{Feed, Next};
+use green_io::{ReadAnswer, Source};
+use std::alloc::Global;
+use std::marker::Model;
+
+/// How many bytes may still be taken.
+#[derive(Clone, Copy, Debug, PartialEq, Eq)]
+pub struct Turns {
+    left: u64,
+}
+
+impl Model for Turns {
+    ghost Value = { TurnsView };
+
+    ghost view = { λ t. record { left = t.left } };
+
+    ghost inverse = { λ v. record { left = v.left } };
+}
+
+impl Turns {
+    /// So many bytes, and no read is made once as many were taken. The last read may take more.
+    pub fn new(limit: u64) -> Turns
+        ensures { result ≡ record { left = limit } }
+    {
+        Turns { left: limit }
+    }
+}
+
+/// What was taken from a source.
+#[derive(Debug, Drop)]
+pub enum Taken {
+    Greeting,
+    Request(Request),
+    /// The input ended before its first byte or between requests.
+    End,
+    /// The byte at this offset can't stand there.
+    Malformed { at: u64 },
+    /// The input ended within the greeting or a request, after so many bytes.
+    Truncated { at: u64 },
+    /// The source failed.
+    ReadFault,
+    /// There was no memory left.
+    Memory,
+    /// As many bytes as the turns allow were taken, or more, and another read is needed.
+    Budget,
+}
+
+/// Takes what comes next in the input, and reads the source as far as that needs.
+pub fn take_request<S: Source>(
+    alloc: Global,
+    source: &mut S,
+    feed: &mut Feed,
+    turns: &mut Turns,
+) -> Taken
+    ensures taken { IsTaken (S.left source.old) (S.left source.new) (S.fault_count source.old) (S.fault_count source.new) feed.old feed.new turns.old turns.new result }
+{
+    let mut piece = [0u8; 4096];
+    loop {
+        match feed.next(alloc) {
+            Ok(Next::NotYet) => {}
+            Ok(Next::Greeting) => return Taken::Greeting,
+            Ok(Next::Request(request)) => return Taken::Request(request),
+            Ok(Next::Bad { at }) => return Taken::Malformed { at },
+            Err(_) => return Taken::Memory,
+        }
+        if turns.left == 0 {
+            return Taken::Budget;
+        }
+        match source.read(&mut piece) {
+            ReadAnswer::Got(n) => {
+                turns.left = turns.left.saturating_sub(n as u64);
+                if feed.push(alloc, piece.split_at(n).0).is_err() {
+                    return Taken::Memory;
+                }
+            }
+            ReadAnswer::End => return ended(feed),
+            ReadAnswer::Failed => return Taken::ReadFault,
+        }
+    }
+}
+
+/// What came where the input has ended.
+fn ended(feed: &Feed) -> Taken
+    ensures { result ≡ ended feed.now }
+{
+    if feed.held() == 0 {
+        return Taken::End;
+    }
+    Taken::Truncated { at: feed.end() }
+}
