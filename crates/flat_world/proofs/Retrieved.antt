@@ -15,7 +15,8 @@ use Rattle.febe_data.specs.declared.reply.Item.{Item}
 use Rattle.febe_data.specs.declared.spec.Spec.{Spec}
 use Rattle.febe_data.specs.Plain.{PlainItem, PlainSpec, plain_item, plain_spec, bytes, link}
 use Rattle.flat_world.specs.declared.rows.Row.{Row}
-use Rattle.flat_world.specs.World.{World, is_text_of, is_link_of, is_within, picked_text, picked_links}
+use Rattle.flat_world.specs.World.{World, is_text_of, is_link_of}
+use Rattle.flat_world.specs.Picking.{is_within, picked_text, picked_links}
 use Rattle.flat_world.specs.Answers.{items_of_span, items_of, text_item}
 use Rattle.flat_world.specs.ByteIndex.{IsByteIndex, byte_of, bytes_of, item_of}
 use Rattle.flat_world.proofs.Sizes.{span_fits_at, spec_fits_at}

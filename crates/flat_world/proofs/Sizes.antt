@@ -10,7 +10,8 @@ use Rattle.tumbler.specs.Span.{end_of}
 use Rattle.febe_data.specs.declared.spec.Spec.{Spec}
 use Rattle.febe_data.specs.Plain.{PlainSpec, plain_spec}
 use Rattle.flat_world.specs.declared.rows.Row.{Row}
-use Rattle.flat_world.specs.World.{World, is_text_of, is_link_of, is_within, picks, picked_links}
+use Rattle.flat_world.specs.World.{World, is_text_of, is_link_of}
+use Rattle.flat_world.specs.Picking.{is_within, picks, picked_links}
 use Rattle.flat_world.specs.Refusals.{has_bad_span, total_of, span_bytes}
 use Rattle.flat_world.proofs.Specs.{list_any-map, sum_by-map}
 

@@ -10,10 +10,10 @@ use Rattle.std.proofs.lemmas.List.Elements.{filter_map-append, All-head, All-tai
 use Rattle.flat_world.specs.declared.rows.Row.{Row}
 use Rattle.flat_world.specs.declared.rows.ByteRow.{ByteRow}
 use Rattle.flat_world.specs.World.{is_same, content_address, byte_at}
-use Rattle.flat_world.specs.Apply.{new_rows, new_bytes, up_by}
+use Rattle.flat_world.specs.Edits.{new_rows, content_addresses, new_bytes, up_by}
 use Rattle.flat_world.specs.Laws.{text_rows, RetrieveAfterInsert}
-use Rattle.flat_world.proofs.TextRows.{same_itself}
-use Rattle.flat_world.proofs.Numbered.{inserts_rows}
+use Rattle.flat_world.proofs.RowsWith.{same_itself}
+use Rattle.flat_world.proofs.Inserted.{inserts_rows}
 
 -- the byte that was found so far, or the row's
 abbrev found_more : List ℕ → Option ℕ → ByteRow → Option ℕ
@@ -38,7 +38,7 @@ untouched document address first (b ∷ text) found none =
 
 -- ---- the new rows
 
-new_text : (bytes : List ByteRow) (document : List ℕ) (n first : ℕ) (text : List ℕ) → filter_map (λ (row : Row). byte_at (bytes ++ new_bytes document first text) row.address) (new_rows document n first text) ≡ text
+new_text : (bytes : List ByteRow) (document : List ℕ) (n first : ℕ) (text : List ℕ) → filter_map (λ (row : Row). byte_at (bytes ++ new_bytes document first text) row.address) (new_rows document n (content_addresses document first (length text))) ≡ text
 new_text bytes document n first [] = refl
 new_text bytes document n first (b ∷ text) =
     let address : List ℕ = content_address document first in
@@ -49,8 +49,8 @@ new_text bytes document n first (b ∷ text) =
     fold-append (found_more address) None bytes (here ∷ later)
     ∙ ap (λ (same : Bool). fold (found_more address) (cond same (Some b) (fold (found_more address) None bytes)) later) (same_itself address)
     ∙ untouched document address (first + 1) text (Some b) (λ i low high e. absurd (let same : first ≡ i = same_number document first i e in omega arith)) in
-    let rest : filter_map (λ (row : Row). byte_at (bytes ++ (here ∷ later)) row.address) (new_rows document (n + 1) (first + 1) text) ≡ text =
-    ap (λ (all : List ByteRow). filter_map (λ (row : Row). byte_at all row.address) (new_rows document (n + 1) (first + 1) text)) split
+    let rest : filter_map (λ (row : Row). byte_at (bytes ++ (here ∷ later)) row.address) (new_rows document (n + 1) (content_addresses document (first + 1) (length text))) ≡ text =
+    ap (λ (all : List ByteRow). filter_map (λ (row : Row). byte_at all row.address) (new_rows document (n + 1) (content_addresses document (first + 1) (length text)))) split
     ∙ new_text (bytes ++ here ∷ []) document (n + 1) (first + 1) text in
     λ i. cons_option (first_byte i) (rest i)
 
@@ -82,8 +82,8 @@ retrieve_after_insert world document at first text place none =
     let shown : Row → Option ℕ = λ row. byte_at (world.bytes ++ new_bytes document first text) row.address in
     let other : Row → Type 0 = λ row. IsNoneOf row.address document first k in
     ap (filter_map shown) (inserts_rows world document at first text place)
-    ∙ filter_map-append shown before (new_rows document at first text ++ map (up_by k) after)
-    ∙ ap (λ (bytes : List ℕ). filter_map shown before ++ bytes) (filter_map-append shown (new_rows document at first text) (map (up_by k) after))
+    ∙ filter_map-append shown before (new_rows document at (content_addresses document first (length text)) ++ map (up_by k) after)
+    ∙ ap (λ (bytes : List ℕ). filter_map shown before ++ bytes) (filter_map-append shown (new_rows document at (content_addresses document first (length text))) (map (up_by k) after))
     ∙ (λ i. old_text world.bytes document first text before (All-take other (at - 1) old none) i
     ++ (new_text world.bytes document at first text i
     ++ (moved_text (world.bytes ++ new_bytes document first text) k after ∙ old_text world.bytes document first text after (All-drop other (at - 1) old none)) i))

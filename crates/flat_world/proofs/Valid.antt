@@ -11,7 +11,8 @@ use Rattle.febe_data.specs.declared.reply.Item.{Item}
 use Rattle.febe_data.specs.Plain.{PlainItem, PlainSpec, plain_item, bytes, link}
 use Rattle.febe_data.specs.Validity.{IsItem, IsList}
 use Rattle.flat_world.specs.declared.rows.Row.{Row}
-use Rattle.flat_world.specs.World.{World, byte_at, picked_text, picked_links}
+use Rattle.flat_world.specs.World.{World, byte_at}
+use Rattle.flat_world.specs.Picking.{picked_text, picked_links}
 use Rattle.flat_world.specs.Refusals.{span_bytes, span_items, total_of}
 use Rattle.flat_world.specs.Answers.{text_of, text_item, items_of_span, items_of, NamesTumbler}
 

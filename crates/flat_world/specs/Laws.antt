@@ -1,26 +1,57 @@
--- Laws that show what a history makes of the world.
-use Rattle.std.specs.Prelude.{◌≡◌, ◌≢◌, ℕ, zero, suc, ◌+◌, ◌-◌, ◌<◌, ◌≤◌, List, [], ◌∷◌, ◌++◌, length, map, filter, take, drop, All, ⊤, Some, None}
+-- Laws that show what histories and changes make of the world.
+use Rattle.std.specs.Prelude.{◌≡◌, ◌≢◌, ◌⊎◌, ℕ, zero, suc, ◌+◌, ◌-◌, ◌<◌, ◌≤◌, false, not, List, [], ◌∷◌, ◌++◌, length, map, filter, take, drop, count_by, All, ⊤, IsTrue, Some, None}
+use Rattle.std.specs.List.{filter_map}
 use Rattle.std.specs.List.Sorted.{IsNonDecreasing}
-use Rattle.febe_data.specs.Plain.{PlainRequest, PlainEntry, PlainChange, restarted, text_inserted}
+use Rattle.tumbler.specs.declared.span.Span.{Span}
 use Rattle.febe_data.specs.LimitsView.{LimitsView}
+use Rattle.febe_data.specs.Plain.{PlainSpec, PlainRequest, PlainEntry, PlainChange, document_created, version_made, copy_opened, text_inserted, span_deleted, blocks_swapped, specs_copied, link_made}
 use Rattle.flat_world.specs.declared.rows.Row.{Row}
-use Rattle.flat_world.specs.World.{World, empty_world, is_text_of, text_length, content_length, content_address}
-use Rattle.flat_world.specs.Apply.{apply, change_world, world_of, kept, new_rows, up_by}
+use Rattle.flat_world.specs.World.{World, empty_world, is_same, next_below, has_document, is_text_of, is_link_of, text_length, link_length, content_length, content_address, byte_at}
+use Rattle.flat_world.specs.Picking.{picks, addresses_of, picked_addresses, places_of}
+use Rattle.flat_world.specs.Edits.{Cuts, cuts_of, up_by, moved_to, new_rows, content_addresses}
+use Rattle.flat_world.specs.Apply.{change_world, apply, world_of}
+use Rattle.flat_world.specs.History.{kept, recovered}
 use Rattle.flat_world.specs.Refusals.{wanted}
 use Rattle.flat_world.specs.Effects.{Effect, effect}
 use Rattle.flat_world.specs.Answers.{text_of}
+
+-- ---- rows
 
 -- the text rows of a document, as they stand in the world
 abbrev pub text_rows : World → List ℕ → List Row
 text_rows world document = filter (is_text_of document) world.rows
 
--- the places of rows
-abbrev pub places_of : List Row → List ℕ
-places_of rows = map (λ (row : Row). row.n) rows
+-- its link rows
+abbrev pub link_rows : World → List ℕ → List Row
+link_rows world document = filter (is_link_of document) world.rows
 
--- in every world that a history builds, each document's text rows stand in the order of their places
-abbrev pub TextInOrder : Type 0
-TextInOrder = (history : List PlainEntry) (document : List ℕ) → IsNonDecreasing (places_of (text_rows (world_of history) document))
+-- k numbers in a row, from n on
+abbrev pub numbers_from : ℕ → ℕ → List ℕ
+numbers_from n zero = []
+numbers_from n (suc k) = n ∷ numbers_from (n + 1) k
+
+-- a document's text rows are numbered from 1 on, in their order and without gaps
+abbrev pub TextIsNumbered : World → List ℕ → Type 0
+TextIsNumbered world document = places_of (text_rows world document) ≡ numbers_from 1 (text_length world document)
+
+-- its link rows are
+abbrev pub LinksAreNumbered : World → List ℕ → Type 0
+LinksAreNumbered world document = places_of (link_rows world document) ≡ numbers_from 1 (link_length world document)
+
+-- both are
+pub record IsNumbered (world : World) (document : List ℕ) : Type 0 where
+  pub text : TextIsNumbered world document
+  pub links : LinksAreNumbered world document
+
+-- the rows of a document, of both parts
+abbrev pub rows_of : World → List ℕ → List Row
+rows_of world document = filter (λ (row : Row). is_same row.document document) world.rows
+
+-- the bytes at addresses
+abbrev pub text_at : World → List (List ℕ) → List ℕ
+text_at world addresses = filter_map (byte_at world.bytes) addresses
+
+-- ---- what is kept
 
 -- two worlds have the same contents: all but who has what open, and the accounts
 pub record HasContentsOf (one other : World) : Type 0 where
@@ -33,30 +64,15 @@ pub record HasContentsOf (one other : World) : Type 0 where
 abbrev pub KeepsContents : Type 0
 KeepsContents = (history : List PlainEntry) → HasContentsOf (world_of (kept history)) (world_of history)
 
--- the entry of a restart, which is of no session
-abbrev pub restart_entry : PlainEntry
-restart_entry = record { session = 0; serial = 0; change = restarted }
-
--- what a back end has of its history when it begins again: the kept entries, then a restart
-abbrev pub recovered : List PlainEntry → List PlainEntry
-recovered history = kept history ++ restart_entry ∷ []
-
 -- what is kept once is kept at each later restart, and a restart adds nothing to keep
 abbrev pub KeptAgain : Type 0
 KeptAgain = (history : List PlainEntry) → kept (recovered history) ≡ kept history
 
--- k numbers in a row, from n on
-abbrev pub numbers_from : ℕ → ℕ → List ℕ
-numbers_from n zero = []
-numbers_from n (suc k) = n ∷ numbers_from (n + 1) k
-
--- a document's text rows are numbered from 1 on, in their order and without gaps
-abbrev pub IsNumbered : World → List ℕ → Type 0
-IsNumbered world document = places_of (text_rows world document) ≡ numbers_from 1 (text_length world document)
+-- ---- insert
 
 -- text can come into the document at this place: before one of its rows, or at its end
 pub record IsOpenPlace (world : World) (document : List ℕ) (at : ℕ) : Type 0 where
-  pub numbered : IsNumbered world document
+  pub numbered : TextIsNumbered world document
   pub from_one : 1 ≤ at
   pub to_end : at ≤ text_length world document + 1
 
@@ -68,7 +84,13 @@ world_with world document at first text = change_world world 0 (text_inserted do
 abbrev pub InsertsRows : Type 0
 InsertsRows = (world : World) (document : List ℕ) (at first : ℕ) (text : List ℕ) → IsOpenPlace world document at
     → text_rows (world_with world document at first text) document
-    ≡ take (at - 1) (text_rows world document) ++ (new_rows document at first text ++ map (up_by (length text)) (drop (at - 1) (text_rows world document)))
+    ≡ take (at - 1) (text_rows world document)
+    ++ (new_rows document at (content_addresses document first (length text)) ++ map (up_by (length text)) (drop (at - 1) (text_rows world document)))
+
+-- text that comes in at such a place leaves every document numbered that was
+abbrev pub InsertsNumbered : Type 0
+InsertsNumbered = (world : World) (document : List ℕ) (at first : ℕ) (text : List ℕ) → IsOpenPlace world document at
+    → (other : List ℕ) → IsNumbered world other → IsNumbered (world_with world document at first text) other
 
 -- none of the document's text rows shows one of the content bytes to come
 abbrev pub ShowsNoneOf : World → (document : List ℕ) (first count : ℕ) → Type 0
@@ -80,20 +102,163 @@ RetrieveAfterInsert = (world : World) (document : List ℕ) (at first : ℕ) (te
     → text_of (world_with world document at first text) (text_rows (world_with world document at first text) document)
     ≡ text_of world (take (at - 1) (text_rows world document)) ++ (text ++ text_of world (drop (at - 1) (text_rows world document)))
 
--- text that comes in at such a place leaves every document numbered that was
-abbrev pub InsertsNumbered : Type 0
-InsertsNumbered = (world : World) (document : List ℕ) (at first : ℕ) (text : List ℕ) → IsOpenPlace world document at
-    → (other : List ℕ) → IsNumbered world other → IsNumbered (world_with world document at first text) other
+-- ---- copy
+
+-- What the specs picked comes in at the place, between the rows before it and the others, which make room.
+-- Documents that were numbered are again, and the content and the links are as they were.
+pub record IsCopied (before : World) (document : List ℕ) (at : ℕ) (specs : List PlainSpec) (after : World) : Type 0 where
+  pub text : text_rows after document
+      ≡ take (at - 1) (text_rows before document)
+      ++ (new_rows document at (picked_addresses before specs) ++ map (up_by (length (picked_addresses before specs))) (drop (at - 1) (text_rows before document)))
+  pub reads : text_of after (text_rows after document)
+      ≡ text_of before (take (at - 1) (text_rows before document)) ++ (text_at before (picked_addresses before specs) ++ text_of before (drop (at - 1) (text_rows before document)))
+  pub numbered : (other : List ℕ) → IsNumbered before other → IsNumbered after other
+  pub same_documents : after.documents ≡ before.documents
+  pub same_bytes : after.bytes ≡ before.bytes
+  pub same_links : after.links ≡ before.links
+
+abbrev pub CopiesSpecs : Type 0
+CopiesSpecs = (world : World) (session : ℕ) (document : List ℕ) (at : ℕ) (specs : List PlainSpec) → IsOpenPlace world document at
+    → IsCopied world document at specs (change_world world session (specs_copied document at specs))
+
+-- ---- delete
+
+-- the rows that the span does not pick
+abbrev pub staying : Span → List Row → List Row
+staying span rows = filter (λ (row : Row). not (picks span row)) rows
+
+-- The document shows, in order, what the span did not pick, and where it was numbered it is again.
+-- The rows of other documents, the content and the links are as they were.
+pub record IsWithout (before : World) (document : List ℕ) (span : Span) (after : World) : Type 0 where
+  pub text : addresses_of (text_rows after document) ≡ addresses_of (staying span (text_rows before document))
+  pub links : addresses_of (link_rows after document) ≡ addresses_of (staying span (link_rows before document))
+  pub reads : text_of after (text_rows after document) ≡ text_of before (staying span (text_rows before document))
+  pub text_closes_up : TextIsNumbered before document → TextIsNumbered after document
+  pub links_close_up : LinksAreNumbered before document → LinksAreNumbered after document
+  pub others : (other : List ℕ) → is_same other document ≡ false → rows_of after other ≡ rows_of before other
+  pub same_documents : after.documents ≡ before.documents
+  pub same_bytes : after.bytes ≡ before.bytes
+  pub same_links : after.links ≡ before.links
+
+abbrev pub DeletesSpan : Type 0
+DeletesSpan = (world : World) (session : ℕ) (document : List ℕ) (span : Span) → IsWithout world document span (change_world world session (span_deleted document span))
+
+-- ---- version
+
+-- The document has the rows of the source, text and links alike, each at its place and in their order.
+-- The source and all other documents, the content and the links are as they were.
+pub record IsVersion (before : World) (source document : List ℕ) (after : World) : Type 0 where
+  pub text : text_rows after document ≡ map (moved_to document) (text_rows before source)
+  pub links : link_rows after document ≡ map (moved_to document) (link_rows before source)
+  pub reads : text_of after (text_rows after document) ≡ text_of before (text_rows before source)
+  pub same_source : rows_of after source ≡ rows_of before source
+  pub others : (other : List ℕ) → is_same other document ≡ false → rows_of after other ≡ rows_of before other
+  pub comes_in : after.documents ≡ before.documents ++ document ∷ []
+  pub same_bytes : after.bytes ≡ before.bytes
+  pub same_links : after.links ≡ before.links
+
+-- a version of a document that comes in where there was none
+abbrev pub VersionsRows : Type 0
+VersionsRows = (world : World) (session : ℕ) (source document : List ℕ) → rows_of world document ≡ []
+    → IsVersion world source document (change_world world session (version_made source document))
+    × IsVersion world source document (change_world world session (copy_opened source document))
+
+-- ---- rearrange
+
+-- of a list that is numbered from 1 on, what stands from `low` up to, but without, `high`
+abbrev pub between : {X : Type 0} → ℕ → ℕ → List X → List X
+between low high xs = take (high - low) (drop (low - 1) xs)
+
+-- the outer of three blocks in the other order
+abbrev pub in_other_order : {X : Type 0} → Cuts → List X → List X
+in_other_order cuts xs =
+    take (cuts.first - 1) xs ++ (between cuts.third cuts.fourth xs ++ (between cuts.second cuts.third xs ++ (between cuts.first cuts.second xs ++ drop (cuts.fourth - 1) xs)))
+
+-- the cuts are places of the document's text
+pub record ArePlaces (world : World) (document : List ℕ) (cuts : Cuts) : Type 0 where
+  pub numbered : TextIsNumbered world document
+  pub from_one : 1 ≤ cuts.first
+  pub to_end : cuts.fourth ≤ text_length world document + 1
+
+-- The document's text is numbered again, and its blocks stand in the other order.
+-- Its links, the rows of other documents, the content and the links are as they were.
+pub record IsRearranged (before : World) (document : List ℕ) (cuts : Cuts) (after : World) : Type 0 where
+  pub numbered : TextIsNumbered after document
+  pub order : addresses_of (text_rows after document) ≡ addresses_of (in_other_order cuts (text_rows before document))
+  pub reads : text_of after (text_rows after document) ≡ text_of before (in_other_order cuts (text_rows before document))
+  pub links : link_rows after document ≡ link_rows before document
+  pub others : (other : List ℕ) → is_same other document ≡ false → rows_of after other ≡ rows_of before other
+  pub same_documents : after.documents ≡ before.documents
+  pub same_bytes : after.bytes ≡ before.bytes
+  pub same_links : after.links ≡ before.links
+
+abbrev pub Rearranges : Type 0
+Rearranges = (world : World) (session : ℕ) (document cuts : List ℕ) (bounds : Cuts) → cuts_of cuts ≡ Some bounds → ArePlaces world document bounds
+    → IsRearranged world document bounds (change_world world session (blocks_swapped document cuts))
+
+-- three cuts of a document's text, each not below the one before it
+pub record AreThreeCuts (world : World) (document : List ℕ) (first second third : ℕ) : Type 0 where
+  pub numbered : TextIsNumbered world document
+  pub from_one : 1 ≤ first
+  pub first_to_second : first ≤ second
+  pub second_to_third : second ≤ third
+  pub to_end : third ≤ text_length world document + 1
+
+-- the world after the blocks between three cuts changed places
+abbrev pub world_swapped : World → List ℕ → (first second third : ℕ) → World
+world_swapped world document first second third = change_world world 0 (blocks_swapped document (first ∷ second ∷ third ∷ []))
+
+-- an empty block changes no row
+abbrev pub EmptyBlockStays : Type 0
+EmptyBlockStays = (world : World) (document : List ℕ) (first second third : ℕ) → AreThreeCuts world document first second third → (first ≡ second) ⊎ (second ≡ third)
+    → text_rows (world_swapped world document first second third) document ≡ text_rows world document
+
+-- the blocks change back by the cuts between them as they stand then
+abbrev pub SwapsBack : Type 0
+SwapsBack = (world : World) (document : List ℕ) (first second third : ℕ) → AreThreeCuts world document first second third
+    → text_rows (world_swapped (world_swapped world document first second third) document first (first + (third - second)) third) document ≡ text_rows world document
+
+-- ---- histories
+
+-- The document is the next one below some address.
+pub record IsNext (world : World) (document : List ℕ) : Type 0 where
+  pub front : List ℕ
+  pub is_next : document ≡ next_below world.documents front
 
 -- text comes in between 1 and one more than the document's length, and its bytes are the document's next ones
 pub record ComesInAt (world : World) (document : List ℕ) (at first : ℕ) : Type 0 where
+  pub there : IsTrue (has_document world document)
   pub from_one : 1 ≤ at
   pub to_end : at ≤ text_length world document + 1
   pub is_next : first ≡ content_length world document + 1
 
--- text comes in so; other changes may be any
+-- copied rows come in at such a place
+pub record IsCopiedTo (world : World) (document : List ℕ) (at : ℕ) : Type 0 where
+  pub there : IsTrue (has_document world document)
+  pub from_one : 1 ≤ at
+  pub to_end : at ≤ text_length world document + 1
+
+-- cuts are cuts, at such places
+pub record IsCutAt (world : World) (document cuts : List ℕ) : Type 0 where
+  pub bounds : Cuts
+  pub are_cuts : cuts_of cuts ≡ Some bounds
+  pub from_one : 1 ≤ bounds.first
+  pub to_end : bounds.fourth ≤ text_length world document + 1
+
+-- a link comes in at the end of its home's links
+pub record IsLinkedAt (world : World) (home : List ℕ) (place : ℕ) : Type 0 where
+  pub there : IsTrue (has_document world home)
+  pub at_end : place ≡ link_length world home + 1
+
+-- documents are new, and what comes in or moves does so at places that are there; other changes may be any
 abbrev pub IsPlaced : World → PlainChange → Type 0
+IsPlaced world (document_created document) = IsNext world document
+IsPlaced world (version_made source document) = IsNext world document
+IsPlaced world (copy_opened source document) = IsNext world document
 IsPlaced world (text_inserted document at first text) = ComesInAt world document at first
+IsPlaced world (blocks_swapped document cuts) = IsCutAt world document cuts
+IsPlaced world (specs_copied document at specs) = IsCopiedTo world document at
+IsPlaced world (link_made home number place from to three) = IsLinkedAt world home place
 IsPlaced world other = ⊤
 
 -- each entry is so placed in the world that it finds
@@ -106,11 +271,36 @@ abbrev pub ServedIsPlaced : Type 0
 ServedIsPlaced = (limits : LimitsView) (counted : ℕ) (world : World) (session : ℕ) (request : PlainRequest) (made : Effect)
     → wanted limits counted world session request ≡ None → effect world session request ≡ Some made → IsPlaced world made.change
 
--- such a history numbers each document's text rows from 1 on, without gaps
+-- what is kept of such a history is such a history too
+abbrev pub RecoveredIsPlaced : Type 0
+RecoveredIsPlaced = (history : List PlainEntry) → AllPlaced empty_world history → AllPlaced empty_world (recovered history)
+
+-- such a history numbers each document's text rows, and its link rows, from 1 on, without gaps
 abbrev pub NumberedWithoutGaps : Type 0
 NumberedWithoutGaps = (history : List PlainEntry) → AllPlaced empty_world history → (document : List ℕ) → IsNumbered (world_of history) document
 
--- after such a history none of a document's rows shows a content byte that is yet to come
+-- so they stand in the order of their places
+abbrev pub TextInOrder : Type 0
+TextInOrder = (history : List PlainEntry) → AllPlaced empty_world history → (document : List ℕ) → IsNonDecreasing (places_of (text_rows (world_of history) document))
+
+-- after such a history each next document is one that is not there
+abbrev pub NextIsNew : Type 0
+NextIsNew = (history : List PlainEntry) → AllPlaced empty_world history → (front : List ℕ) → has_document (world_of history) (next_below (world_of history).documents front) ≡ false
+
+-- each document is there once
+abbrev pub DocumentsOnce : Type 0
+DocumentsOnce = (history : List PlainEntry) → AllPlaced empty_world history → (document : List ℕ) → count_by (λ (d : List ℕ). is_same d document) (world_of history).documents ≤ 1
+
+-- and no row is of a document that is not there
+abbrev pub RowsHaveDocuments : Type 0
+RowsHaveDocuments = (history : List PlainEntry) → AllPlaced empty_world history → (document : List ℕ) → has_document (world_of history) document ≡ false → rows_of (world_of history) document ≡ []
+
+-- after such a history no text row of any document shows a content byte of a document that is yet to come
+abbrev pub ShowsWhatCame : Type 0
+ShowsWhatCame = (history : List PlainEntry) → AllPlaced empty_world history → (shown document : List ℕ) (i : ℕ) → content_length (world_of history) document < i
+    → All (λ (row : Row). row.address ≢ content_address document i) (text_rows (world_of history) shown)
+
+-- so none of a document's text rows shows one of its own
 abbrev pub ShowsOwnContent : Type 0
 ShowsOwnContent = (history : List PlainEntry) → AllPlaced empty_world history → (document : List ℕ) (count : ℕ)
     → ShowsNoneOf (world_of history) document (content_length (world_of history) document + 1) count

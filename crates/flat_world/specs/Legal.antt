@@ -4,7 +4,8 @@ use Rattle.febe_data.specs.declared.refusal.Refusal.{Refusal}
 use Rattle.febe_data.specs.declared.refusal.Refusal.TheVariants.{Memory, Disk}
 use Rattle.febe_data.specs.LimitsView.{LimitsView}
 use Rattle.febe_data.specs.Plain.{PlainRequest, quit, PlainReply, refused, PlainEntry}
-use Rattle.flat_world.specs.Apply.{world_of, kept, is_live, is_counted, next_serial}
+use Rattle.flat_world.specs.Apply.{world_of}
+use Rattle.flat_world.specs.History.{kept, is_live, is_counted, next_serial}
 use Rattle.flat_world.specs.Refusals.{wanted}
 use Rattle.flat_world.specs.Effects.{Effect, effect}
 use Rattle.flat_world.specs.Answers.{answer}

@@ -1,13 +1,13 @@
 -- The world is six plain lists, which are read by filters.
-use Rattle.std.specs.Prelude.{ℕ, ◌+◌, ◌==◌, ◌&&◌, Bool, true, false, List, [], ◌∷◌, ◌++◌, length, take, filter, count_by, Option, Some, None, nat_eq, not, if◌then◌else◌}
+use Rattle.std.specs.Prelude.{ℕ, ◌+◌, ◌==◌, ◌&&◌, Bool, true, false, List, [], ◌∷◌, ◌++◌, length, take, count_by, Option, Some, None, nat_eq, nat_lt, not, if◌then◌else◌}
 use Rattle.std.specs.List.{find, list_any, fold}
 use Rattle.std.specs.Option.{option_map}
-use Rattle.std.specs.Ordering.{nat_cmp, is_le, is_lt}
+use Rattle.std.specs.Ordering.{nat_cmp}
 use Rattle.std.specs.Cmp.Lexicographic.{slice_cmp, pointwise}
-use Rattle.tumbler.specs.declared.span.Span.{Span}
-use Rattle.tumbler.specs.Span.{end_of}
+use Rattle.std.specs.BTreeSet.{insert_key}
 use Rattle.febe_data.specs.declared.run.Run.{Run}
 use Rattle.febe_data.specs.declared.access.Mode.{Mode}
+use Rattle.febe_data.specs.declared.access.Mode.TheVariants.{Read, Write}
 use Rattle.flat_world.specs.declared.rows.Part.{Part}
 use Rattle.flat_world.specs.declared.rows.Part.TheVariants.{Text, Links}
 use Rattle.flat_world.specs.declared.rows.Row.{Row}
@@ -46,9 +46,17 @@ is_same a b = pointwise nat_eq a b
 abbrev pub is_child_of : List ℕ → List ℕ → Bool
 is_child_of front address = length address == length front + 1 && is_same (take (length front) address) front
 
+-- addresses in ascending order, each once
+abbrev pub ascending : List (List ℕ) → List (List ℕ)
+ascending addresses = fold (insert_key (slice_cmp nat_cmp)) [] addresses
+
 -- content byte n of a document is `document.0.1.n`
 abbrev pub content_address : List ℕ → ℕ → List ℕ
 content_address document n = document ++ 0 ∷ 1 ∷ n ∷ []
+
+-- link n that was made in a document is `document.0.2.n`
+abbrev pub link_address : List ℕ → ℕ → List ℕ
+link_address home n = home ++ 0 ∷ 2 ∷ n ∷ []
 
 -- text stands at the V-addresses `1.n`, links at `2.n`
 abbrev pub part_number : Part → ℕ
@@ -58,10 +66,36 @@ part_number Links = 2
 abbrev pub v_address : Row → List ℕ
 v_address row = part_number row.part ∷ row.n ∷ []
 
--- ---- documents and sessions
+-- ---- documents
 
 abbrev pub has_document : World → List ℕ → Bool
 has_document world document = list_any (λ d. is_same d document) world.documents
+
+-- The next number below an address is one more than the number of documents that are the address and one place more.
+abbrev pub next_below : List (List ℕ) → List ℕ → List ℕ
+next_below documents front = front ++ (count_by (is_child_of front) documents + 1) ∷ []
+
+-- the next document of an account is `account.0.D`
+abbrev pub next_document_of : List (List ℕ) → List ℕ → List ℕ
+next_document_of documents account = account ++ 0 ∷ (count_by (is_child_of (account ++ 0 ∷ [])) documents + 1) ∷ []
+
+abbrev pub next_document : World → List ℕ → List ℕ
+next_document world account = next_document_of world.documents account
+
+-- the next version of a document is `document.k`
+abbrev pub next_version : World → List ℕ → List ℕ
+next_version world document = next_below world.documents document
+
+-- a document of the account is `account.0` and more
+abbrev pub is_of_account : List ℕ → List ℕ → Bool
+is_of_account account document = is_same (take (length account + 1) document) (account ++ 0 ∷ [])
+
+-- A version goes under its source where the maker's account is the source's and there is room for one more place.
+-- Otherwise it is the maker's next document.
+abbrev pub version_for : World → List ℕ → List ℕ → List ℕ
+version_for world source account = if is_of_account account source && nat_lt (length source) 20 then next_version world source else next_document world account
+
+-- ---- sessions
 
 -- the account that a session has set, if it has
 abbrev pub account_of_session : World → ℕ → Option (List ℕ)
@@ -75,13 +109,13 @@ opens session document row = row.session == session && is_same row.document docu
 abbrev pub mode_of : World → ℕ → List ℕ → Option Mode
 mode_of world session document = option_map (λ (r : OpenRow). r.mode) (find (opens session document) world.open_rows)
 
--- The next document of an account is `account.0.D`, D being one more than the number of documents
--- of the form `account.0.x`.
-abbrev pub next_document_of : List (List ℕ) → List ℕ → List ℕ
-next_document_of documents account = account ++ 0 ∷ (count_by (is_child_of (account ++ 0 ∷ [])) documents + 1) ∷ []
+abbrev pub is_write : Mode → Bool
+is_write Read = false
+is_write Write = true
 
-abbrev pub next_document : World → List ℕ → List ℕ
-next_document world account = next_document_of world.documents account
+-- another session holds the document for writing
+abbrev pub is_held_against : World → ℕ → List ℕ → Bool
+is_held_against world session document = list_any (λ (r : OpenRow). not (r.session == session) && is_same r.document document && is_write r.mode) world.open_rows
 
 -- ---- rows
 
@@ -93,12 +127,17 @@ is_text Links = false
 abbrev pub is_text_of : List ℕ → Row → Bool
 is_text_of document row = is_text row.part && is_same row.document document
 
+-- the row is of this document's links
 abbrev pub is_link_of : List ℕ → Row → Bool
 is_link_of document row = not (is_text row.part) && is_same row.document document
 
 -- how many text rows a document has
 abbrev pub text_length : World → List ℕ → ℕ
 text_length world document = count_by (is_text_of document) world.rows
+
+-- how many link rows it has
+abbrev pub link_length : World → List ℕ → ℕ
+link_length world document = count_by (is_link_of document) world.rows
 
 -- how many bytes of content a document has
 abbrev pub content_length_of : List ByteRow → List ℕ → ℕ
@@ -107,23 +146,9 @@ content_length_of bytes document = count_by (λ (b : ByteRow). is_child_of (docu
 abbrev pub content_length : World → List ℕ → ℕ
 content_length world document = content_length_of world.bytes document
 
--- ---- picking
-
--- the row's V-address is at the start or after it, and before the end
-abbrev pub is_within : List ℕ → List ℕ → Row → Bool
-is_within start end row = is_le (slice_cmp nat_cmp start (v_address row)) && is_lt (slice_cmp nat_cmp (v_address row) end)
-
--- a span picks the rows that are within it
-abbrev pub picks : Span → Row → Bool
-picks span row = is_within span.start (end_of span) row
-
--- the text rows of a document that a span picks, in the order of their V-addresses
-abbrev pub picked_text : World → List ℕ → Span → List Row
-picked_text world document span = filter (λ row. is_text_of document row && picks span row) world.rows
-
--- the link rows that it picks
-abbrev pub picked_links : World → List ℕ → Span → List Row
-picked_links world document span = filter (λ row. is_link_of document row && picks span row) world.rows
+-- how many links were made in a document
+abbrev pub links_made_in : World → List ℕ → ℕ
+links_made_in world home = count_by (λ (l : LinkRow). is_same l.home home) world.links
 
 -- the byte at an address: the one that came there last
 abbrev pub byte_at : List ByteRow → List ℕ → Option ℕ

@@ -1,7 +1,8 @@
 //! Edits of the world's lists. Those that may need memory build what is new before anything changes.
-ghost use Rattle.std.specs.Prelude.{◌≡◌, ℕ, ◌+◌, ◌==◌, ◌&&◌, ◌<◌, ◌≤◌, ◌^◌, not, [], ◌∷◌, ◌++◌, length, map, filter, nat_le, IfOk, OnOk};
-ghost use Rattle.flat_world.specs.World.{is_text_of, content_address};
-ghost use Rattle.flat_world.specs.Apply.{moves_up, up_by, new_rows, new_bytes, rows_with, without_session, accounts_without};
+ghost use Rattle.std.specs.Prelude.{◌≡◌, ℕ, ◌+◌, ◌==◌, ◌&&◌, ◌≤◌, not, ◌++◌, length, map, filter, nat_le, IfOk, OnOk};
+ghost use Rattle.flat_world.specs.World.{is_same, is_text_of, content_address};
+ghost use Rattle.flat_world.specs.Edits.{moves_up, up_by, new_rows, new_bytes, rows_with, content_addresses, moved_to, rows_as};
+ghost use Rattle.flat_world.specs.Apply.{without_session, accounts_without, without_opening};
 
 use crate::rows::{AccountRow, ByteRow, OpenRow, Part, Row};
 use crate::search::extended;
@@ -22,28 +23,36 @@ fn one_more(n: u32) -> Result<u32, Memory>
     n.checked_add(1).ok_or(Memory)
 }
 
+/// The content addresses of so many bytes from `first` on, where they are tumblers.
+#[tactic(auto, using(crate::proofs::Edited::edited))]
+pub(crate) fn content_addresses(
+    alloc: Global,
+    document: &Tumbler,
+    mut first: u32,
+    count: usize,
+) -> Result<List<Tumbler>, Memory>
+    ensures { IfOk result (λ made. made.items ≡ content_addresses document.now first count) }
+{
+    let mut made = List::new(alloc);
+    for _ in 0..count {
+        made.push(content_address(document, first)?)?;
+        first = one_more(first)?;
+    }
+    Ok(made)
+}
+
 impl Row {
-    fn moves_up(&self, document: &Tumbler, n: u32) -> bool
+    /// Whether the row makes room for what comes in at `n` of the document's text.
+    pub(crate) fn moves_up(&self, document: &Tumbler, n: u32) -> bool
         ensures { result ≡ moves_up document.now n self.now }
     {
         self.is_text_of(document) && n <= self.n
     }
-
-    fn copy(&self) -> Row
-        ensures { result ≡ self.now }
-    {
-        Row {
-            document: self.document.copy(),
-            part: self.part,
-            n: self.n,
-            address: self.address.copy(),
-        }
-    }
 }
 
-/// Adds the rows that an insert leaves where they are.
+/// Adds the rows that do not make room at `n`.
 #[tactic(auto, using(std::proofs::lemmas::List::Elements::filter_more))]
-fn push_staying(
+pub(crate) fn push_staying(
     made: &mut List<Row>,
     rows: &[Row],
     document: &Tumbler,
@@ -59,9 +68,9 @@ fn push_staying(
     Ok(())
 }
 
-/// Adds the rows that an insert moves up by `k`, moved.
+/// Adds the rows that make room at `n`, moved up by `k`.
 #[tactic(auto, using(std::proofs::lemmas::List::Elements::filter_more))]
-fn push_moved(
+pub(crate) fn push_moved(
     made: &mut List<Row>,
     rows: &[Row],
     document: &Tumbler,
@@ -80,46 +89,41 @@ fn push_moved(
     Ok(())
 }
 
-/// Adds one row for each byte of the text, at `n` and on, with the content bytes from `first` on.
+/// Adds one row for each address, at `n` of the document's text and on.
 fn push_new(
     made: &mut List<Row>,
     document: &Tumbler,
     mut n: u32,
-    mut first: u32,
-    text: &[u8],
+    addresses: &[Tumbler],
 ) -> Result<(), Memory>
-    ensures { OnOk result (made.new.items ≡ made.old.items ++ new_rows document.now n first text.now) }
+    ensures { OnOk result (made.new.items ≡ made.old.items ++ new_rows document.now n addresses.now) }
 {
-    for byte in text {
-        let _ = byte;
-        let address = content_address(document, first)?;
+    for address in addresses {
         made.push(Row {
             document: document.copy(),
             part: Part::Text,
             n,
-            address,
+            address: address.copy(),
         })?;
         n = one_more(n)?;
-        first = one_more(first)?;
     }
     Ok(())
 }
 
-/// The rows after an insert of the text at `n`.
+/// The rows once the addresses have come in at `n` of the document's text.
 pub(crate) fn rows_with(
     alloc: Global,
     rows: &[Row],
     document: &Tumbler,
     n: u32,
-    first: u32,
-    text: &[u8],
+    addresses: &[Tumbler],
 ) -> Result<List<Row>, Memory>
-    ensures { IfOk result (λ made. made.items ≡ rows_with rows.now document.now n first text.now) }
+    ensures { IfOk result (λ made. made.items ≡ rows_with rows.now document.now n addresses.now) }
 {
-    let k = u32::try_from(text.len()).map_err(|_| Memory)?;
+    let k = u32::try_from(addresses.len()).map_err(|_| Memory)?;
     let mut made = List::new(alloc);
     push_staying(&mut made, rows, document, n)?;
-    push_new(&mut made, document, n, first, text)?;
+    push_new(&mut made, document, n, addresses)?;
     push_moved(&mut made, rows, document, n, k)?;
     Ok(made)
 }
@@ -158,6 +162,37 @@ pub(crate) fn append_bytes(bytes: &mut List<ByteRow>, fresh: &[ByteRow])
     }
 }
 
+/// The rows of the source, as those of the document.
+#[tactic(auto, using(std::proofs::lemmas::List::Elements::filter_more))]
+pub(crate) fn rows_as(
+    alloc: Global,
+    rows: &[Row],
+    source: &Tumbler,
+    document: &Tumbler,
+) -> Result<List<Row>, Memory>
+    ensures { IfOk result (λ made. made.items ≡ rows_as rows.now source.now document.now) }
+{
+    let mut made = List::new(alloc);
+    for row in rows {
+        if row.document == *source {
+            let mut moved = row.copy();
+            moved.document = document.copy();
+            made.push(moved)?;
+        }
+    }
+    Ok(made)
+}
+
+/// Adds these rows at the end. It takes no memory.
+pub(crate) fn append_rows(rows: &mut List<Row>, fresh: &[Row])
+    requires { length fresh.now ≤ rows.old.spare }
+    ensures { rows.new.items ≡ rows.old.items ++ fresh.now }
+{
+    for row in fresh {
+        rows.push_reserved(row.copy());
+    }
+}
+
 /// Drops what the session had open, in place.
 pub(crate) fn close_session(rows: &mut List<OpenRow>, session: u64)
     ensures { rows.new.items ≡ without_session session rows.old.items }
@@ -171,4 +206,12 @@ pub(crate) fn drop_account(rows: &mut List<AccountRow>, session: u64)
     ensures spare { rows.new.spare ≡ rows.old.spare }
 {
     rows.retain(|row| row.session != session);
+}
+
+/// Drops what the session had the document open for, in place.
+pub(crate) fn close_opening(rows: &mut List<OpenRow>, session: u64, document: &Tumbler)
+    ensures rows { rows.new.items ≡ without_opening session document.now rows.old.items }
+    ensures spare { rows.new.spare ≡ rows.old.spare }
+{
+    rows.retain(|row| !(row.session == session && row.document == *document));
 }

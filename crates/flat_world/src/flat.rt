@@ -1,11 +1,12 @@
 //! The flat world as a value that one entry after the other changes.
-ghost use Rattle.std.specs.Prelude.{◌≡◌, ◌+◌, IsOk, IfOk, OnOk, OnErr};
+ghost use Rattle.std.specs.Prelude.{◌≡◌, ℕ, length, IsOk, IfOk, OnOk, OnErr};
 
-use crate::edits;
-use crate::rows::{AccountRow, ByteRow, OpenRow, Row};
-use febe_data::{Change, Entry, List, Memory, Mode, Tumbler};
+use crate::counts;
+use crate::rows::{AccountRow, ByteRow, LinkRow, OpenRow, Row, SessionRow};
+use febe_data::{Entry, List, Memory, Tumbler};
 use std::alloc::Global;
 use std::marker::Model;
+use std::mem;
 
 /// The world of a history, beside the number of its counted entries. All is done by scans of plain lists.
 #[derive(Debug, Drop)]
@@ -13,25 +14,31 @@ pub struct FlatWorld {
     pub(crate) documents: List<Tumbler>,
     pub(crate) rows: List<Row>,
     pub(crate) bytes: List<ByteRow>,
+    pub(crate) links: List<LinkRow>,
     pub(crate) open_rows: List<OpenRow>,
     pub(crate) accounts: List<AccountRow>,
     pub(crate) counted: u64,
+    /// How many entries each session has.
+    pub(crate) sessions: Vec<SessionRow>,
 }
 
 impl Model for FlatWorld {
-    ghost use Rattle.std.specs.Prelude.{[]};
+    ghost use Rattle.std.specs.Prelude.{map};
     ghost use Rattle.flat_world.specs.FlatView.{FlatView};
+    ghost use Rattle.flat_world.specs.PlainLink.{plain_link};
 
     ghost Value = { FlatView };
 
-    ghost view = { λ w. record { world = record { documents = w.documents.items; rows = w.rows.items; bytes = w.bytes.items; links = []; open_rows = w.open_rows.items; accounts = w.accounts.items }; counted = w.counted } };
+    ghost view = { λ w. record { world = record { documents = w.documents.items; rows = w.rows.items; bytes = w.bytes.items; links = map plain_link w.links.items; open_rows = w.open_rows.items; accounts = w.accounts.items }; counted = w.counted; sessions = w.sessions.items } };
 }
 
 impl FlatWorld {
-    ghost use Rattle.febe_data.specs.Plain.{plain_entry, account_changed, document_created, text_inserted, restarted, ended};
-    ghost use Rattle.flat_world.specs.FlatView.{FlatView, nothing_yet, after_entry};
-    ghost use Rattle.flat_world.specs.Apply.{change_world};
-    ghost use Rattle.flat_world.specs.InPlace.{IsInPlace};
+    ghost use Rattle.febe_data.specs.Plain.{plain_entry, plain_change, plain_history};
+    ghost use Rattle.flat_world.specs.FlatView.{FlatView, nothing_yet, after_entry, view_of, entries_in};
+    ghost use Rattle.flat_world.specs.Apply.{world_of};
+    ghost use Rattle.flat_world.specs.History.{kept, entries_of};
+    ghost use Rattle.flat_world.specs.InPlace.{DropsOnly, HasRoom};
+    ghost use Rattle.flat_world.specs.Fitting.{IsFitting, AreFitting};
 
     /// The world before any entry.
     pub fn new(alloc: Global) -> FlatWorld
@@ -41,97 +48,50 @@ impl FlatWorld {
             documents: List::new(alloc),
             rows: List::new(alloc),
             bytes: List::new(alloc),
+            links: List::new(alloc),
             open_rows: List::new(alloc),
             accounts: List::new(alloc),
             counted: 0,
+            sessions: Vec::new(alloc),
         }
     }
 
-    /// Changes the world as the entry says. A restart, a begin and an end take no memory.
+    /// The world that a history has made from nothing. There is no memory for it where there is none for one of its entries.
+    pub fn fold(alloc: Global, history: &List<Entry>) -> Result<FlatWorld, Memory>
+        ensures view { IfOk result (λ made. made ≡ view_of (plain_history history.now.items)) }
+        ensures fitting { OnOk result (AreFitting (plain_history history.now.items)) }
+        ensures world { IfOk result (λ made. made.world ≡ world_of (plain_history history.now.items)) }
+        ensures counted { IfOk result (λ made. made.counted ≡ length (kept (plain_history history.now.items))) }
+        ensures serials { IfOk result (λ made. (session : ℕ) → entries_in made.sessions session ≡ length (entries_of session (plain_history history.now.items))) }
+    {
+        let mut world = FlatWorld::new(alloc);
+        for entry in history.as_slice() {
+            world.apply(alloc, entry)?;
+        }
+        Ok(world)
+    }
+
+    /// Changes the world as the entry says, and counts it.
+    /// Where a number leaves its type, a span's end or an address is no tumbler, or the cuts of a rearrange bound no two
+    /// blocks, there is no memory for it. A restart, a begin and an end take none, where the session has an entry and one
+    /// more can be counted.
     pub fn apply(&mut self, alloc: Global, entry: &Entry) -> Result<(), Memory>
         ensures ok { OnOk result (self.new ≡ after_entry self.old (plain_entry entry.now)) }
         ensures err { OnErr result (self.new ≡ self.old) }
-        ensures in_place { IsInPlace entry.now.change → IsOk result }
+        ensures fitting { OnOk result (IsFitting (plain_change entry.now.change)) }
+        ensures in_place { DropsOnly entry.now.change → HasRoom self.old.sessions entry.now.session → IsOk result }
     {
-        match &entry.change {
-            Change::Restart => self.restart(),
-            Change::Begin => {}
-            Change::End => self.end(entry.session),
-            Change::Account { account } => self.set_account(entry.session, account)?,
-            Change::Create { document } => self.create(entry.session, document)?,
-            Change::Insert {
-                document,
-                at,
-                first,
-                text,
-            } => self.insert(alloc, document, *at, *first, text.as_slice())?,
-            // No request makes the others yet.
-            _ => {}
+        let counted = counts::counted_after(self.counted, &entry.change)?;
+        counts::reserve_count(&mut self.sessions, entry.session)?;
+        // The counts lie aside while the world changes, so that their room stays.
+        let mut sessions = mem::replace(&mut self.sessions, Vec::new(alloc));
+        let changed = self.change(alloc, entry.session, &entry.change);
+        if changed.is_err() {
+            self.sessions = sessions;
+            return changed;
         }
-        Ok(())
-    }
-
-    fn restart(&mut self)
-        ensures { self.new ≡ record self.old { world = change_world self.old.world 0 restarted } }
-    {
-        self.open_rows.truncate(0);
-        self.accounts.truncate(0);
-    }
-
-    fn end(&mut self, session: u64)
-        ensures { self.new ≡ record self.old { world = change_world self.old.world session ended } }
-    {
-        edits::close_session(&mut self.open_rows, session);
-        edits::drop_account(&mut self.accounts, session);
-    }
-
-    fn set_account(&mut self, session: u64, account: &Tumbler) -> Result<(), Memory>
-        ensures ok { OnOk result (self.new ≡ record self.old { world = change_world self.old.world session (account_changed account.now) }) }
-        ensures err { OnErr result (self.new ≡ self.old) }
-    {
-        self.accounts.reserve(1)?;
-        edits::drop_account(&mut self.accounts, session);
-        self.accounts.push_reserved(AccountRow {
-            session,
-            account: account.copy(),
-        });
-        Ok(())
-    }
-
-    fn create(&mut self, session: u64, document: &Tumbler) -> Result<(), Memory>
-        ensures ok { OnOk result (self.new ≡ record { world = change_world self.old.world session (document_created document.now); counted = self.old.counted + 1 }) }
-        ensures err { OnErr result (self.new ≡ self.old) }
-    {
-        let counted = self.counted.checked_add(1).ok_or(Memory)?;
-        self.documents.reserve(1)?;
-        self.open_rows.reserve(1)?;
-        self.documents.push_reserved(document.copy());
-        self.open_rows.push_reserved(OpenRow {
-            session,
-            document: document.copy(),
-            mode: Mode::Write,
-        });
-        self.counted = counted;
-        Ok(())
-    }
-
-    fn insert(
-        &mut self,
-        alloc: Global,
-        document: &Tumbler,
-        at: u32,
-        first: u32,
-        text: &[u8],
-    ) -> Result<(), Memory>
-        ensures ok { OnOk result (self.new ≡ record { world = change_world self.old.world 0 (text_inserted document.now at first text.now); counted = self.old.counted + 1 }) }
-        ensures err { OnErr result (self.new ≡ self.old) }
-    {
-        let counted = self.counted.checked_add(1).ok_or(Memory)?;
-        let rows = edits::rows_with(alloc, self.rows.as_slice(), document, at, first, text)?;
-        let fresh = edits::new_bytes(alloc, document, first, text)?;
-        self.bytes.reserve(fresh.len())?;
-        edits::append_bytes(&mut self.bytes, fresh.as_slice());
-        self.rows = rows;
+        counts::count(&mut sessions, entry.session);
+        self.sessions = sessions;
         self.counted = counted;
         Ok(())
     }

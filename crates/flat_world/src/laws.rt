@@ -1,14 +1,9 @@
-//! Laws of what a history makes of the world. Each is a function that does nothing, whose
-//! contract says the law.
-ghost use Rattle.flat_world.specs.Laws.{TextInOrder, KeepsContents, KeptAgain, InsertsRows, InsertsNumbered, NumberedWithoutGaps, RetrieveAfterInsert, ServedIsPlaced, ShowsOwnContent, InsertedReads};
-
-/// In the world of any history the text rows of each document stand in the order of their places.
-pub fn text_in_order()
-    ensures { TextInOrder }
-{}
+//! Laws of what histories and changes make of the world. Each is a function that does nothing,
+//! whose contract says the law.
+ghost use Rattle.flat_world.specs.Laws.{CopiesSpecs, DeletesSpan, DocumentsOnce, EmptyBlockStays, InsertedReads, InsertsNumbered, InsertsRows, KeepsContents, KeptAgain, NextIsNew, NumberedWithoutGaps, Rearranges, RecoveredIsPlaced, RetrieveAfterInsert, RowsHaveDocuments, ServedIsPlaced, ShowsOwnContent, ShowsWhatCame, SwapsBack, TextInOrder, VersionsRows};
 
 /// The kept entries of a history alone build the documents, rows, bytes and links that the whole
-/// history builds: sessions, accounts and restarts change none of them.
+/// history builds: sessions, accounts, open documents and restarts change none of them.
 pub fn keeps_contents()
     ensures { KeepsContents }
 {}
@@ -30,26 +25,93 @@ pub fn inserts_numbered()
     ensures { InsertsNumbered }
 {}
 
-/// In the world of a history whose texts all came in at such places, each document's text rows
-/// are numbered from 1 without gaps.
-pub fn numbered_without_gaps()
-    ensures { NumberedWithoutGaps }
-{}
-
 /// After text came in, the document reads: the bytes before the place, the text, and the bytes
 /// from the place on.
 pub fn retrieve_after_insert()
     ensures { RetrieveAfterInsert }
 {}
 
-/// A request that nothing refuses changes the world so that its text, if it has one, comes in at
-/// such a place, with the document's next content bytes.
+/// A copy brings what its specs picked in at its place, leaves each document numbered that was, and
+/// changes neither content nor links.
+pub fn copies_specs()
+    ensures { CopiesSpecs }
+{}
+
+/// What a delete leaves of the document's text and links stands in its order, and without gaps if it
+/// did before. The rows of other documents, the content and the links are as they were.
+pub fn deletes_span()
+    ensures { DeletesSpan }
+{}
+
+/// A version of a document, in one that had no rows, has the rows of its source, each at its place
+/// and in their order. The rows of other documents, the content and the links are as they were.
+pub fn versions_rows()
+    ensures { VersionsRows }
+{}
+
+/// A rearrange between places of a document leaves its text numbered from 1 without gaps, with the
+/// blocks in the other order. Its links, the rows of other documents, the content and the links are
+/// as they were.
+pub fn rearranges()
+    ensures { Rearranges }
+{}
+
+/// Where one of the two blocks between three cuts is empty, a rearrange leaves the text as it is.
+pub fn empty_block_stays()
+    ensures { EmptyBlockStays }
+{}
+
+/// A rearrange by three cuts, and then by those of the two blocks as they stand then, gives the text back.
+pub fn swaps_back()
+    ensures { SwapsBack }
+{}
+
+/// A request that nothing refuses changes the world so that documents are new ones, and text,
+/// copies, blocks and links come in at places that are there.
 pub fn served_is_placed()
     ensures { ServedIsPlaced }
 {}
 
-/// In the world of such a history no document has a row that shows one of its content bytes that
-/// are yet to come.
+/// What is kept of a history of such changes, and a restart after it, is such a history too.
+pub fn recovered_is_placed()
+    ensures { RecoveredIsPlaced }
+{}
+
+/// In the world of a history of such changes, each document's text rows and link rows are numbered
+/// from 1 without gaps.
+pub fn numbered_without_gaps()
+    ensures { NumberedWithoutGaps }
+{}
+
+/// In the world of such a history the text rows of each document stand in the order of their
+/// places.
+pub fn text_in_order()
+    ensures { TextInOrder }
+{}
+
+/// In the world of such a history the next document below any address is not there yet.
+pub fn next_is_new()
+    ensures { NextIsNew }
+{}
+
+/// In the world of such a history each document is there once.
+pub fn documents_once()
+    ensures { DocumentsOnce }
+{}
+
+/// In the world of such a history each row is of a document that is there.
+pub fn rows_have_documents()
+    ensures { RowsHaveDocuments }
+{}
+
+/// In the world of such a history no text row of any document shows a content byte that is yet to
+/// come.
+pub fn shows_what_came()
+    ensures { ShowsWhatCame }
+{}
+
+/// In the world of such a history no document has a text row that shows one of its own content
+/// bytes that are yet to come.
 pub fn shows_own_content()
     ensures { ShowsOwnContent }
 {}

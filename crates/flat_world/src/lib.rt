@@ -2,19 +2,38 @@
 #![tactic(auto)]
 
 mod byte_index;
+mod changes;
+mod copies;
+mod counts;
+mod deletions;
 mod edits;
 mod effects;
+mod end_index;
+mod ends;
+mod finding;
 mod flat;
+mod intervals;
 pub mod laws;
+mod making;
+mod opening;
+mod picks;
 mod refusals;
+mod relation;
+pub mod relation_laws;
 mod requests;
 mod retrieve;
 mod rows;
+mod runs;
 mod search;
+mod spans;
+mod swaps;
 #[cfg(test)]
 mod tests;
+mod writing;
 
 pub use effects::Effect;
+pub use ends::End;
 pub use flat::FlatWorld;
-pub use requests::{Served, is_small};
-pub use rows::{AccountRow, ByteRow, OpenRow, Part, Row};
+pub use relation::Pair;
+pub use requests::Served;
+pub use rows::{AccountRow, ByteRow, LinkRow, OpenRow, Part, Row, SessionRow};

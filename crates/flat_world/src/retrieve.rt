@@ -1,19 +1,21 @@
 //! What a retrieve gives: when it is refused, and its items.
-ghost use Rattle.std.specs.Prelude.{◌≡◌, ℕ, ◌+◌, ◌-◌, ◌==◌, ◌&&◌, ◌<◌, ◌≤◌, ◌^◌, ◌↔◌, IsTrue, false, not, Option, None, [], ◌∷◌, ◌++◌, length, min, filter, map, count_by, is_none, All, OnOk, IfOk};
+ghost use Rattle.std.specs.Prelude.{◌≡◌, ℕ, ◌+◌, ◌-◌, ◌==◌, ◌&&◌, ◌<◌, ◌≤◌, ◌^◌, ◌↔◌, IsTrue, false, not, Option, None, [], ◌∷◌, ◌++◌, length, min, filter, map, count_by, All, OnOk, IfOk};
 ghost use Rattle.std.specs.List.{list_any, sum_by, flat_map};
-ghost use Rattle.tumbler.specs.Places.{fits};
 ghost use Rattle.tumbler.specs.Span.{SpanFits, end_of};
 ghost use Rattle.febe_data.specs.Plain.{plain_spec, plain_item, plain_reply, link, retrieve};
 ghost use Rattle.febe_data.specs.Validity.{IsReply};
-ghost use Rattle.flat_world.specs.World.{is_within, is_text_of, is_link_of, has_document, mode_of};
+ghost use Rattle.flat_world.specs.World.{is_text_of, is_link_of};
+ghost use Rattle.flat_world.specs.Picking.{is_within};
 ghost use Rattle.flat_world.specs.Answers.{items_of_span, items_of, answer, NamesTumbler};
 ghost use Rattle.flat_world.specs.ByteIndex.{IsByteIndex, item_of};
-ghost use Rattle.flat_world.specs.Refusals.{has_bad_span, span_bytes, span_items, total_of, wanted};
+ghost use Rattle.flat_world.specs.Refusals.{is_bad_span, has_bad_span, span_bytes, span_items, total_of, wanted};
+ghost use Rattle.flat_world.specs.Served.{IsServedAs, IsValidServed};
 
 use crate::byte_index::{byte_index, push_byte};
 use crate::flat::FlatWorld;
+use crate::refusals::MOST_ITEMS;
+use crate::requests::Served;
 use crate::rows::Row;
-use crate::search;
 use febe_data::{Item, Limits, List, Memory, Refusal, Reply, Span, Spec, Tumbler};
 use std::alloc::Global;
 use std::collections::BTreeMap;
@@ -21,40 +23,11 @@ use std::collections::BTreeMap;
 /// The most bytes of text that a retrieve gives.
 pub const MOST_REPLY_BYTES: usize = 16_777_216;
 
-/// The most items that a retrieve gives.
-pub const MOST_REPLY_ITEMS: usize = 65_536;
-
 /// How many bytes and items are given, counted up to the greatest `usize`.
 #[derive(Drop)]
 struct Size {
     bytes: usize,
     items: usize,
-}
-
-/// Whether the span's end is no address.
-fn ends_nowhere(span: &Span) -> bool
-    ensures { result ≡ not (fits span.now.start span.now.width) }
-{
-    !span.fits()
-}
-
-/// Whether the end of one of the spec's spans is no address.
-fn names_nowhere(spec: &Spec) -> bool
-    ensures { result ≡ list_any (λ s. not (fits s.start s.width)) (plain_spec spec.now).spans }
-{
-    spec.spans.as_slice().iter().any(|span| ends_nowhere(span))
-}
-
-/// Whether some span's end is no address.
-fn has_bad_span(specs: &[Spec]) -> bool
-    ensures { result ≡ has_bad_span (map plain_spec specs.now) }
-{
-    for spec in specs {
-        if names_nowhere(spec) {
-            return true;
-        }
-    }
-    false
 }
 
 /// How many text rows of the document the span picks.
@@ -76,32 +49,6 @@ fn link_rows(rows: &[Row], document: &Tumbler, start: &Tumbler, end: &Tumbler) -
 }
 
 impl FlatWorld {
-    /// Whether a spec names a document that there is not.
-    fn lacks_document(&self, specs: &[Spec]) -> bool
-        ensures { result ≡ list_any (λ spec. not (has_document self.now.world spec.document)) (map plain_spec specs.now) }
-    {
-        let documents = self.documents.as_slice();
-        for spec in specs {
-            if !search::has_document(documents, &spec.document) {
-                return true;
-            }
-        }
-        false
-    }
-
-    /// Whether a spec names a document that the session has not open.
-    fn lacks_opening(&self, session: u64, specs: &[Spec]) -> bool
-        ensures { result ≡ list_any (λ spec. is_none (mode_of self.now.world session spec.document)) (map plain_spec specs.now) }
-    {
-        let rows = self.open_rows.as_slice();
-        for spec in specs {
-            if search::mode_of(rows, session, &spec.document).is_none() {
-                return true;
-            }
-        }
-        false
-    }
-
     /// What one span of a document gives.
     fn span_size(&self, document: &Tumbler, span: &Span) -> Size
         requires { SpanFits span.now }
@@ -122,7 +69,7 @@ impl FlatWorld {
     /// What the spans of one spec give.
     #[tactic(auto, using(crate::proofs::Sizes::sizes))]
     fn spec_size(&self, spec: &Spec) -> Size
-        requires { list_any (λ s. not (fits s.start s.width)) (plain_spec spec.now).spans ≡ false }
+        requires { list_any is_bad_span (plain_spec spec.now).spans ≡ false }
         ensures bytes { result.bytes ≡ min (sum_by (span_bytes self.now.world spec.now.document) spec.now.spans.items) (2 ^ 64 - 1) }
         ensures items { result.items ≡ min (sum_by (span_items self.now.world spec.now.document) spec.now.spans.items) (2 ^ 64 - 1) }
     {
@@ -151,31 +98,6 @@ impl FlatWorld {
             items = items.saturating_add(size.items);
         }
         Size { bytes, items }
-    }
-
-    /// The refusal that a retrieve is given. It takes no memory.
-    pub(crate) fn retrieve_refusal(
-        &self,
-        session: u64,
-        specs: &[Spec],
-        limits: &Limits,
-    ) -> Option<Refusal>
-        ensures { result ≡ wanted limits.now self.now.counted self.now.world session (retrieve (map plain_spec specs.now)) }
-    {
-        if self.lacks_document(specs) {
-            return Some(Refusal::NoSuchDocument);
-        }
-        if self.lacks_opening(session, specs) {
-            return Some(Refusal::NotOpen);
-        }
-        if has_bad_span(specs) {
-            return Some(Refusal::BadAddress);
-        }
-        let size = self.size_of(specs);
-        if size.bytes > MOST_REPLY_BYTES || size.items > MOST_REPLY_ITEMS {
-            return Some(Refusal::TooLong);
-        }
-        None
     }
 }
 
@@ -264,7 +186,7 @@ impl FlatWorld {
         index: &BTreeMap<Tumbler, u8>,
         spec: &Spec,
     ) -> Result<(), Memory>
-        requires fits { list_any (λ s. not (fits s.start s.width)) (plain_spec spec.now).spans ≡ false }
+        requires fits { list_any is_bad_span (plain_spec spec.now).spans ≡ false }
         requires indexed { IsByteIndex self.now.world.bytes index.now }
         ensures items { OnOk result (map plain_item items.new.items ≡ map plain_item items.old.items ++ flat_map (items_of_span self.now.world spec.now.document) spec.now.spans.items) }
         ensures valid { OnOk result (All NamesTumbler (map plain_item items.old.items) → All NamesTumbler (map plain_item items.new.items)) }
@@ -296,7 +218,7 @@ impl FlatWorld {
     }
 
     /// The items that the specs pick.
-    pub(crate) fn retrieve(&self, alloc: Global, specs: &[Spec]) -> Result<Reply, Memory>
+    fn retrieve(&self, alloc: Global, specs: &[Spec]) -> Result<Reply, Memory>
         requires fits { has_bad_span (map plain_spec specs.now) ≡ false }
         requires short { total_of (span_bytes self.now.world) (map plain_spec specs.now) ≤ 16777216 }
         requires few { total_of (span_items self.now.world) (map plain_spec specs.now) ≤ 65536 }
@@ -307,5 +229,27 @@ impl FlatWorld {
         let mut items = List::new(alloc);
         self.push_specs(alloc, &mut items, &index, specs)?;
         Ok(Reply::Retrieved(items))
+    }
+    /// Serves a retrieve.
+    #[tactic(auto, using(crate::proofs::Checks::refusals))]
+    pub(crate) fn serve_retrieve(
+        &self,
+        alloc: Global,
+        session: u64,
+        specs: &[Spec],
+        limits: &Limits,
+    ) -> Result<Served, Memory>
+        ensures served { IfOk result (IsServedAs limits.now self.now session (retrieve (map plain_spec specs.now))) }
+        ensures valid { IfOk result IsValidServed }
+    {
+        if let Some(refusal) = self.picking_refusal(session, specs) {
+            return Ok(Served::Refused(refusal));
+        }
+        let size = self.size_of(specs);
+        if size.bytes > MOST_REPLY_BYTES || size.items > MOST_ITEMS {
+            return Ok(Served::Refused(Refusal::TooLong));
+        }
+        let reply = self.retrieve(alloc, specs)?;
+        Ok(Served::Answered(reply))
     }
 }

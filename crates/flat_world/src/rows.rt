@@ -1,6 +1,7 @@
 //! The rows of the world's lists.
+ghost use Rattle.std.specs.Prelude.{◌≡◌};
 
-use febe_data::{Mode, Tumbler};
+use febe_data::{List, Mode, Run, Tumbler};
 
 /// The two parts of a document.
 #[derive(Clone, Copy, Debug, PartialEq, Eq)]
@@ -22,11 +23,36 @@ pub struct Row {
     pub address: Tumbler,
 }
 
+impl Row {
+    /// The same row.
+    pub(crate) fn copy(&self) -> Row
+        ensures { result ≡ self.now }
+    {
+        Row {
+            document: self.document.copy(),
+            part: self.part,
+            n: self.n,
+            address: self.address.copy(),
+        }
+    }
+}
+
 /// A content byte and its address.
 #[derive(Debug, Drop)]
 pub struct ByteRow {
     pub address: Tumbler,
     pub byte: u8,
+}
+
+/// A link.
+#[derive(Debug, Drop)]
+pub struct LinkRow {
+    pub id: Tumbler,
+    /// The document that it was made in.
+    pub home: Tumbler,
+    pub from: List<Run>,
+    pub to: List<Run>,
+    pub three: List<Run>,
 }
 
 /// A document that a session has open.
@@ -42,4 +68,11 @@ pub struct OpenRow {
 pub struct AccountRow {
     pub session: u64,
     pub account: Tumbler,
+}
+
+/// How many entries of the history are a session's.
+#[derive(Clone, Copy, Debug)]
+pub struct SessionRow {
+    pub session: u64,
+    pub entries: u64,
 }

@@ -1,12 +1,15 @@
 //! Look-ups in the world's lists, by scans.
-ghost use Rattle.std.specs.Prelude.{◌≡◌, ◌+◌, ◌==◌, ◌&&◌, ◌<◌, ◌^◌, ◌↔◌, ◌∷◌, [], ◌++◌, IsTrue, length, take, count_by, nat_eq, IfOk, ◌-◌};
+ghost use Rattle.std.specs.Prelude.{◌≡◌, ◌+◌, ◌==◌, ◌&&◌, ◌<◌, ◌^◌, ◌↔◌, ◌∷◌, [], ◌++◌, IsTrue, length, take, count_by, nat_eq, not, map, IfOk, ◌-◌};
 ghost use Rattle.std.specs.List.{list_any, find};
 ghost use Rattle.std.specs.Option.{option_map, option_copied};
 ghost use Rattle.std.specs.Ordering.{nat_cmp, is_le, is_lt};
 ghost use Rattle.std.specs.Cmp.Lexicographic.{slice_cmp};
-ghost use Rattle.flat_world.specs.World.{is_same, is_child_of, is_text, is_text_of, is_link_of, is_within, opens, part_number, next_document_of, content_length_of};
+ghost use Rattle.flat_world.specs.Picking.{is_within, is_between};
+ghost use Rattle.flat_world.specs.Holding.{holds};
+ghost use Rattle.flat_world.specs.PlainLink.{plain_link};
+ghost use Rattle.flat_world.specs.World.{is_same, is_child_of, is_text, is_text_of, is_link_of, opens, is_write, is_of_account, part_number, next_document_of, next_below, content_length_of, LinkRow};
 
-use crate::rows::{AccountRow, ByteRow, OpenRow, Part, Row};
+use crate::rows::{AccountRow, ByteRow, LinkRow, OpenRow, Part, Row};
 use febe_data::{Memory, Mode, Tumbler};
 
 pub(crate) fn has_document(documents: &[Tumbler], document: &Tumbler) -> bool
@@ -30,6 +33,14 @@ pub(crate) fn mode_of(rows: &[OpenRow], session: u64, document: &Tumbler) -> Opt
     rows.iter()
         .find(|row| row.session == session && row.document == *document)
         .map(|row| row.mode)
+}
+
+pub(crate) fn holder_of(rows: &[OpenRow], document: &Tumbler) -> Option<u64>
+    ensures { result ≡ option_map (λ r. r.session) (find (holds document.now) rows.now) }
+{
+    rows.iter()
+        .find(|row| row.document == *document && row.mode == Mode::Write)
+        .map(|row| row.session)
 }
 
 impl Part {
@@ -127,7 +138,7 @@ pub(crate) fn extended(address: &Tumbler, tail: &[u32]) -> Result<Tumbler, Memor
 }
 
 /// One more than the count, where a place can hold it.
-fn one_more_than(count: usize) -> Result<u32, Memory>
+pub(crate) fn one_more_than(count: usize) -> Result<u32, Memory>
     ensures { IfOk result (λ number. number ≡ count + 1) }
 {
     let count = u32::try_from(count).map_err(|_| Memory)?;
@@ -142,6 +153,50 @@ pub(crate) fn next_document(documents: &[Tumbler], account: &Tumbler) -> Result<
     let first = extended(account, &[0, 1])?;
     let number = one_more_than(children_among(documents, front_of(&first)))?;
     extended(account, &[0, number])
+}
+
+/// The address of the document's next version, where it is a tumbler.
+pub(crate) fn next_version(documents: &[Tumbler], document: &Tumbler) -> Result<Tumbler, Memory>
+    ensures { IfOk result (λ version. version ≡ next_below documents.now document.now) }
+{
+    let number = one_more_than(children_among(documents, document.places()))?;
+    extended(document, &[number])
+}
+
+/// Whether the document is one of the account's.
+#[tactic(auto, using(crate::proofs::Fronts::accounts))]
+pub(crate) fn is_of_account(account: &Tumbler, document: &Tumbler) -> bool
+    ensures { result ≡ is_of_account account.now document.now }
+{
+    let account = account.places();
+    let document = document.places();
+    if document.len() <= account.len() {
+        return false;
+    }
+    let (front, rest) = document.split_at(account.len());
+    front == account && rest[0] == 0
+}
+
+/// Whether another session holds the document for writing.
+pub(crate) fn is_held_against(rows: &[OpenRow], session: u64, document: &Tumbler) -> bool
+    ensures { result ≡ list_any (λ r. not (r.session == session) && is_same r.document document.now && is_write r.mode) rows.now }
+{
+    rows.iter().any(|row| {
+        row.session != session && row.document == *document && row.mode == Mode::Write
+    })
+}
+
+pub(crate) fn link_length(rows: &[Row], document: &Tumbler) -> usize
+    ensures { result ≡ count_by (is_link_of document.now) rows.now }
+{
+    rows.iter().filter(|row| row.is_link_of(document)).count()
+}
+
+/// The number of the next link that is made in the document.
+pub(crate) fn next_link(links: &[LinkRow], home: &Tumbler) -> Result<u32, Memory>
+    ensures { IfOk result (λ n. n ≡ count_by (λ l. is_same l.home home.now) (map plain_link links.now) + 1) }
+{
+    one_more_than(links.iter().filter(|link| link.home == *home).count())
 }
 
 /// The number of the document's next content byte.

@@ -1,15 +1,13 @@
 -- One request after the other is answered.
 use Rattle.std.proofs.Common.{◌≡◌, ◌≢◌, ℕ, zero, suc, ◌+◌, ◌≤◌, ◌<◌, true, List, [], ◌∷◌, ◌++◌, length, take, drop, get_or, Option, refl, ap, ◌∙◌, sym, subst, inl, inr, arith, le_trans}
 use Rattle.std.specs.Prelude.{codes}
-use Rattle.std.specs.List.{AllByRecursion}
 use Rattle.std.specs.Io.KnownBytes.{Appends}
 use Rattle.std.proofs.lemmas.List.{append_assoc, append-nil, take_more, take-append-drop, drop_all}
 use Rattle.febe_data.specs.LimitsView.{standard_limits}
 use Rattle.febe_data.specs.Plain.{PlainRequest, quit, PlainEntry}
 use Rattle.febe_wire.specs.Sessions.{QuitsLast}
-use Rattle.flat_world.specs.Apply.{is_live}
-use Rattle.flat_world.specs.Small.{IsSmall}
-use Rattle.green_top.specs.Session.{restart_entry, begin_entry}
+use Rattle.flat_world.specs.History.{is_live, restart_entry}
+use Rattle.green_top.specs.Session.{begin_entry}
 use Rattle.green_top.specs.Outside.{IsPut}
 use Rattle.green_top.specs.declared.outside.Put.TheVariants as puts
 use Rattle.green_top.specs.declared.status.Status.TheVariants as statuses
@@ -24,12 +22,6 @@ no_quit_before [] i d q lt = absurd (omega arith)
 no_quit_before (r ∷ []) i d q lt = absurd (omega arith)
 no_quit_before (r ∷ next ∷ rest) zero d q lt = q.0
 no_quit_before (r ∷ next ∷ rest) (suc i) d q lt = no_quit_before (next ∷ rest) i d q.1 (omega arith)
-
--- of small requests each is small
-pub small_at : (all : List PlainRequest) (i : ℕ) (d : PlainRequest) → AllByRecursion IsSmall all → i < length all → IsSmall (get_or all i d)
-small_at [] i d s lt = absurd (omega arith)
-small_at (r ∷ rest) zero d s lt = s.0
-small_at (r ∷ rest) (suc i) d s lt = small_at rest i d s.1 (omega arith)
 
 module _ (all : List PlainRequest) (taken taken' : Option (List ℕ)) (faults faults' : ℕ) where
   pub going_starts : IsPut taken taken' faults faults' (codes "P0~") puts.Done → Going all 0 (restart_entry ∷ begin_entry 1 ∷ []) [] taken taken' faults faults'

@@ -7,4 +7,4 @@ pub mod Outcomes
 pub mod Serials
 pub mod Places
 pub mod Turns
-pub mod SmallSessions
+pub mod Inputs

@@ -4,11 +4,11 @@ use Rattle.std.specs.Io.KnownBytes.{Consumes}
 use Rattle.std.proofs.lemmas.List.{append-nil}
 use Rattle.febe_data.specs.LimitsView.{standard_limits}
 use Rattle.febe_data.specs.Plain.{PlainRequest, PlainEntry}
-use Rattle.green_top.specs.SmallSession.{IsSmallSession}
-use Rattle.flat_world.specs.Apply.{is_live, entries_of}
+use Rattle.green_top.specs.SessionInput.{IsSessionInput}
+use Rattle.flat_world.specs.History.{is_live, entries_of, restart_entry}
 use Rattle.green_top.specs.declared.status.Status.{Status}
 use Rattle.green_top.specs.declared.status.Status.TheVariants.{Done, Usage, Malformed, ReadFault, WriteFault, Memory, Budget}
-use Rattle.green_top.specs.Session.{restart_entry, end_entry}
+use Rattle.green_top.specs.Session.{end_entry}
 use Rattle.green_top.specs.Transcript.{IsEnding, Transcript}
 use Rattle.green_top.specs.Progress.{Progress, AllAnswered}
 use Rattle.green_top.specs.Outcome.{IsOver, Ended, NotBegun, IsRan, IsRead, IsRun}
@@ -57,7 +57,7 @@ module _ (all : List PlainRequest) (h : List PlainEntry) (points : List ℕ) (le
     comes = inl (record { history_is = b.history_is; no_points = b.no_points; nothing = refl });
   })
 
-  run_ended : (status : Status) → IsSmallSession read all → Ended all h points taken taken' faults faults' status → IsRun left left' taken taken' source_before source_after faults faults' h points n status
+  run_ended : (status : Status) → IsSessionInput read all → Ended all h points taken taken' faults faults' status → IsRun left left' taken taken' source_before source_after faults faults' h points n status
   run_ended Done input d =
       let all_of_them : all ≡ d.answered = d.front ∙ ap (λ (rs : List PlainRequest). d.answered ++ rs) d.came.0 ∙ append-nil d.answered in
       record {
@@ -66,7 +66,7 @@ module _ (all : List PlainRequest) (h : List PlainEntry) (points : List ℕ) (le
         consumed = consumed;
         appended = d.appended;
         counted = counted;
-        comes = (is_read, inr (record { requests = d.answered; input = subst (λ (rs : List PlainRequest). IsSmallSession read rs) all_of_them input; over = subst (λ (w : List ℕ). IsOver h points d.answered w) (sym d.came.1) d.over }));
+        comes = (is_read, inr (record { requests = d.answered; input = subst (λ (rs : List PlainRequest). IsSessionInput read rs) all_of_them input; over = subst (λ (w : List ℕ). IsOver h points d.answered w) (sym d.came.1) d.over }));
       }
   run_ended Usage input d = absurd d.came
   run_ended Malformed input d = absurd d.came
@@ -89,6 +89,6 @@ module _ (all : List PlainRequest) (h : List PlainEntry) (points : List ℕ) (le
   }
   run_ended Budget input d = absurd d.came
 
-  pub run_of_session : (status : Status) → IsSmallSession read all → IsRan all h points taken taken' faults faults' status → IsRun left left' taken taken' source_before source_after faults faults' h points n status
+  pub run_of_session : (status : Status) → IsSessionInput read all → IsRan all h points taken taken' faults faults' status → IsRun left left' taken taken' source_before source_after faults faults' h points n status
   run_of_session status input (inl b) = run_not_begun status b
   run_of_session status input (inr d) = run_ended status input d

@@ -1,4 +1,4 @@
--- A session's texts come in at places that are there.
+-- A session makes new documents, and changes them at places that are there.
 use Rattle.std.proofs.Common.{◌≡◌, ℕ, false, List, [], ◌∷◌, ◌++◌, length, Option, Some, None, refl, sym, subst, inl, inr, ◌⊎◌}
 use Rattle.std.specs.Prelude.{MatchOption, fold}
 use Rattle.std.proofs.lemmas.List.{append-nil}
@@ -6,7 +6,8 @@ use Rattle.febe_data.specs.declared.refusal.Refusal.{Refusal}
 use Rattle.febe_data.specs.LimitsView.{LimitsView}
 use Rattle.febe_data.specs.Plain.{PlainRequest, PlainReply, PlainEntry}
 use Rattle.flat_world.specs.World.{World, empty_world}
-use Rattle.flat_world.specs.Apply.{apply, kept, world_of}
+use Rattle.flat_world.specs.Apply.{apply, world_of}
+use Rattle.flat_world.specs.History.{kept}
 use Rattle.flat_world.specs.Effects.{Effect, effect}
 use Rattle.flat_world.specs.Legal.{IsLegal, IsServed, IsRefused, IsAnswered, IsDone, IsDiskFault, wanted_after, entry_after}
 use Rattle.flat_world.specs.Laws.{IsPlaced, AllPlaced}
@@ -36,7 +37,7 @@ by_given : (limits : LimitsView) (h : List PlainEntry) (request : PlainRequest) 
 by_given limits h request reply added None p e a = by_served limits h request reply added (effect (world_of h) 1 request) p e refl a
 by_given limits h request reply added (Some refusal) p e a = by_none h added p a.nothing
 
--- a legal step inserts at such a place
+-- so does a legal step
 pub placed_goes_on : (limits : LimitsView) (h : List PlainEntry) (request : PlainRequest) (reply : PlainReply) (added after : List PlainEntry) → AllPlaced empty_world h
     → IsLegal limits 1 h request reply added false → after ≡ h ++ added → AllPlaced empty_world after
 placed_goes_on limits h request reply added after p legal grows =

@@ -10,10 +10,11 @@ use Rattle.febe_data.specs.declared.refusal.Refusal.{Refusal}
 use Rattle.febe_data.specs.LimitsView.{LimitsView}
 use Rattle.febe_data.specs.Plain.{PlainRequest, PlainReply, PlainEntry}
 use Rattle.febe_reply.specs.ReplyGrammar.{spell_reply}
-use Rattle.flat_world.specs.Apply.{entries_of, world_of}
+use Rattle.flat_world.specs.Apply.{world_of}
+use Rattle.flat_world.specs.History.{entries_of, restart_entry}
 use Rattle.flat_world.specs.Effects.{Effect, effect}
 use Rattle.flat_world.specs.Legal.{IsLegal, IsServed, IsRefused, IsAnswered, IsDone, IsDiskFault, Exchange, TookPlace, wanted_after}
-use Rattle.green_top.specs.Session.{restart_entry, begin_entry}
+use Rattle.green_top.specs.Session.{begin_entry}
 use Rattle.green_top.specs.Transcript.{output_of, BeginsBefore, IsEnding, IsCalm, InTurn, Transcript}
 use Rattle.green_top.specs.Progress.{Answers, Progress}
 use Rattle.green_top.proofs.Places.{placed_goes_on}

@@ -6,7 +6,8 @@ use Rattle.std.proofs.lemmas.List.Elements.{filter-append}
 use Rattle.febe_data.specs.declared.refusal.Refusal.{Refusal}
 use Rattle.febe_data.specs.LimitsView.{LimitsView}
 use Rattle.febe_data.specs.Plain.{PlainRequest, PlainReply, PlainEntry}
-use Rattle.flat_world.specs.Apply.{entries_of, world_of}
+use Rattle.flat_world.specs.Apply.{world_of}
+use Rattle.flat_world.specs.History.{entries_of}
 use Rattle.flat_world.specs.Effects.{Effect, effect}
 use Rattle.flat_world.specs.Legal.{IsLegal, IsServed, IsRefused, IsAnswered, IsDone, IsDiskFault, wanted_after}
 use Rattle.flat_world.specs.Laws.{numbers_from}

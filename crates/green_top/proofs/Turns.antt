@@ -4,7 +4,7 @@ use Rattle.std.specs.List.{flat_map, AllByRecursion}
 use Rattle.std.proofs.lemmas.List.{append-nil, length-append, take-append-le}
 use Rattle.febe_data.specs.LimitsView.{LimitsView}
 use Rattle.febe_data.specs.Plain.{PlainEntry}
-use Rattle.flat_world.specs.Apply.{entries_of}
+use Rattle.flat_world.specs.History.{entries_of}
 use Rattle.flat_world.specs.Legal.{Exchange, TookPlace}
 use Rattle.green_top.specs.Transcript.{InTurn}
 

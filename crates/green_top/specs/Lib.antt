@@ -1,4 +1,4 @@
-pub mod SmallSession
+pub mod SessionInput
 pub mod Session
 pub mod IsStore
 pub mod Transcript

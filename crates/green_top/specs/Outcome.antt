@@ -4,13 +4,12 @@ use Rattle.std.specs.Io.KnownBytes.{Consumes, Appends, IsAtEnd}
 use Rattle.green_io.specs.Outside.{HasRisen}
 use Rattle.febe_data.specs.LimitsView.{standard_limits}
 use Rattle.febe_data.specs.Plain.{PlainRequest, PlainEntry}
-use Rattle.green_top.specs.SmallSession.{IsSmallSession, IsNoSession}
+use Rattle.green_top.specs.SessionInput.{IsSessionInput, IsNoSession}
 use Rattle.flat_world.specs.World.{empty_world}
 use Rattle.flat_world.specs.Laws.{AllPlaced}
-use Rattle.flat_world.specs.Apply.{is_live, entries_of}
+use Rattle.flat_world.specs.History.{is_live, entries_of, restart_entry}
 use Rattle.green_top.specs.declared.status.Status.{Status}
 use Rattle.green_top.specs.declared.status.Status.TheVariants as statuses
-use Rattle.green_top.specs.Session.{restart_entry}
 use Rattle.green_top.specs.Transcript.{IsFrontOf, Transcript}
 use Rattle.green_top.specs.Progress.{CameOf}
 use Rattle.green_top.specs.Outside.{most_input}
@@ -18,7 +17,7 @@ use Rattle.green_top.specs.Outside.{most_input}
 -- ---- the requests of one session
 
 -- a session is over: these requests were answered with this output, and the history is one Restart and the
--- session's entries, whose texts came in at places that were there
+-- session's entries, which made new documents, and changed them at places that were there
 pub record IsOver (history : List PlainEntry) (points : List ℕ) (answered : List PlainRequest) (output : List ℕ) : Type 0 where
   pub history_is : history ≡ restart_entry ∷ entries_of 1 history
   pub over : is_live history 1 ≡ false
@@ -59,7 +58,7 @@ pub record NoSession (history : List PlainEntry) (points written : List ℕ) : T
 -- all requests of the input were answered, and all of the output was written
 pub record WholeSession (read : List ℕ) (history : List PlainEntry) (points written : List ℕ) : Type 0 where
   pub requests : List PlainRequest
-  pub input : IsSmallSession read requests
+  pub input : IsSessionInput read requests
   pub over : IsOver history points requests written
 
 -- the first requests of the input were answered, and a front of the output was written
@@ -68,7 +67,7 @@ pub record FrontOfSession (read : List ℕ) (history : List PlainEntry) (points 
   pub answered : List PlainRequest
   pub rest : List PlainRequest
   pub output : List ℕ
-  pub input : IsSmallSession read all
+  pub input : IsSessionInput read all
   pub front : all ≡ answered ++ rest
   pub written_front : IsFrontOf written output
   pub over : IsOver history points answered output

@@ -7,11 +7,11 @@ use Rattle.green_io.specs.Outside.{HasRisen}
 use Rattle.febe_data.specs.LimitsView.{LimitsView, standard_limits}
 use Rattle.febe_data.specs.Plain.{PlainRequest, PlainReply, PlainEntry}
 use Rattle.febe_reply.specs.ReplyGrammar.{spell_reply}
-use Rattle.flat_world.specs.Apply.{entries_of, is_live}
+use Rattle.flat_world.specs.History.{entries_of, is_live, restart_entry}
 use Rattle.flat_world.specs.World.{empty_world}
 use Rattle.flat_world.specs.Laws.{AllPlaced}
 use Rattle.flat_world.specs.Legal.{IsLegal, Exchange, TookPlace}
-use Rattle.green_top.specs.Session.{restart_entry, begin_entry}
+use Rattle.green_top.specs.Session.{begin_entry}
 use Rattle.green_top.specs.Transcript.{IsFrontOf, output_of, IsCalm, AreSerials, InTurn}
 use Rattle.green_top.specs.declared.status.Status.{Status}
 use Rattle.green_top.specs.declared.status.Status.TheVariants as statuses

@@ -1,16 +1,11 @@
 -- One session in the history of a back end.
-use Rattle.std.specs.Prelude.{◌≡◌, ◌⊎◌, ℕ, Bool, true, List, [], ◌∷◌, ◌++◌, length}
+use Rattle.std.specs.Prelude.{◌≡◌, ◌⊎◌, ℕ, Bool, true, List, [], ◌∷◌, ◌++◌}
 use Rattle.febe_data.specs.declared.refusal.Refusal.TheVariants.{Memory}
 use Rattle.febe_data.specs.LimitsView.{LimitsView}
-use Rattle.febe_data.specs.Plain.{PlainRequest, PlainReply, PlainChange, PlainEntry, refused, restarted, began, ended}
-use Rattle.flat_world.specs.FlatView.{FlatView}
-use Rattle.flat_world.specs.Apply.{world_of, kept, live_after, next_serial}
+use Rattle.febe_data.specs.Plain.{PlainRequest, PlainReply, PlainChange, PlainEntry, refused, began, ended}
+use Rattle.flat_world.specs.History.{live_after, next_serial}
 use Rattle.flat_world.specs.Effects.{Effect}
 use Rattle.flat_world.specs.Legal.{IsLegal, entry_after}
-
--- what a back end begins with: all sessions of before are gone
-abbrev pub restart_entry : PlainEntry
-restart_entry = record { session = 0; serial = 0; change = restarted }
 
 -- a session begins, with its first entry
 abbrev pub begin_entry : ℕ → PlainEntry
@@ -19,10 +14,6 @@ begin_entry session = record { session = session; serial = 1; change = began }
 -- a session ends, after this history
 abbrev pub end_entry : List PlainEntry → ℕ → PlainEntry
 end_entry before session = record { session = session; serial = next_serial before session; change = ended }
-
--- the flat world that a history gives
-abbrev pub state_of : List PlainEntry → FlatView
-state_of history = record { world = world_of history; counted = length (kept history) }
 
 -- a legal step leads from one history to a longer one
 pub record Steps (limits : LimitsView) (session : ℕ) (before : List PlainEntry) (request : PlainRequest) (reply : PlainReply) (after : List PlainEntry) (rose : Bool) : Type 0 where

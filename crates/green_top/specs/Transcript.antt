@@ -5,7 +5,7 @@ use Rattle.std.specs.List.Sorted.{IsNonDecreasing}
 use Rattle.febe_data.specs.LimitsView.{LimitsView}
 use Rattle.febe_data.specs.Plain.{PlainRequest, PlainEntry, ended}
 use Rattle.febe_reply.specs.ReplyGrammar.{spell_reply}
-use Rattle.flat_world.specs.Apply.{entries_of}
+use Rattle.flat_world.specs.History.{entries_of}
 use Rattle.flat_world.specs.Legal.{Exchange, TookPlace}
 use Rattle.flat_world.specs.Laws.{numbers_from}
 use Rattle.green_top.specs.Session.{begin_entry}

@@ -2,10 +2,9 @@
 ghost use Rattle.std.specs.Prelude.{◌≡◌, ◌∷◌, [], true, map, string_bytes};
 ghost use Rattle.febe_data.specs.Plain.{plain_request, plain_history};
 ghost use Rattle.febe_data.specs.LimitsView.{standard_limits};
-ghost use Rattle.std.specs.List.{AllByRecursion};
 ghost use Rattle.febe_wire.specs.Sessions.{QuitsLast};
-ghost use Rattle.flat_world.specs.Small.{IsSmall};
-ghost use Rattle.green_top.specs.Session.{restart_entry, begin_entry};
+ghost use Rattle.flat_world.specs.History.{restart_entry};
+ghost use Rattle.green_top.specs.Session.{begin_entry};
 ghost use Rattle.green_top.specs.Progress.{AllAnswered};
 ghost use Rattle.green_top.specs.Outcome.{IsRan, IsRun};
 ghost use Rattle.green_top.specs.Batch.{are_words, IsBatch};
@@ -51,7 +50,6 @@ fn answer_all<K: Sink>(
     requires begun { store.old.history ≡ restart_entry ∷ begin_entry 1 ∷ [] }
     requires no_points { points.old.items ≡ [] }
     requires quits_last { QuitsLast (map plain_request requests.now) }
-    requires small { AllByRecursion IsSmall (map plain_request requests.now) }
     ensures answered { AllAnswered (map plain_request requests.now) store.new.history points.new.items (K.taken sink.old) (K.taken sink.new)
         (K.fault_count sink.old) (K.fault_count sink.new) result }
 {
@@ -80,7 +78,6 @@ fn run_session<K: Sink>(
     requires begun { store.old.history ≡ restart_entry ∷ [] }
     requires no_points { points.old.items ≡ [] }
     requires quits_last { QuitsLast (map plain_request requests.now) }
-    requires small { AllByRecursion IsSmall (map plain_request requests.now) }
     ensures ran { IsRan (map plain_request requests.now) store.new.history points.new.items (K.taken sink.old) (K.taken sink.new)
         (K.fault_count sink.old) (K.fault_count sink.new) result }
 {

@@ -1,8 +1,7 @@
 //! One request and its reply.
 ghost use Rattle.std.specs.Prelude.{◌≡◌, ◌≢◌, true, IsOk};
 ghost use Rattle.febe_data.specs.Plain.{plain_request};
-ghost use Rattle.flat_world.specs.Apply.{is_live};
-ghost use Rattle.flat_world.specs.Small.{IsSmall};
+ghost use Rattle.flat_world.specs.History.{is_live};
 ghost use Rattle.green_top.specs.Progress.{IsAnswered};
 
 use crate::outside::{Put, put_bytes};
@@ -34,7 +33,6 @@ pub(crate) fn answer_one<K: Sink>(
     points: &mut List<u64>,
 ) -> Answered
     requires live { is_live store.old.history 1 ≡ true }
-    requires small { IsSmall (plain_request request.now) }
     ensures answered { IsAnswered limits.now store.old.history points.old.items (plain_request request.now) store.new.history points.new.items
         (K.taken sink.old) (K.taken sink.new) (K.fault_count sink.old) (K.fault_count sink.new) result }
     ensures stays { request.now ≢ Request.Quit → is_live store.new.history 1 ≡ true }

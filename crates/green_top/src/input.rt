@@ -1,12 +1,11 @@
 //! The requests of a session's whole input.
 ghost use Rattle.std.specs.Prelude.{◌≡◌, ◌↔◌, ◌++◌, map, IsTrue, IfOk, IfSome, IfNone};
-ghost use Rattle.febe_data.specs.Plain.{plain_spec, plain_request, quit};
+ghost use Rattle.febe_data.specs.Plain.{plain_request, quit};
 ghost use Rattle.febe_wire.specs.Sessions.{greeting};
-ghost use Rattle.green_top.specs.SmallSession.{HasOneSpan, IsTaken, IsSmallSession, IsNoSession};
+ghost use Rattle.green_top.specs.SessionInput.{IsSessionInput, IsNoSession};
 
-use febe_data::{List, Memory, Request, Spec};
+use febe_data::{List, Memory, Request};
 use febe_wire::{Got, read_request};
-use flat_world::is_small;
 use std::alloc::Global;
 
 fn is_quit(request: &Request) -> bool
@@ -15,28 +14,9 @@ fn is_quit(request: &Request) -> bool
     matches!(request, Request::Quit)
 }
 
-/// Whether the request is one of those that are taken today.
-fn is_taken(request: &Request) -> bool
-    ensures { IsTrue result ↔ IsTaken (plain_request request.now) }
-{
-    match request {
-        Request::Retrieve { specs } => has_one_span(specs.as_slice()),
-        _ => is_small(request),
-    }
-}
-
-fn has_one_span(specs: &[Spec]) -> bool
-    ensures { IsTrue result ↔ HasOneSpan (map plain_spec specs.now) }
-{
-    match specs {
-        [spec] => spec.spans.len() == 1,
-        _ => false,
-    }
-}
-
 /// The requests behind a greeting, up to a quit or the end of the bytes.
 fn requests_of(alloc: Global, bytes: &[u8]) -> Result<Option<List<Request>>, Memory>
-    ensures found { IfOk result (λ found. IfSome found (λ requests. IsSmallSession (greeting ++ bytes.now) (map plain_request requests.items))) }
+    ensures found { IfOk result (λ found. IfSome found (λ requests. IsSessionInput (greeting ++ bytes.now) (map plain_request requests.items))) }
     ensures none { IfOk result (λ found. IfNone found (IsNoSession (greeting ++ bytes.now))) }
 {
     let mut requests = List::new(alloc);
@@ -45,9 +25,6 @@ fn requests_of(alloc: Global, bytes: &[u8]) -> Result<Option<List<Request>>, Mem
         let Got::Request { request, used } = read_request(alloc, rest)? else {
             return Ok(None);
         };
-        if !is_taken(&request) {
-            return Ok(None);
-        }
         let quits = is_quit(&request);
         requests.push(request)?;
         if quits {
@@ -60,7 +37,7 @@ fn requests_of(alloc: Global, bytes: &[u8]) -> Result<Option<List<Request>>, Mem
 
 /// The requests of a session's input: of its greeting and of what follows, up to a quit or the end.
 pub(crate) fn read_session(alloc: Global, bytes: &[u8]) -> Result<Option<List<Request>>, Memory>
-    ensures found { IfOk result (λ found. IfSome found (λ requests. IsSmallSession bytes.now (map plain_request requests.items))) }
+    ensures found { IfOk result (λ found. IfSome found (λ requests. IsSessionInput bytes.now (map plain_request requests.items))) }
     ensures none { IfOk result (λ found. IfNone found (IsNoSession bytes.now)) }
 {
     match bytes {

@@ -7,7 +7,7 @@ pub(crate) enum Status {
     Done,
     /// The words are not a name and a folder.
     Usage,
-    /// The input is no session of small requests.
+    /// The input is no session.
     Malformed,
     /// The source failed.
     ReadFault,

@@ -36,10 +36,9 @@ impl Model for Store {
 #[tactic(auto, using(crate::proofs::Histories::histories))]
 impl Store {
     ghost use Rattle.febe_data.specs.Plain.{plain_request, plain_reply, plain_change, plain_history, ended};
-    ghost use Rattle.flat_world.specs.Small.{IsSmall};
     ghost use Rattle.flat_world.specs.PlainEffect.{plain_effect};
-    ghost use Rattle.flat_world.specs.Apply.{is_live, entries_of};
-    ghost use Rattle.green_top.specs.Session.{restart_entry, begin_entry, end_entry, Steps, IsMade, LeavesLive};
+    ghost use Rattle.flat_world.specs.History.{is_live, entries_of, restart_entry};
+    ghost use Rattle.green_top.specs.Session.{begin_entry, end_entry, Steps, IsMade, LeavesLive};
     ghost use Rattle.febe_data.specs.Validity.{IsReply};
 
     /// A back end that has just begun.
@@ -102,10 +101,9 @@ impl Store {
         self.live = false;
     }
 
-    /// Answers a request of the session, of a kind that is answered today, by a legal step. Only a quit ends the session.
+    /// Answers a request of the session by a legal step. Only a quit ends the session.
     pub(crate) fn ask(&mut self, alloc: Global, request: &Request, limits: &Limits) -> Reply
         requires live { is_live self.old.history 1 ≡ true }
-        requires small { IsSmall (plain_request request.now) }
         ensures valid { IsReply (plain_reply result) }
         ensures step { Steps limits.now 1 self.old.history (plain_request request.now) (plain_reply result) self.new.history false }
         ensures stays { request.now ≢ Request.Quit → is_live self.new.history 1 ≡ true }
@@ -115,10 +113,8 @@ impl Store {
             self.end(alloc);
             return Reply::Quit;
         }
-        if let Some(refusal) = self.world.refusal(SESSION, request, limits) {
-            return Reply::Refused(refusal);
-        }
         match self.world.serve(alloc, SESSION, request, limits) {
+            Ok(Served::Refused(refusal)) => Reply::Refused(refusal),
             Ok(Served::Changed(made)) => self.make(alloc, made),
             Ok(Served::Answered(reply)) => reply,
             Err(Memory) => Reply::Refused(Refusal::Memory),

@@ -1,4 +1,4 @@
-use Rattle.flat_world.proofs.Numbered.{inserts_numbered}
+use Rattle.flat_world.proofs.Inserted.{inserts_numbered}
 use Rattle.flat_world.proofs.laws.inserts_numbered.Goals as goal
 
 pub returns : goal.returns

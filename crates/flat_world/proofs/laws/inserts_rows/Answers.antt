@@ -1,4 +1,4 @@
-use Rattle.flat_world.proofs.Numbered.{inserts_rows}
+use Rattle.flat_world.proofs.Inserted.{inserts_rows}
 use Rattle.flat_world.proofs.laws.inserts_rows.Goals as goal
 
 pub returns : goal.returns

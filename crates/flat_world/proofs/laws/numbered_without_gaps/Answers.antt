@@ -1,4 +1,4 @@
-use Rattle.flat_world.proofs.Numbered.{numbered_without_gaps}
+use Rattle.flat_world.proofs.Orderly.{numbered_without_gaps}
 use Rattle.flat_world.proofs.laws.numbered_without_gaps.Goals as goal
 
 pub returns : goal.returns

@@ -2,7 +2,8 @@ use Rattle.std.proofs.Common.{◌≡◌, ◌&&◌, ◌++◌, ◌+◌, true, fals
 use Rattle.std.specs.Prelude.{filter}
 use Rattle.febe_data.specs.Plain.{plain_item, link}
 use Rattle.flat_world.specs.declared.rows.Row.{Row}
-use Rattle.flat_world.specs.World.{is_link_of, is_within}
+use Rattle.flat_world.specs.World.{is_link_of}
+use Rattle.flat_world.specs.Picking.{is_within}
 use Rattle.flat_world.specs.Answers.{NamesTumbler}
 use Rattle.flat_world.proofs.Retrieved.{links_yes, links_no, both_true, first_false, second_false}
 use Rattle.flat_world.proofs.Valid.{tumblers_push}

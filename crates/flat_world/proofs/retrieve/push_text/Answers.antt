@@ -3,7 +3,8 @@ use Rattle.std.specs.Prelude.{filter}
 use Rattle.std.specs.Option.{option_to_list}
 use Rattle.std.proofs.lemmas.Result.{on_ok_weaker}
 use Rattle.flat_world.specs.declared.rows.Row.{Row}
-use Rattle.flat_world.specs.World.{is_text_of, is_within}
+use Rattle.flat_world.specs.World.{is_text_of}
+use Rattle.flat_world.specs.Picking.{is_within}
 use Rattle.flat_world.specs.ByteIndex.{byte_of, bytes_of}
 use Rattle.flat_world.proofs.Retrieved.{bytes_more_yes, picked_more_yes, filter_more_no, both_true, first_false, second_false}
 use Rattle.flat_world.proofs.Valid.{tumblers_push}

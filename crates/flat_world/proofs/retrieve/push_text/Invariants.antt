@@ -1,6 +1,7 @@
 use Rattle.std.proofs.Common.{◌≡◌, ◌&&◌, ◌==◌, take, not, length}
 use Rattle.std.specs.Prelude.{filter}
-use Rattle.flat_world.specs.World.{is_text_of, is_within}
+use Rattle.flat_world.specs.World.{is_text_of}
+use Rattle.flat_world.specs.Picking.{is_within}
 use Rattle.flat_world.specs.ByteIndex.{bytes_of}
 use Rattle.flat_world.proofs.retrieve.push_text.Given as goal
 

@@ -1,9 +1,8 @@
-use Rattle.std.proofs.Common.{ℕ, List, ◌≡◌, ◌<◌, ◌∙◌, ap, sym, subst, map, length, get_or, arith}
+use Rattle.std.proofs.Common.{ℕ, List, ◌≡◌, ◌<◌, ◌∙◌, ap, sym, map, length, get_or, arith}
 use Rattle.std.proofs.lemmas.List.{length-map, get_or-map}
 use Rattle.febe_data.specs.declared.request.Request.{Request}
 use Rattle.febe_data.specs.Plain.{plain_request}
-use Rattle.flat_world.specs.Small.{IsSmall}
-use Rattle.green_top.proofs.Goings.{greeting_fails, going_on, fault_ends, memory_ends, small_at}
+use Rattle.green_top.proofs.Goings.{greeting_fails, going_on, fault_ends, memory_ends}
 use Rattle.green_top.proofs.batch.answer_all.Goals as goal
 
 pub returns-in-WriteFault : goal.returns-in-WriteFault
@@ -15,13 +14,6 @@ returns-in-WriteFault g c =
 -- the plain form of a list's item
 at_item : (requests : List Request) (i : ℕ) (item : Request) → i < length requests → item ≡ get_or requests i item → plain_request item ≡ get_or (map plain_request requests) i (plain_request item)
 at_item requests i item lt is = ap plain_request is ∙ sym (get_or-map plain_request requests i item (plain_request item) lt)
-
-pub answer_one-requires-clause-small : goal.answer_one-requires-clause-small
-answer_one-requires-clause-small g c =
-    let rs = map plain_request c.args.requests.now in
-    let lt : c.loop-request.request-index < length rs = omega (arith, length-map c.args.requests.now plain_request, c.loop-request-test.true) in
-    let is : plain_request c.request-item.result ≡ get_or rs c.loop-request.request-index (plain_request c.request-item.result) = at_item c.args.requests.now c.loop-request.request-index c.request-item.result c.loop-request-test.true c.request-item.is in
-    subst IsSmall (sym is) (small_at rs c.loop-request.request-index (plain_request c.request-item.result) c.requires.small lt)
 
 pub returns-in-WriteFault-answer_one : goal.returns-in-WriteFault-answer_one
 returns-in-WriteFault-answer_one g c =

@@ -2,7 +2,7 @@ use Rattle.std.proofs.Common.{◌≡◌, ◌++◌, ◌-◌, length, take, drop, 
 use Rattle.std.specs.Prelude.{IfOk, IfNone}
 use Rattle.std.proofs.lemmas.Grind.{common_steps}
 use Rattle.febe_wire.specs.Sessions.{greeting}
-use Rattle.green_top.specs.SmallSession.{IsNoSession}
+use Rattle.green_top.specs.SessionInput.{IsNoSession}
 use Rattle.green_top.proofs.input.read_session.Goals as goal
 
 pub returns-in-80-clause-none : goal.returns-in-80-clause-none

@@ -1,6 +1,6 @@
 use Rattle.std.proofs.Common.{map, length}
 use Rattle.febe_data.specs.Plain.{plain_request}
-use Rattle.green_top.proofs.SmallSessions.{Front}
+use Rattle.green_top.proofs.Inputs.{Front}
 use Rattle.green_top.proofs.input.requests_of.Given as goal
 
 abbrev pub invariant-loop-rest : goal.invariant-loop-rest

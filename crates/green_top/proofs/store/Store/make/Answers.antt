@@ -9,5 +9,6 @@ invariant_of-self-then-is_err-2 c =
       world_is = c.self.invariant.world_is;
       serial_is = c.self.invariant.serial_is;
       live_is = c.self.invariant.live_is;
+      has_begun = c.self.invariant.has_begun;
       room_kept = λ live. omega arith;
     })

@@ -1,0 +1,7 @@
+use Rattle.std.proofs.Common.{take}
+use Rattle.flat_world.specs.Picking.{is_in_runs}
+use Rattle.flat_world.specs.EndIndex.{IndexesMore}
+use Rattle.flat_world.proofs.end_index.add_runs.Given as goal
+
+abbrev pub invariant-loop-run : goal.invariant-loop-run
+invariant-loop-run l = IndexesMore (is_in_runs (take l.run-index l.runs)) l.initial.index l.index

@@ -1,0 +1,16 @@
+use Rattle.flat_world.proofs.Found.{showing_yes, showing_no}
+use Rattle.flat_world.proofs.finding.documents_showing.Goals as goal
+use Rattle.flat_world.proofs.finding.documents_showing.Goals.{then-contains+in_ok-insert, else-contains}
+
+pub loop-row-preserved : goal.loop-row-preserved
+loop-row-preserved c =
+    let addresses = c.args.addresses.now in
+    let rows = c.args.rows.now in
+    let i = c.loop-row.row-index in
+    let row = c.row-item.result in
+    let old = c.loop-row.shown in
+    elim c.if-contains.branch [
+      | then-contains+in_ok-insert w ↦
+          rw w.shown-is (showing_yes addresses rows i row w.copy.result c.contains.result old w.insert.new.self c.loop-row-test.true c.row-item.is w.copy.ensures c.contains.ensures w.if-contains.true c.loop-row.invariant w.in_ok-insert.ensures.updates)
+      | else-contains w ↦ rw w.shown-is (showing_no addresses rows i row c.contains.result old c.loop-row-test.true c.row-item.is c.contains.ensures w.if-contains.false c.loop-row.invariant)
+    ]

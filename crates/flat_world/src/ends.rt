@@ -1,0 +1,322 @@
+//! Where the three ends of links are now.
+ghost use Rattle.std.specs.Prelude.{◌≡◌, ◌&&◌, filter, map, All, IfOk};
+ghost use Rattle.std.specs.List.{find, list_any};
+ghost use Rattle.std.specs.Option.{option_map, option_copied};
+ghost use Rattle.tumbler.specs.Span.{end_of};
+ghost use Rattle.febe_data.specs.Plain.{plain_spec, follow, end_sets};
+ghost use Rattle.flat_world.specs.World.{is_text_of, is_same};
+ghost use Rattle.flat_world.specs.Picking.{is_within, content_of, number_of, is_in_run, places_of};
+ghost use Rattle.flat_world.specs.PlainLink.{plain_link};
+ghost use Rattle.flat_world.specs.Finding.{link_at};
+ghost use Rattle.flat_world.specs.Ends.{end_numbered, runs_of_end, run_now, end_set, NamesSpans};
+ghost use Rattle.flat_world.specs.EndIndex.{is_indexed, indexed_of};
+ghost use Rattle.flat_world.specs.Refusals.{is_too_long, spans_in};
+ghost use Rattle.flat_world.specs.Served.{IsServedAs, IsValidServed};
+
+use crate::end_index::{Piece, end_index, is_indexed};
+use crate::flat::FlatWorld;
+use crate::intervals::intervals;
+use crate::refusals::is_too_long;
+use crate::requests::Served;
+use crate::rows::{LinkRow, Row};
+use crate::runs::{content_of, number_of};
+use febe_data::{Limits, List, Memory, Refusal, Reply, Run, Span, Spec, Tumbler};
+use std::alloc::Global;
+use std::collections::BTreeMap;
+
+/// An end of a link.
+#[derive(Clone, Copy, Debug, PartialEq, Eq)]
+pub enum End {
+    From,
+    To,
+    Three,
+}
+
+impl End {
+    /// The end that requests name by the number.
+    pub(crate) fn numbered(number: u32) -> Option<End>
+        ensures { result ≡ end_numbered number }
+    {
+        match number {
+            1 => Some(End::From),
+            2 => Some(End::To),
+            3 => Some(End::Three),
+            _ => None,
+        }
+    }
+}
+
+impl LinkRow {
+    pub(crate) fn runs(&self, end: End) -> &[Run]
+        ensures { result.now ≡ runs_of_end end (plain_link self.now) }
+    {
+        match end {
+            End::From => self.from.as_slice(),
+            End::To => self.to.as_slice(),
+            End::Three => self.three.as_slice(),
+        }
+    }
+}
+
+/// Whether the address is one of the run's bytes.
+pub(crate) fn is_in_run(address: &Tumbler, run: &Run) -> bool
+    ensures { result ≡ is_in_run address.now run.now }
+{
+    let number = number_of(address);
+    content_of(address) == run.content.places()
+        && run.first <= number
+        && number - run.first < run.length
+}
+
+/// Whether the row shows a byte of the run in its origin.
+fn shows(row: &Row, run: &Run) -> bool
+    ensures { result ≡ (is_text_of run.now.origin row.now && is_in_run row.now.address run.now) }
+{
+    row.is_text_of(&run.origin) && is_in_run(&row.address, run)
+}
+
+/// The positions at which the run's origin shows its bytes.
+fn positions_of_run(alloc: Global, rows: &[Row], run: &Run) -> Result<List<u32>, Memory>
+    ensures { IfOk result (λ made. made.items ≡ places_of (filter (λ row. is_text_of run.now.origin row && is_in_run row.address run.now) rows.now)) }
+{
+    let mut positions = List::new(alloc);
+    for row in rows {
+        if shows(row, run) {
+            positions.push(row.n)?;
+        }
+    }
+    Ok(positions)
+}
+
+/// The addresses from a start on that are before an end.
+#[derive(Debug, Drop)]
+struct Extent {
+    start: Tumbler,
+    end: Tumbler,
+}
+
+/// Where the spans start and end. There is no memory for an end that is no address.
+fn extents_of(alloc: Global, spans: &[Span]) -> Result<List<Extent>, Memory>
+    ensures { IfOk result (λ made. made.items ≡ map (λ span. record { start = span.start; end = end_of span }) spans.now) }
+{
+    let mut extents = List::new(alloc);
+    for span in spans {
+        if !span.fits() {
+            return Err(Memory);
+        }
+        extents.push(Extent {
+            start: span.start.copy(),
+            end: span.start.add(&span.width),
+        })?;
+    }
+    Ok(extents)
+}
+
+/// Whether one of them holds the row's V-address.
+fn is_within_any(row: &Row, extents: &[Extent]) -> bool
+    ensures { result ≡ list_any (λ extent. is_within extent.start extent.end row.now) extents.now }
+{
+    extents
+        .iter()
+        .any(|extent| row.is_within(&extent.start, &extent.end))
+}
+
+/// Whether some span of the spec picks the row from its document's text. The extents are those of the spans.
+fn is_picked(row: &Row, document: &Tumbler, extents: &[Extent]) -> bool
+    ensures { result ≡ (is_text_of document.now row.now && list_any (λ extent. is_within extent.start extent.end row.now) extents.now) }
+{
+    row.is_text_of(document) && is_within_any(row, extents)
+}
+
+/// Whether the row is picked and the index has its byte.
+fn is_indexed_pick(
+    alloc: Global,
+    row: &Row,
+    document: &Tumbler,
+    extents: &[Extent],
+    index: &BTreeMap<Tumbler, List<Piece>>,
+) -> Result<bool, Memory>
+    ensures { IfOk result (λ found. found ≡ ((is_text_of document.now row.now && list_any (λ extent. is_within extent.start extent.end row.now) extents.now) && is_indexed index.now row.now.address)) }
+{
+    if !is_picked(row, document, extents) {
+        return Ok(false);
+    }
+    is_indexed(alloc, index, &row.address)
+}
+
+/// The positions of the picked rows whose bytes the index has.
+fn indexed_positions(
+    alloc: Global,
+    rows: &[Row],
+    document: &Tumbler,
+    extents: &[Extent],
+    index: &BTreeMap<Tumbler, List<Piece>>,
+) -> Result<List<u32>, Memory>
+    ensures { IfOk result (λ made. made.items ≡ places_of (filter (λ row. (is_text_of document.now row && list_any (λ extent. is_within extent.start extent.end row) extents.now) && is_indexed index.now row.address) rows.now)) }
+{
+    let mut positions = List::new(alloc);
+    for row in rows {
+        let found = is_indexed_pick(alloc, row, document, extents, index)?;
+        if found {
+            positions.push(row.n)?;
+        }
+    }
+    Ok(positions)
+}
+
+/// Whether the specs have more spans together than a reply has room for.
+fn has_too_many_spans(specs: &[Spec]) -> bool
+    ensures { result ≡ is_too_long (spans_in (map plain_spec specs.now)) }
+{
+    let mut total: usize = 0;
+    for spec in specs {
+        total = total.saturating_add(spec.spans.len());
+    }
+    is_too_long(total)
+}
+
+/// The first link of that id.
+fn first_link<'a>(links: &'a [LinkRow], id: &Tumbler) -> Option<&'a LinkRow>
+    ensures { option_copied result ≡ find (λ link. is_same link.id id.now) links.now }
+{
+    links.iter().find(|link| link.id == *id)
+}
+
+impl FlatWorld {
+    pub(crate) fn link_at(&self, id: &Tumbler) -> Option<&LinkRow>
+        ensures { option_map plain_link (option_copied result) ≡ link_at self.now.world id.now }
+    {
+        first_link(self.links.as_slice(), id)
+    }
+
+    /// Where the run's origin shows its bytes now.
+    fn run_now(&self, alloc: Global, run: &Run) -> Result<Spec, Memory>
+        ensures value { IfOk result (λ spec. plain_spec spec ≡ run_now self.now.world run.now) }
+        ensures valid { IfOk result (λ spec. NamesSpans (plain_spec spec)) }
+    {
+        let positions = positions_of_run(alloc, self.rows.as_slice(), run)?;
+        let _ = run.origin.places();
+        Ok(Spec {
+            document: run.origin.copy(),
+            spans: intervals(alloc, positions.as_slice())?,
+        })
+    }
+
+    /// One spec for each run.
+    fn runs_now(&self, alloc: Global, runs: &[Run]) -> Result<List<Spec>, Memory>
+        ensures value { IfOk result (λ made. map plain_spec made.items ≡ map (run_now self.now.world) runs.now) }
+        ensures valid { IfOk result (λ made. All NamesSpans (map plain_spec made.items)) }
+    {
+        let mut specs = List::new(alloc);
+        for run in runs {
+            specs.push(self.run_now(alloc, run)?)?;
+        }
+        Ok(specs)
+    }
+
+    /// Which of the text that the spec picks the index has.
+    fn indexed_of(
+        &self,
+        alloc: Global,
+        index: &BTreeMap<Tumbler, List<Piece>>,
+        spec: &Spec,
+    ) -> Result<Spec, Memory>
+        ensures value { IfOk result (λ made. plain_spec made ≡ indexed_of self.now.world index.now (plain_spec spec.now)) }
+        ensures valid { IfOk result (λ made. NamesSpans (plain_spec made)) }
+    {
+        let rows = self.rows.as_slice();
+        let extents = extents_of(alloc, spec.spans.as_slice())?;
+        let positions = indexed_positions(alloc, rows, &spec.document, extents.as_slice(), index)?;
+        let _ = spec.document.places();
+        Ok(Spec {
+            document: spec.document.copy(),
+            spans: intervals(alloc, positions.as_slice())?,
+        })
+    }
+
+    /// One spec for each spec, by the index.
+    fn indexed_specs(
+        &self,
+        alloc: Global,
+        index: &BTreeMap<Tumbler, List<Piece>>,
+        specs: &[Spec],
+    ) -> Result<List<Spec>, Memory>
+        ensures value { IfOk result (λ made. map plain_spec made.items ≡ map (indexed_of self.now.world index.now) (map plain_spec specs.now)) }
+        ensures valid { IfOk result (λ made. All NamesSpans (map plain_spec made.items)) }
+    {
+        let mut made = List::new(alloc);
+        for spec in specs {
+            made.push(self.indexed_of(alloc, index, spec)?)?;
+        }
+        Ok(made)
+    }
+
+    /// One spec for each spec: which of the text that it picks is in that end of some link.
+    fn end_set(&self, alloc: Global, end: End, specs: &[Spec]) -> Result<List<Spec>, Memory>
+        ensures value { IfOk result (λ made. map plain_spec made.items ≡ end_set self.now.world end (map plain_spec specs.now)) }
+        ensures valid { IfOk result (λ made. All NamesSpans (map plain_spec made.items)) }
+    {
+        let index = end_index(alloc, self.links.as_slice(), end)?;
+        self.indexed_specs(alloc, &index, specs)
+    }
+
+    /// What comes of a request for where an end of a link is.
+    pub(crate) fn serve_follow(
+        &self,
+        alloc: Global,
+        session: u64,
+        link: &Tumbler,
+        end: u32,
+        limits: &Limits,
+    ) -> Result<Served, Memory>
+        ensures served { IfOk result (IsServedAs limits.now self.now session (follow link.now end)) }
+        ensures valid { IfOk result IsValidServed }
+    {
+        let Some(found) = self.link_at(link) else {
+            return Ok(Served::Refused(Refusal::NoSuchLink));
+        };
+        let Some(end) = End::numbered(end) else {
+            return Ok(Served::Refused(Refusal::NoSuchEnd));
+        };
+        let specs = self.runs_now(alloc, found.runs(end))?;
+        if has_too_many_spans(specs.as_slice()) {
+            return Ok(Served::Refused(Refusal::TooLong));
+        }
+        if is_too_long(specs.len()) {
+            return Err(Memory);
+        }
+        Ok(Served::Answered(Reply::Followed(specs)))
+    }
+
+    /// What comes of a request for which of some text is in ends of links.
+    pub(crate) fn serve_end_sets(
+        &self,
+        alloc: Global,
+        session: u64,
+        specs: &[Spec],
+        limits: &Limits,
+    ) -> Result<Served, Memory>
+        ensures served { IfOk result (IsServedAs limits.now self.now session (end_sets (map plain_spec specs.now))) }
+        ensures valid { IfOk result IsValidServed }
+    {
+        if let Some(refusal) = self.picking_refusal(session, specs) {
+            return Ok(Served::Refused(refusal));
+        }
+        let from = self.end_set(alloc, End::From, specs)?;
+        if has_too_many_spans(from.as_slice()) {
+            return Ok(Served::Refused(Refusal::TooLong));
+        }
+        let to = self.end_set(alloc, End::To, specs)?;
+        if has_too_many_spans(to.as_slice()) {
+            return Ok(Served::Refused(Refusal::TooLong));
+        }
+        let three = self.end_set(alloc, End::Three, specs)?;
+        if has_too_many_spans(three.as_slice()) {
+            return Ok(Served::Refused(Refusal::TooLong));
+        }
+        if is_too_long(specs.len()) {
+            return Err(Memory);
+        }
+        Ok(Served::Answered(Reply::EndSets { from, to, three }))
+    }
+}

@@ -1,0 +1,127 @@
+//! The runs of content that spec sets name.
+ghost use Rattle.std.specs.Prelude.{◌≡◌, ◌++◌, map, IfOk, OnOk};
+ghost use Rattle.febe_data.specs.Plain.{plain_spec};
+ghost use Rattle.flat_world.specs.Picking.{content_of, number_of, is_next_byte, stretches, stretches_on, run_of, runs_of_span, runs_of_spec, runs_of};
+
+use crate::flat::FlatWorld;
+use febe_data::{List, Memory, Run, Span, Spec, Tumbler};
+use std::alloc::Global;
+
+/// The places of the document whose content byte the address is.
+pub(crate) fn content_of(address: &Tumbler) -> &[u32]
+    ensures { result.now ≡ content_of address.now }
+{
+    let places = address.places();
+    places.split_at(places.len().saturating_sub(3)).0
+}
+
+/// The number of the content byte at the address.
+pub(crate) fn number_of(address: &Tumbler) -> u32
+    ensures { result ≡ number_of address.now }
+{
+    match address.places().last() {
+        Some(number) => *number,
+        None => 0,
+    }
+}
+
+/// Whether the second address is the next byte of the same content.
+fn is_next_byte(a: &Tumbler, b: &Tumbler) -> bool
+    ensures { result ≡ is_next_byte a.now b.now }
+{
+    content_of(a) == content_of(b) && u64::from(number_of(b)) == u64::from(number_of(a)) + 1
+}
+
+/// The run of so many bytes from the first on, where its content is a tumbler.
+fn run_of(alloc: Global, origin: &Tumbler, first: &Tumbler, count: u32) -> Result<Run, Memory>
+    ensures { IfOk result (λ run. run ≡ run_of origin.now (record { first = first.now; count = count })) }
+{
+    let content = Tumbler::from_places(alloc, content_of(first)).map_err(|_| Memory)?;
+    Ok(Run {
+        origin: origin.copy(),
+        content,
+        first: number_of(first),
+        length: count,
+    })
+}
+
+/// Adds the runs of the first address and those that come after it.
+fn push_runs_from(
+    alloc: Global,
+    made: &mut List<Run>,
+    origin: &Tumbler,
+    first: &Tumbler,
+    rest: &[Tumbler],
+) -> Result<(), Memory>
+    ensures { OnOk result (made.new.items ≡ made.old.items ++ map (run_of origin.now) (stretches_on is_next_byte first.now first.now 1 rest.now)) }
+{
+    let mut begin = first;
+    let mut last = first;
+    let mut count: u32 = 1;
+    for address in rest {
+        if is_next_byte(last, address) {
+            count = count.checked_add(1).ok_or(Memory)?;
+        } else {
+            made.push(run_of(alloc, origin, begin, count)?)?;
+            begin = address;
+            count = 1;
+        }
+        last = address;
+    }
+    made.push(run_of(alloc, origin, begin, count)?)
+}
+
+/// Adds the runs of these addresses: as many bytes in each as follow each other.
+fn push_runs(
+    alloc: Global,
+    made: &mut List<Run>,
+    origin: &Tumbler,
+    addresses: &[Tumbler],
+) -> Result<(), Memory>
+    ensures { OnOk result (made.new.items ≡ made.old.items ++ map (run_of origin.now) (stretches is_next_byte addresses.now)) }
+{
+    let Some((first, rest)) = addresses.split_first() else {
+        return Ok(());
+    };
+    push_runs_from(alloc, made, origin, first, rest)
+}
+
+impl FlatWorld {
+    /// Adds the runs that one span of a document picks.
+    fn push_span_runs(
+        &self,
+        alloc: Global,
+        made: &mut List<Run>,
+        document: &Tumbler,
+        span: &Span,
+    ) -> Result<(), Memory>
+        ensures { OnOk result (made.new.items ≡ made.old.items ++ runs_of_span self.now.world document.now span.now) }
+    {
+        let mut addresses = List::new(alloc);
+        self.push_span_addresses(&mut addresses, document, span)?;
+        push_runs(alloc, made, document, addresses.as_slice())
+    }
+
+    /// Adds the runs of one spec.
+    #[tactic(auto, using(crate::proofs::Picked::picked_steps))]
+    fn push_spec_runs(&self, alloc: Global, made: &mut List<Run>, spec: &Spec) -> Result<(), Memory>
+        ensures { OnOk result (made.new.items ≡ made.old.items ++ runs_of_spec self.now.world (plain_spec spec.now)) }
+    {
+        for span in spec.spans.as_slice() {
+            self.push_span_runs(alloc, made, &spec.document, span)?;
+        }
+        Ok(())
+    }
+
+    /// The runs of the specs. Where a span's end is no address there is no memory for them.
+    #[tactic(auto, using(crate::proofs::Picked::picked_steps))]
+    pub(crate) fn runs_of(&self, alloc: Global, specs: &[Spec]) -> Result<List<Run>, Memory>
+        ensures { IfOk result (λ made. made.items ≡ runs_of self.now.world (map plain_spec specs.now)) }
+    {
+        let mut made = List::new(alloc);
+        for spec in specs {
+            self.push_spec_runs(alloc, &mut made, spec)?;
+        }
+        Ok(made)
+    }
+}

@@ -1,0 +1,5 @@
+pub mod Histories
+pub mod Lives
+pub mod Stores
+pub mod Legals
+pub mod Valid

@@ -1,0 +1,69 @@
+-- What each step does to a store, and what it is answered.
+use Rattle.std.specs.Prelude.{◌≡◌, ℕ, ◌+◌, ◌<◌, ◌^◌, IsTrue, false, length}
+use Rattle.febe_data.specs.declared.refusal.Refusal.TheVariants.{Memory}
+use Rattle.febe_data.specs.Plain.{PlainRequest, plain_request, PlainReply, plain_reply, refused}
+use Rattle.febe_data.specs.Validity.{IsRequest, IsReply}
+use Rattle.flat_world.specs.History.{is_live}
+use Rattle.green_store.specs.declared.step.Step.{Step}
+use Rattle.green_store.specs.declared.step.Step.TheVariants as steps
+use Rattle.green_store.specs.declared.step.StepAnswer.{StepAnswer}
+use Rattle.green_store.specs.declared.step.StepAnswer.TheVariants as answers
+use Rattle.green_store.specs.Sessions.{greatest_session, begin_entry, end_entry}
+use Rattle.green_store.specs.Steps.{Steps}
+use Rattle.green_store.specs.StoreView.{StoreView, with_one}
+
+-- there is a number above those of all sessions so far
+abbrev pub HasNumber : StoreView → Type 0
+HasNumber before = greatest_session before.history + 1 < 2 ^ 64
+
+-- the session with the next number has begun: its Begin is added
+pub record IsBegun (before : StoreView) (session : ℕ) (after : StoreView) : Type 0 where
+  pub has_number : HasNumber before
+  pub number_is : session ≡ greatest_session before.history + 1
+  pub grows : after ≡ with_one before (begin_entry session)
+
+-- the greatest number is taken, and nothing changed
+pub record HasNoNumber (before after : StoreView) : Type 0 where
+  pub last_taken : greatest_session before.history + 1 ≡ 2 ^ 64
+  pub stays : after ≡ before
+
+-- there is a number, but there was no memory, and nothing changed
+pub record HadNoMemory (before after : StoreView) : Type 0 where
+  pub has_number : HasNumber before
+  pub stays : after ≡ before
+
+-- the session is not live, and nothing changed
+pub record IsNotLive (before : StoreView) (session : ℕ) (after : StoreView) : Type 0 where
+  pub not_live : is_live before.history session ≡ false
+  pub stays : after ≡ before
+
+-- the request can't be spelled: it is refused as if there were no memory, and nothing changed
+pub record IsTurnedDown (before : StoreView) (reply : PlainReply) (after : StoreView) : Type 0 where
+  pub reply_is : reply ≡ refused Memory
+  pub stays : after ≡ before
+
+-- The live session's request has this reply, with the number of entries after it: by a legal step where the
+-- request is valid.
+pub record IsReplied (before : StoreView) (session : ℕ) (request : PlainRequest) (reply : PlainReply) (point : ℕ) (after : StoreView) : Type 0 where
+  pub live : IsTrue (is_live before.history session)
+  pub limits_stay : after.limits ≡ before.limits
+  pub point_is : point ≡ length after.history
+  pub valid : IsReply reply
+  pub legal : IsRequest request → Steps before.limits session before.history request reply after.history false
+  pub turned_down : ¬ IsRequest request → IsTurnedDown before reply after
+
+-- the live session has ended: its End is added
+pub record HasEnded (before : StoreView) (session : ℕ) (after : StoreView) : Type 0 where
+  pub live : IsTrue (is_live before.history session)
+  pub grows : after ≡ with_one before (end_entry before.history session)
+
+-- A step, from the store before it to the one after it, and its answer. What is not listed never happens.
+abbrev pub IsStep : StoreView → Step → StoreView → StepAnswer → Type 0
+IsStep before steps.Begin after (answers.Begun session) = IsBegun before session after
+IsStep before steps.Begin after answers.NoNumber = HasNoNumber before after
+IsStep before steps.Begin after answers.Memory = HadNoMemory before after
+IsStep before (steps.Ask session request) after (answers.Reply reply point) = IsReplied before session (plain_request request) (plain_reply reply) point after
+IsStep before (steps.Ask session request) after answers.NoSession = IsNotLive before session after
+IsStep before (steps.End session) after answers.Ended = HasEnded before session after
+IsStep before (steps.End session) after answers.NoSession = IsNotLive before session after
+IsStep before step after answer = ⊥

@@ -1,0 +1,11 @@
+//! One store for many sessions: the history, and what each step adds to it.
+#![tactic(auto)]
+
+mod step;
+mod store;
+#[cfg(test)]
+mod tests;
+mod validity;
+
+pub use step::{Step, StepAnswer};
+pub use store::Store;

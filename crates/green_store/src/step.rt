@@ -1,0 +1,31 @@
+//! What a store is asked, and what it answers.
+
+use febe_data::{Reply, Request};
+
+/// One step, of some session or of a new one.
+#[derive(Debug, Drop)]
+pub enum Step {
+    /// A new session begins.
+    Begin,
+    /// A session makes a request.
+    Ask { session: u64, request: Request },
+    /// A session ends without a quit.
+    End { session: u64 },
+}
+
+/// What comes of a step.
+#[derive(Debug, Drop)]
+pub enum StepAnswer {
+    /// The session of this number has begun.
+    Begun { session: u64 },
+    /// Each number is taken, so no session began.
+    NoNumber,
+    /// The request's reply, and the number of entries after it.
+    Reply { reply: Reply, point: u64 },
+    /// The session has not begun, or is over.
+    NoSession,
+    /// The session has ended.
+    Ended,
+    /// There was no memory for a new session.
+    Memory,
+}
