@@ -1,2 +1,4 @@
 pub mod Feeds
 pub mod Pieces
+pub mod Inputted
+pub mod Malformed

@@ -12,11 +12,11 @@ use Rattle.febe_wire.proofs.RequestLaws.{same_request}
 use Rattle.febe_feed.specs.FeedView.{FeedView, later, Greets, Gives}
 use Rattle.febe_feed.specs.Pieces.{HasGiven, AnyPieces, GivesOn}
 
-abbrev spell_all : List PlainRequest → List ℕ
+abbrev pub spell_all : List PlainRequest → List ℕ
 spell_all rs = flat_map spell_request rs
 
 -- bytes that begin with a request do not begin with none
-begins : (bytes more : List ℕ) (r : PlainRequest) → IsRequest r → bytes ≡ spell_request r ++ more → BeginsWithNone IsSpelled bytes → ⊥
+pub begins : (bytes more : List ℕ) (r : PlainRequest) → IsRequest r → bytes ≡ spell_request r ++ more → BeginsWithNone IsSpelled bytes → ⊥
 begins bytes more r valid e none =
     let front : take (length (spell_request r)) bytes ≡ spell_request r = ap (take (length (spell_request r))) e ∙ take_at (spell_request r) more (length (spell_request r)) refl in
     none (length (spell_request r)) (omega (arith, ap length e, length-append (spell_request r) more)) (record { request = r; spells = record { valid = valid; spelled = front } })
@@ -32,12 +32,12 @@ same_given (r ∷ rs) (s ∷ ss) x y h g e none-x none-y =
     (ap (λ (q : PlainRequest). q ∷ rs) same.request ∙ ap (λ (qs : List PlainRequest). s ∷ qs) on.0, on.1)
 
 -- the stream behind the greeting
-behind_greeting : (stream : List ℕ) (rs : List PlainRequest) (feed : FeedView) → HasGiven stream rs feed → feed.greeted ≡ true → stream ≡ greeting ++ (spell_all rs ++ feed.held)
+pub behind_greeting : (stream : List ℕ) (rs : List PlainRequest) (feed : FeedView) → HasGiven stream rs feed → feed.greeted ≡ true → stream ≡ greeting ++ (spell_all rs ++ feed.held)
 behind_greeting stream rs feed h greeted =
     let parts : stream ≡ (greeting ++ spell_all rs) ++ feed.held = rw greeted at h.parts in
     parts ∙ append_assoc greeting (spell_all rs) feed.held
 
-place_of : (stream : List ℕ) (rs : List PlainRequest) (feed : FeedView) → HasGiven stream rs feed → feed.greeted ≡ true → feed.offset ≡ later 0 (length (greeting ++ spell_all rs))
+pub place_of : (stream : List ℕ) (rs : List PlainRequest) (feed : FeedView) → HasGiven stream rs feed → feed.greeted ≡ true → feed.offset ≡ later 0 (length (greeting ++ spell_all rs))
 place_of stream rs feed h greeted = rw greeted at h.place
 
 same_view : (one other : FeedView) → one.greeted ≡ other.greeted → one.held ≡ other.held → one.offset ≡ other.offset → one ≡ other
@@ -55,11 +55,11 @@ any_pieces stream rs ss one other h g greeted-one greeted-other none-one none-ot
 
 -- ---- what comes next
 
-all_push : (rs : List PlainRequest) (r : PlainRequest) → AllByRecursion IsRequest rs → IsRequest r → AllByRecursion IsRequest (rs ++ r ∷ [])
+pub all_push : (rs : List PlainRequest) (r : PlainRequest) → AllByRecursion IsRequest rs → IsRequest r → AllByRecursion IsRequest (rs ++ r ∷ [])
 all_push [] r h p = (p, tt)
 all_push (q ∷ rs) r h p = (h.0, all_push rs r h.1 p)
 
-spelled_push : (rs : List PlainRequest) (r : PlainRequest) → spell_all (rs ++ r ∷ []) ≡ spell_all rs ++ spell_request r
+pub spelled_push : (rs : List PlainRequest) (r : PlainRequest) → spell_all (rs ++ r ∷ []) ≡ spell_all rs ++ spell_request r
 spelled_push rs r = flat_map-append spell_request rs (r ∷ []) ∙ ap (λ (ds : List ℕ). spell_all rs ++ ds) (append-nil (spell_request r))
 
 greeted_given : (stream : List ℕ) (rs : List PlainRequest) (before after : FeedView) → HasGiven stream rs before → Greets before after → HasGiven stream [] after

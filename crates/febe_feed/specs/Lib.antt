@@ -7,3 +7,4 @@ pub mod FeedView
 pub mod IsFeed
 pub mod Greetings
 pub mod Pieces
+pub mod Inputs

@@ -1,4 +1,5 @@
 //! The laws of feeds. Each is a function that does nothing, whose contract says the law.
+ghost use Rattle.febe_feed.specs.Inputs.{WrongIsMalformed, WaitingIsOpen, WaitingIsTruncated, GivenIsInput, InputsAreRight, OneFault};
 ghost use Rattle.febe_feed.specs.Pieces.{AnyPieces, GivesOn};
 
 /// What a feed gives, and what it then holds, are told by the bytes that came: however they were cut.
@@ -9,4 +10,34 @@ pub fn any_pieces()
 /// What comes next goes on with what was given.
 pub fn gives_on()
     ensures { GivesOn }
+{}
+
+/// Where a feed that gave no quit finds a wrong byte, the stream is malformed at its place.
+pub fn wrong_is_malformed()
+    ensures { WrongIsMalformed }
+{}
+
+/// Where a feed that gave no quit waits, the stream begins some session's input.
+pub fn waiting_is_open()
+    ensures { WaitingIsOpen }
+{}
+
+/// Where a feed that gave no quit waits and holds some bytes, a stream that ends is truncated.
+pub fn waiting_is_truncated()
+    ensures { WaitingIsTruncated }
+{}
+
+/// Where a feed holds no bytes, the requests that it gave are those of the stream.
+pub fn given_is_input()
+    ensures { GivenIsInput }
+{}
+
+/// What begins some session's input is malformed nowhere, and no byte behind a quit is judged.
+pub fn inputs_are_right()
+    ensures { InputsAreRight }
+{}
+
+/// Bytes are malformed at one place at most.
+pub fn one_fault()
+    ensures { OneFault }
 {}

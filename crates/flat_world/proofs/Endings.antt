@@ -13,7 +13,7 @@ use Rattle.std.specs.BTreeMap.{BTreeMap}
 use Rattle.febe_data.specs.ListView.{ListView}
 use Rattle.febe_data.specs.declared.spec.Spec.{Spec}
 use Rattle.febe_data.specs.Plain.{PlainSpec, plain_spec}
-use Rattle.febe_data.specs.Validity.{IsList, IsSpecSet}
+use Rattle.febe_data.specs.Validity.{IsList, IsSpecSet, spans_in_all}
 use Rattle.flat_world.specs.declared.rows.LinkRow.{LinkRow}
 use Rattle.flat_world.specs.World as world
 use Rattle.flat_world.specs.World.{is_same, is_text_of}
@@ -25,7 +25,7 @@ use Rattle.flat_world.specs.PlainLink.{plain_link}
 use Rattle.flat_world.specs.Ends.{NamesSpans, runs_of_end, is_in_end, end_set}
 use Rattle.flat_world.specs.declared.end_index.Piece.{Piece}
 use Rattle.flat_world.specs.EndIndex.{is_indexed, indexed_of, Indexes}
-use Rattle.flat_world.specs.Refusals.{spans_in, is_too_long}
+use Rattle.flat_world.specs.Refusals.{is_too_long}
 use Rattle.flat_world.proofs.Specs.{list_any-map}
 
 -- one more in a list that has room for it
@@ -52,7 +52,7 @@ pub specs_valid : (old new : List Spec) (spec : Spec) → new ≡ old ++ spec �
 specs_valid old new spec pushed named before = rw (pushed, map-append) (All-push NamesSpans (map plain_spec old) (plain_spec spec) before named)
 
 -- specs that are no more than a list may have, and no more of whose spans
-pub are_specs : (specs : List PlainSpec) → All NamesSpans specs → length specs ≤ 65536 → spans_in specs ≤ 65536 → IsSpecSet specs
+pub are_specs : (specs : List PlainSpec) → All NamesSpans specs → length specs ≤ 65536 → spans_in_all specs ≤ 65536 → IsSpecSet specs
 are_specs specs named few few_spans = record {
   list = record {
     few = few;
@@ -111,7 +111,7 @@ end_set_indexed w end index links specs of_links indexed =
 
 -- as many specs as were asked for, with no more spans than a list may have
 pub end_set_valid : (w : world.World) (end : End) (specs made : List Spec) → map plain_spec made ≡ end_set w end (map plain_spec specs) → All NamesSpans (map plain_spec made)
-    → is_too_long (length specs) ≡ false → is_too_long (spans_in (map plain_spec made)) ≡ false → IsSpecSet (map plain_spec made)
+    → is_too_long (length specs) ≡ false → is_too_long (spans_in_all (map plain_spec made)) ≡ false → IsSpecSet (map plain_spec made)
 end_set_valid w end specs made value named few few_spans =
     let same : length (map plain_spec made) ≡ length specs = rw (value, length-map, length-map) refl in
-    are_specs (map plain_spec made) named (rw same (ltb-false 65536 (length specs) few)) (ltb-false 65536 (spans_in (map plain_spec made)) few_spans)
+    are_specs (map plain_spec made) named (rw same (ltb-false 65536 (length specs) few)) (ltb-false 65536 (spans_in_all (map plain_spec made)) few_spans)

@@ -1,7 +1,6 @@
 -- What is found, one tumbler, row and document after the other.
 use Rattle.std.proofs.Common.{◌≡◌, ℕ, ◌+◌, ◌<◌, ◌∙◌, ◌++◌, ◌∷◌, ◌&&◌, ◌||◌, [], Bool, true, false, cond, List, length, take, get_or, ap, sym, refl, map, All, append_assoc, append-nil, min, arith, ◌-◌, ◌^◌, ◌≤◌}
-use Rattle.std.specs.Prelude.{filter, nat_lt, Option, Some, None}
-use Rattle.std.specs.Option.{option_or}
+use Rattle.std.specs.Prelude.{filter, nat_lt}
 use Rattle.std.specs.List.{list_any}
 use Rattle.std.specs.BTreeSet.{BTreeSet, Updates}
 use Rattle.std.specs.Ordering.{nat_cmp}
@@ -13,9 +12,7 @@ use Rattle.std.proofs.lemmas.List.{take_more, map-append}
 use Rattle.std.proofs.lemmas.List.Elements.{All-push, filter-append}
 use Rattle.tumbler.specs.Places.{IsTumbler}
 use Rattle.febe_data.specs.Validity.{IsList}
-use Rattle.febe_data.specs.declared.refusal.Refusal.{Refusal}
 use Rattle.febe_data.specs.Plain.{PlainSpec, PlainWant}
-use Rattle.flat_world.specs.Refusals.{Check, first_holding}
 use Rattle.flat_world.specs.declared.rows.Row.{Row}
 use Rattle.flat_world.specs.declared.finding.Sought.{Sought}
 use Rattle.flat_world.specs.World.{World, LinkRow, is_same, ascending}

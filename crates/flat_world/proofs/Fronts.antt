@@ -13,7 +13,11 @@ front-document account = front (account ++ 0 ∷ []) [] 1 (account ++ 0 ∷ 1 �
 pub front-content : (document : List ℕ) → take (length (document ++ 0 ∷ 1 ∷ 1 ∷ []) - 1) (document ++ 0 ∷ 1 ∷ 1 ∷ []) ≡ document ++ 0 ∷ 1 ∷ []
 front-content document = front (document ++ 0 ∷ 1 ∷ []) [] 1 (document ++ 0 ∷ 1 ∷ 1 ∷ []) (sym (append_assoc document (0 ∷ 1 ∷ []) (1 ∷ [])))
 
-pub ruleset fronts = (front-document, front-content)
+-- one place more than `account.0`
+pub under-account : (account : List ℕ) (n : ℕ) → (account ++ 0 ∷ []) ++ n ∷ [] ≡ account ++ 0 ∷ n ∷ []
+under-account account n = append_assoc account (0 ∷ []) (n ∷ [])
+
+pub ruleset fronts = (front-document, front-content, under-account)
 
 -- ---- an account in front of a document
 

@@ -1,12 +1,16 @@
 -- What an insert makes of the rows of each document.
-use Rattle.std.proofs.Common.{◌≡◌, ℕ, zero, suc, ◌+◌, ◌-◌, ◌≤◌, ◌∙◌, Bool, true, false, List, ◌++◌, length, map, take, drop, ap, sym, refl, subst, arith}
+use Rattle.std.proofs.Common.{◌≡◌, ℕ, zero, suc, ◌+◌, ◌-◌, ◌≤◌, ◌∙◌, Bool, true, false, not, List, ◌++◌, length, map, take, drop, ap, sym, refl, subst, arith}
 use Rattle.std.specs.Prelude.{filter}
 use Rattle.std.specs.Cmp.Lexicographic.{bytes_decides}
+use Rattle.std.proofs.lemmas.Bool.{not-true}
 use Rattle.std.proofs.lemmas.List.Sums.{length-filter}
+use Rattle.febe_data.specs.Plain.{text_inserted, specs_copied}
 use Rattle.flat_world.specs.declared.rows.Row.{Row}
 use Rattle.flat_world.specs.World.{World, is_same, is_text_of, is_link_of, text_length}
+use Rattle.flat_world.specs.Picking.{picked_addresses}
 use Rattle.flat_world.specs.Edits.{up_by, new_rows, rows_with, content_addresses}
-use Rattle.flat_world.specs.Laws.{text_rows, link_rows, numbers_from, TextIsNumbered, LinksAreNumbered, IsNumbered, IsOpenPlace, world_with, InsertsRows, InsertsNumbered}
+use Rattle.flat_world.specs.Apply.{change_world}
+use Rattle.flat_world.specs.Laws.{text_rows, link_rows, numbers_from, TextIsNumbered, LinksAreNumbered, IsNumbered, LeavesAllBut, InsertLeavesOthers, CopyLeavesOthers, IsOpenPlace, world_with, InsertsRows, InsertsNumbered}
 use Rattle.flat_world.proofs.InRow.{InRow}
 use Rattle.flat_world.proofs.RowsWith.{text_apart, links_apart, others_with, text_with, text_with_in_row}
 
@@ -64,3 +68,26 @@ with_numbered world after document other at addresses false differs place e numb
 pub inserts_numbered : InsertsNumbered
 inserts_numbered world document at first text place other numbered =
     with_numbered world (world_with world document at first text) document other at (content_addresses document first (length text)) (is_same document other) refl place refl numbered
+
+-- ---- all else
+
+-- text rows of a document that come in leave all else
+pub leaves_all_but : (world after : World) (document : List ℕ) (at : ℕ) (addresses : List (List ℕ)) → after.rows ≡ rows_with world.rows document at addresses → after.documents ≡ world.documents
+    → after.links ≡ world.links → after.open_rows ≡ world.open_rows → after.accounts ≡ world.accounts → LeavesAllBut world document after
+leaves_all_but world after document at addresses rows documents links open_rows accounts =
+    let other : Row → Bool = λ row. not (is_text_of document row) in
+    record {
+      others = ap (filter other) rows ∙ others_with other document (λ row none. not-true (is_text_of document row) none) (λ k row. refl) world.rows at addresses;
+      same_documents = documents;
+      same_links = links;
+      same_open_rows = open_rows;
+      same_accounts = accounts;
+    }
+
+pub insert_leaves_others : InsertLeavesOthers
+insert_leaves_others world session document at first text =
+    (leaves_all_but world (change_world world session (text_inserted document at first text)) document at (content_addresses document first (length text)) refl refl refl refl refl, refl)
+
+pub copy_leaves_others : CopyLeavesOthers
+copy_leaves_others world session document at specs =
+    (leaves_all_but world (change_world world session (specs_copied document at specs)) document at (picked_addresses world specs) refl refl refl refl refl, refl)

@@ -13,6 +13,7 @@ pub mod Counted
 pub mod Picked
 pub mod Found
 pub mod Relations
+pub mod Later
 pub mod Diagonals
 pub mod Positions
 pub mod RelationLaws
@@ -34,6 +35,8 @@ pub mod Placed
 pub mod Documents
 pub mod Ascending
 pub mod Orderly
+pub mod Linked
+pub mod PutInOrder
 pub mod Indexed
 pub mod Fresh
 pub mod Shown

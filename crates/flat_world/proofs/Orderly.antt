@@ -22,7 +22,7 @@ use Rattle.flat_world.proofs.Deleted.{cond_document, deletes_span}
 use Rattle.flat_world.proofs.Versioned.{is_of, versioned}
 use Rattle.flat_world.proofs.Rearranged.{across, filter-five, rearranges}
 use Rattle.flat_world.proofs.Documents.{has, has_push, Children, next_is_none, children_push, Once, once_push}
-use Rattle.flat_world.proofs.Ascending.{numbers_in_order}
+use Rattle.flat_world.proofs.Ascending.{row_ascends}
 
 -- rows are numbered, each of a document that is there, and documents are numbered below each address
 pub record IsOrderly (world : World) : Type 0 where
@@ -199,7 +199,7 @@ none_linked rows home other number place differs none =
     let last : filter (is_of other) (link_row home number place ∷ []) ≡ [] = rw differs refl in
     filter-append (is_of other) rows (link_row home number place ∷ []) ∙ (λ i. none i ++ last i)
 
-orderly_linked : (world after : World) (home : List ℕ) (number place : ℕ) → IsLinkedAt world home place → after.rows ≡ world.rows ++ link_row home number place ∷ [] → after.documents ≡ world.documents
+orderly_linked : (world after : World) (home : List ℕ) (number place : ℕ) → IsLinkedAt world home number place → after.rows ≡ world.rows ++ link_row home number place ∷ [] → after.documents ≡ world.documents
     → IsOrderly world → IsOrderly after
 orderly_linked world after home number place at rows documents orderly =
     let end : place ≡ length (link_rows world home) + 1 = at.at_end ∙ ap (λ (n : ℕ). n + 1) (sym (length-filter (is_link_of home) world.rows)) in
@@ -258,4 +258,4 @@ pub rows_have_documents : RowsHaveDocuments
 rows_have_documents history placed document missing = (orderly history placed).owned document missing
 
 pub text_in_order : TextInOrder
-text_in_order history placed document = numbers_in_order _ _ (numbered_without_gaps history placed document).text
+text_in_order history placed document = let world : World = world_of history in row_ascends 1 (text_rows world document) (text_in_row world document (numbered_without_gaps history placed document).text)

@@ -1,5 +1,5 @@
 -- The change of a request that nothing refuses.
-use Rattle.std.proofs.Common.{◌≡◌, ℕ, zero, suc, ◌+◌, ◌<◌, get_or, ◌≤◌, ◌==◌, ◌&&◌, ◌||◌, Bool, true, false, not, cond, List, [], ◌∷◌, ◌++◌, length, map, sym, refl, subst, arith, append_assoc}
+use Rattle.std.proofs.Common.{◌≡◌, ℕ, zero, suc, ◌+◌, ◌<◌, get_or, ◌≤◌, ◌==◌, ◌&&◌, ◌||◌, Bool, true, false, not, cond, List, [], ◌∷◌, ◌++◌, length, map, sym, refl, subst, arith}
 use Rattle.std.specs.Prelude.{Option, Some, None, slice_index, nat_le, nat_lt, is_none}
 use Rattle.std.proofs.lemmas.Bool.{and_parts, or_parts, leb-true, not-false}
 use Rattle.febe_data.specs.declared.access.Mode.{Mode}
@@ -7,7 +7,7 @@ use Rattle.febe_data.specs.LimitsView.{LimitsView}
 use Rattle.febe_data.specs.declared.refusal.Refusal.{Refusal}
 use Rattle.febe_data.specs.declared.refusal.Refusal.TheVariants.{BadAddress}
 use Rattle.febe_data.specs.Plain.{PlainSpec, PlainRequest, insert, copy, rearrange, create, delete, version, quit, create_link, set_account, opens, closes}
-use Rattle.flat_world.specs.World.{World, has_document, next_version, next_document, is_of_account, text_length, content_length, link_length}
+use Rattle.flat_world.specs.World.{World, has_document, next_version, next_document, is_of_account, text_length, content_length, link_length, links_made_in}
 use Rattle.flat_world.specs.Edits.{Cuts, cuts_of}
 use Rattle.flat_world.specs.Refusals.{wanted, checks, is_place, position_of, has_bad_span, has_bad_cut, lacks_document, opens_version, Check, first_holding}
 use Rattle.flat_world.specs.Effects.{Effect, effect, maker_of, version_to_come, opening}
@@ -54,11 +54,11 @@ copy_comes_in limits counted world session document at specs none =
     record { there = not-false (has_document world document) is_not_there; from_one = within.0; to_end = within.1 }
 
 link_comes_in : (limits : LimitsView) (counted : ℕ) (world : World) (session : ℕ) (home : List ℕ) (from to three : List PlainSpec) → wanted limits counted world session (create_link home from to three) ≡ None
-    → IsLinkedAt world home (link_length world home + 1)
+    → IsLinkedAt world home (links_made_in world home + 1) (link_length world home + 1)
 link_comes_in limits counted world session home from to three none =
     let lacks : (not (has_document world home) || lacks_document world (from ++ to ++ three)) ≡ false = none_holds (checks limits counted world session (create_link home from to three)) 0 (false, BadAddress) (omega arith) none in
     let is_not_there : not (has_document world home) ≡ false = (or_parts (not (has_document world home)) (lacks_document world (from ++ to ++ three)) lacks).0 in
-    record { there = not-false (has_document world home) is_not_there; at_end = refl }
+    record { there = not-false (has_document world home) is_not_there; is_next = refl; at_end = refl }
 
 -- ---- cuts
 
@@ -110,7 +110,7 @@ rearrange_cuts limits counted world session document cuts none =
 
 -- the next document of an account is the next one below `account.0`
 next_of_account : (world : World) (account : List ℕ) → IsNext world (next_document world account)
-next_of_account world account = record { front = account ++ 0 ∷ []; is_next = sym (append_assoc account (0 ∷ []) _) }
+next_of_account world account = record { front = account ++ 0 ∷ []; is_next = refl }
 
 next_version_step : (world : World) (source account : List ℕ) (under : Bool) → IsNext world (cond under (next_version world source) (next_document world account))
 next_version_step world source account true = record { front = source; is_next = refl }

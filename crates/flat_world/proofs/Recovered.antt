@@ -4,7 +4,7 @@ use Rattle.std.specs.List.{fold}
 use Rattle.febe_data.specs.Plain.{PlainEntry, PlainChange, restarted, began, ended, account_changed, document_opened, document_closed, document_created, version_made, copy_opened, text_inserted, span_deleted, blocks_swapped, specs_copied, link_made}
 use Rattle.flat_world.specs.declared.rows.Row.{Row}
 use Rattle.flat_world.specs.declared.rows.ByteRow.{ByteRow}
-use Rattle.flat_world.specs.World.{World, empty_world, content_length_of, text_length, link_length, has_document}
+use Rattle.flat_world.specs.World.{World, LinkRow, empty_world, content_length_of, text_length, link_length, links_made_in, has_document}
 use Rattle.flat_world.specs.Apply.{apply}
 use Rattle.flat_world.specs.History.{kept, is_counted, restart_entry}
 use Rattle.flat_world.specs.Laws.{HasContentsOf, IsNext, IsPlaced, AllPlaced, RecoveredIsPlaced}
@@ -48,7 +48,11 @@ module _ (one other : World) (same : HasContentsOf one other) where
   placed_too (span_deleted document span) placed = tt
   placed_too (blocks_swapped document cuts) placed = record { bounds = placed.bounds; are_cuts = placed.are_cuts; from_one = placed.from_one; to_end = within placed.bounds.fourth document placed.to_end }
   placed_too (specs_copied document at specs) placed = record { there = same_there document placed.there; from_one = placed.from_one; to_end = within at document placed.to_end }
-  placed_too (link_made home number place from to three) placed = record { there = same_there home placed.there; at_end = placed.at_end ∙ ap (λ (n : ℕ). n + 1) (sym (same_links home)) }
+  placed_too (link_made home number place from to three) placed = record {
+    there = same_there home placed.there;
+    is_next = placed.is_next ∙ ap (λ (links : List LinkRow). links_made_in (record one { links = links }) home + 1) (sym same.links);
+    at_end = placed.at_end ∙ ap (λ (n : ℕ). n + 1) (sym (same_links home));
+  }
 
 -- ---- along a history
 

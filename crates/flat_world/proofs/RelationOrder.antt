@@ -1,9 +1,9 @@
 -- The order of pairs and of diagonals.
-use Rattle.std.proofs.Common.{◌≡◌, ℕ, suc, ◌<◌, ◌&&◌, ◌∷◌, ◌++◌, [], Bool, List, map, false, true, ap, sym, refl, subst, cond, arith, All, get_or, inl, inr}
+use Rattle.std.proofs.Common.{◌≡◌, ℕ, suc, ◌<◌, ◌&&◌, ◌∷◌, [], Bool, List, false, true, ap, sym, refl, subst, cond, arith, All, get_or, inl, inr}
 use Rattle.std.specs.Prelude.{filter}
 use Rattle.std.specs.List.{AllPairs, flat_map, list_any}
 use Rattle.std.proofs.lemmas.List.Elements.{All-nil, All-append, All-map}
-use Rattle.std.proofs.lemmas.List.Kept.{AllPairs-cons, AllPairs-filter}
+use Rattle.std.proofs.lemmas.List.Kept.{AllPairs-filter}
 use Rattle.tumbler.specs.declared.span.Span.{Span}
 use Rattle.febe_data.specs.Plain.{PlainSpec}
 use Rattle.flat_world.specs.declared.relation.Pair.{Pair}
@@ -12,29 +12,9 @@ use Rattle.flat_world.specs.World.{World, is_same, is_text_of}
 use Rattle.flat_world.specs.Picking.{picks, picked_once}
 use Rattle.flat_world.specs.Relation.{is_start, diagonal_from, pairs_of_row, pairs_of}
 use Rattle.flat_world.specs.RelationLaws.{IsPairBefore, IsDiagonalBefore, TextAscends, PairsInOrder, DiagonalsInOrder}
+use Rattle.flat_world.proofs.Later.{none_later, after_first, without_first, pairs_append, pairs_map}
 
--- ---- each element and each later one
-
-module _ {X : Type 0} (R : X → X → Type 0) where
-  none_later : AllPairs R []
-  none_later i j d lt within = absurd (omega arith)
-
-  after_first : (x : X) (xs : List X) → AllPairs R (x ∷ xs) → All (R x) xs
-  after_first x xs each k d within = each 0 (suc k) d (omega arith) (omega arith)
-
-  without_first : (x : X) (xs : List X) → AllPairs R (x ∷ xs) → AllPairs R xs
-  without_first x xs each i j d lt within = each (suc i) (suc j) d (omega arith) (omega arith)
-
-  pairs_append : (xs ys : List X) → AllPairs R xs → AllPairs R ys → All (λ x. All (R x) ys) xs → AllPairs R (xs ++ ys)
-  pairs_append [] ys first second across = second
-  pairs_append (x ∷ xs) ys first second across =
-      AllPairs-cons R x (xs ++ ys) (All-append (R x) xs ys (after_first x xs first) (across 0 x (omega arith)))
-      (pairs_append xs ys (without_first x xs first) second (λ k d within. across (suc k) d (omega arith)))
-
-pairs_map : {X Y : Type 0} (R : X → X → Type 0) (S : Y → Y → Type 0) (f : X → Y) → ((x y : X) → R x y → S (f x) (f y)) → (xs : List X) → AllPairs R xs → AllPairs S (map f xs)
-pairs_map R S f keeps [] each = none_later S
-pairs_map R S f keeps (x ∷ xs) each =
-    AllPairs-cons S (f x) (map f xs) (All-map (S (f x)) f xs (λ k d within. keeps x (get_or xs k d) (after_first R x xs each k d within))) (pairs_map R S f keeps xs (without_first R x xs each))
+-- ---- flattened lists
 
 all_flat : {X Y : Type 0} (P : Y → Type 0) (f : X → List Y) (xs : List X) → All (λ x. All P (f x)) xs → All P (flat_map f xs)
 all_flat P f [] each = All-nil P
@@ -42,7 +22,7 @@ all_flat P f (x ∷ xs) each = All-append P (f x) (flat_map f xs) (each 0 x (ome
 
 -- ---- rows that ascend
 
-abbrev IsRowBefore : Row → Row → Type 0
+abbrev pub IsRowBefore : Row → Row → Type 0
 IsRowBefore row later = row.n < later.n
 
 filter_both : {X : Type 0} (p q : X → Bool) (xs : List X) → filter (λ x. p x && q x) xs ≡ filter q (filter p xs)

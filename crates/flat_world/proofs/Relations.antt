@@ -25,7 +25,7 @@ use Rattle.febe_data.specs.Plain.{PlainSpec, relate}
 use Rattle.flat_world.specs.declared.relation.Pair.{Pair}
 use Rattle.flat_world.specs.World.{World, is_same}
 use Rattle.flat_world.specs.Relation.{pairs_of_row, is_pair, has_pair, diagonals}
-use Rattle.flat_world.specs.Refusals.{Check, first_holding, lacks_document, lacks_opening, is_bad_span, is_too_long, picking, wanted}
+use Rattle.flat_world.specs.Refusals.{first_holding, lacks_document, lacks_opening, is_bad_span, is_too_long, picking, wanted}
 use Rattle.flat_world.specs.PairIndex.{pairs_with, places_at, places_in, pair_cmp, set_has, AddsPlace, IsPlaceIndex, IsPairSet}
 use Rattle.flat_world.proofs.Sizes.{span_fits_at}
 use Rattle.flat_world.proofs.Checks.{held_first, held_then}

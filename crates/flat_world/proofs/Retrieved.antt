@@ -1,47 +1,41 @@
 -- What is given, one row, span and spec after the other.
-use Rattle.std.proofs.Common.{◌≡◌, ℕ, ◌+◌, ◌<◌, ◌∙◌, ◌++◌, ◌∷◌, ◌==◌, ◌&&◌, [], Bool, true, false, List, length, take, get_or, ap, sym, refl, map, append_assoc, append-nil, length-append, arith, cond, None, Some}
+use Rattle.std.proofs.Common.{◌≡◌, ℕ, ◌+◌, ◌<◌, ◌∙◌, ◌++◌, ◌∷◌, ◌==◌, ◌&&◌, [], Bool, true, false, List, length, take, get_or, ap, sym, refl, map, append_assoc, append-nil, length-append, arith, None, Some}
 use Rattle.std.specs.Prelude.{Option, filter, if◌then◌else◌}
-use Rattle.std.specs.List.{flat_map, filter_map, cons_option}
-use Rattle.std.specs.Option.{option_to_list}
-use Rattle.std.specs.BTreeMap.{BTreeMap}
+use Rattle.std.specs.List.{flat_map, cons_option}
+use Rattle.std.specs.Option.{option_to_list, unwrap_or}
 use Rattle.std.proofs.lemmas.Bool.Decides.{nat_tests}
 use Rattle.std.proofs.lemmas.List.{take_more, map-append}
 use Rattle.std.proofs.lemmas.List.Concat.{flat_map-append}
 use Rattle.std.proofs.lemmas.List.Folds.{flat_map-map}
-use Rattle.std.proofs.lemmas.List.Elements.{filter_more, filter_map-append}
+use Rattle.std.proofs.lemmas.List.Elements.{filter_map-append, All-head, All-tail}
 use Rattle.tumbler.specs.declared.span.Span.{Span}
 use Rattle.tumbler.specs.Span.{end_of}
 use Rattle.febe_data.specs.declared.reply.Item.{Item}
 use Rattle.febe_data.specs.declared.spec.Spec.{Spec}
 use Rattle.febe_data.specs.Plain.{PlainItem, PlainSpec, plain_item, plain_spec, bytes, link}
 use Rattle.flat_world.specs.declared.rows.Row.{Row}
-use Rattle.flat_world.specs.World.{World, is_text_of, is_link_of}
-use Rattle.flat_world.specs.Picking.{is_within, picked_text, picked_links}
-use Rattle.flat_world.specs.Answers.{items_of_span, items_of, text_item}
-use Rattle.flat_world.specs.ByteIndex.{IsByteIndex, byte_of, bytes_of, item_of}
+use Rattle.flat_world.specs.World.{World, byte_at, is_text_of, is_link_of}
+use Rattle.flat_world.specs.Picking.{is_within, picked_text, picked_links, addresses_of}
+use Rattle.flat_world.specs.Answers.{items_of_span, items_of, text_of, text_item}
+use Rattle.flat_world.specs.ByteIndex.{ByteIndex, HasByteAt, HasBytesOf, byte_of, bytes_of, item_of}
+use Rattle.flat_world.proofs.Picked.{filter_more_yes, filter_more_no}
 use Rattle.flat_world.proofs.Sizes.{span_fits_at, spec_fits_at}
 
 -- the bytes with a row more
-bytes_push : (index : BTreeMap (List ℕ) ℕ) (rows : List Row) (row : Row) → bytes_of index (rows ++ row ∷ []) ≡ bytes_of index rows ++ option_to_list (byte_of index row.address)
+bytes_push : (index : ByteIndex) (rows : List Row) (row : Row) → bytes_of index (rows ++ row ∷ []) ≡ bytes_of index rows ++ option_to_list (byte_of index row.address)
 bytes_push index rows row = filter_map-append (λ (r : Row). byte_of index r.address) rows (row ∷ []) ∙ ap (λ (last : List ℕ). bytes_of index rows ++ last) (one (byte_of index row.address))
   where
     one : (found : Option ℕ) → cons_option found [] ≡ option_to_list found
     one None = refl
     one (Some byte) = refl
 
-filter_more_yes : (p : Row → Bool) (rows : List Row) (i : ℕ) (d : Row) → i < length rows → p (get_or rows i d) ≡ true → filter p (take (i + 1) rows) ≡ filter p (take i rows) ++ get_or rows i d ∷ []
-filter_more_yes p rows i d lt passes = filter_more p rows i d lt ∙ ap (λ (b : Bool). filter p (take i rows) ++ cond b (get_or rows i d ∷ []) []) passes
-
 -- a row that passes, and one that does not
-pub bytes_more_yes : (index : BTreeMap (List ℕ) ℕ) (p : Row → Bool) (rows : List Row) (i : ℕ) (d : Row) → i < length rows → p (get_or rows i d) ≡ true
+pub bytes_more_yes : (index : ByteIndex) (p : Row → Bool) (rows : List Row) (i : ℕ) (d : Row) → i < length rows → p (get_or rows i d) ≡ true
     → bytes_of index (filter p (take (i + 1) rows)) ≡ bytes_of index (filter p (take i rows)) ++ option_to_list (byte_of index (get_or rows i d).address)
 bytes_more_yes index p rows i d lt passes = ap (λ (rs : List Row). bytes_of index rs) (filter_more_yes p rows i d lt passes) ∙ bytes_push index (filter p (take i rows)) (get_or rows i d)
 
 pub picked_more_yes : (p : Row → Bool) (rows : List Row) (i : ℕ) (d : Row) → i < length rows → p (get_or rows i d) ≡ true → (length (filter p (take (i + 1) rows)) == 0) ≡ false
 picked_more_yes p rows i d lt passes = rw (filter_more_yes p rows i d lt passes, length-append) (grind (arith, nat_tests))
-
-pub filter_more_no : (p : Row → Bool) (rows : List Row) (i : ℕ) (d : Row) → i < length rows → p (get_or rows i d) ≡ false → filter p (take (i + 1) rows) ≡ filter p (take i rows)
-filter_more_no p rows i d lt fails = filter_more p rows i d lt ∙ ap (λ (b : Bool). filter p (take i rows) ++ cond b (get_or rows i d ∷ []) []) fails ∙ append-nil (filter p (take i rows))
 
 abbrev links_of : List Row → List PlainItem
 links_of rows = map (λ (row : Row). link row.address) rows
@@ -60,12 +54,18 @@ pub links_no : (p : Row → Bool) (rows : List Row) (i : ℕ) (row : Row) (start
 links_no p rows i row start items lt here fails before = before ∙ ap (λ (rs : List Row). start ++ links_of rs) (sym (filter_more_no p rows i row lt (ap p (sym here) ∙ fails)))
 
 -- the text by the index is the text by the bytes
-text_by_index : (world : World) (index : BTreeMap (List ℕ) ℕ) (rows : List Row) → IsByteIndex world.bytes index → item_of index rows ≡ text_item world rows
-text_by_index world index rows indexed = λ i. if length rows == 0 then [] else bytes (filter_map (λ (row : Row). indexed row.address i) rows) ∷ []
+bytes_there : (world : World) (index : ByteIndex) (rows : List Row) → HasBytesOf world.bytes (addresses_of rows) index → bytes_of index rows ≡ text_of world rows
+bytes_there world index [] there = refl
+bytes_there world index (row ∷ rows) there =
+    ap (λ (found : Option (Option ℕ)). cons_option (unwrap_or found None) (bytes_of index rows)) (All-head (HasByteAt world.bytes index) row.address (addresses_of rows) there)
+    ∙ ap (λ (rest : List ℕ). cons_option (byte_at world.bytes row.address) rest) (bytes_there world index rows (All-tail (HasByteAt world.bytes index) row.address (addresses_of rows) there))
+
+text_by_index : (world : World) (index : ByteIndex) (rows : List Row) → HasBytesOf world.bytes (addresses_of rows) index → item_of index rows ≡ text_item world rows
+text_by_index world index rows there = ap (λ (text : List ℕ). if length rows == 0 then [] else bytes text ∷ []) (bytes_there world index rows there)
 
 -- what a span gives, in two parts
-pub span_is : (world : World) (document : List ℕ) (span : Span) (index : BTreeMap (List ℕ) ℕ) (rows : List Row) (end : List ℕ) (before between after : List PlainItem)
-    → rows ≡ world.rows → end ≡ end_of span → IsByteIndex world.bytes index
+pub span_is : (world : World) (document : List ℕ) (span : Span) (index : ByteIndex) (rows : List Row) (end : List ℕ) (before between after : List PlainItem)
+    → rows ≡ world.rows → end ≡ end_of span → HasBytesOf world.bytes (addresses_of (picked_text world document span)) index
     → between ≡ before ++ item_of index (filter (λ (row : Row). is_text_of document row && is_within span.start end row) rows)
     → after ≡ between ++ map (λ (row : Row). link row.address) (filter (λ (row : Row). is_link_of document row && is_within span.start end row) rows)
     → after ≡ before ++ items_of_span world document span

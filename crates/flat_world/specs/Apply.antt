@@ -37,11 +37,12 @@ abbrev pub with_swapped : World → List ℕ → Option Cuts → World
 with_swapped world document (Some cuts) = record world { rows = rows_swapped world.rows document cuts }
 with_swapped world document None = world
 
--- a link, its ends the runs of the specs, comes in with a row in its home
+-- a link that comes in: its ends are the runs that the specs pick in this world
 abbrev pub link_between : World → List ℕ → ℕ → (from to three : List PlainSpec) → LinkRow
 link_between world home number from to three =
     record { id = link_address home number; home = home; from = runs_of world from; to = runs_of world to; three = runs_of world three }
 
+-- and its row in its home
 abbrev pub link_row : List ℕ → ℕ → ℕ → Row
 link_row home number place = record { document = home; part = Links; n = place; address = link_address home number }
 

@@ -1,4 +1,4 @@
--- Which changes take no memory.
+-- Changes that never want for memory, and when the count of an entry does not.
 use Rattle.std.specs.Prelude.{ℕ, ◌+◌, ◌==◌, ◌^◌, ◌<◌, List, IsTrue}
 use Rattle.std.specs.List.{list_any}
 use Rattle.febe_data.specs.declared.entry.Change.{Change}
@@ -6,7 +6,7 @@ use Rattle.febe_data.specs.declared.entry.Change.TheVariants.{Restart, Begin, En
 use Rattle.flat_world.specs.declared.rows.SessionRow.{SessionRow}
 use Rattle.flat_world.specs.FlatView.{entries_in}
 
--- a restart, a begin and an end only drop rows
+-- a restart and an end only drop rows, and a begin leaves them
 abbrev pub DropsOnly : Change → Type 0
 DropsOnly Restart = Unit {0}
 DropsOnly Begin = Unit {0}

@@ -1,19 +1,23 @@
 -- Laws that show what histories and changes make of the world.
 use Rattle.std.specs.Prelude.{◌≡◌, ◌≢◌, ◌⊎◌, ℕ, zero, suc, ◌+◌, ◌-◌, ◌<◌, ◌≤◌, false, not, List, [], ◌∷◌, ◌++◌, length, map, filter, take, drop, count_by, All, ⊤, IsTrue, Some, None}
-use Rattle.std.specs.List.{filter_map}
-use Rattle.std.specs.List.Sorted.{IsNonDecreasing}
+use Rattle.std.specs.List.{filter_map, list_any, AllPairs}
+use Rattle.std.specs.declared.cmp.Ordering.TheVariants.{Less}
+use Rattle.std.specs.Ordering.{nat_cmp}
+use Rattle.std.specs.Cmp.Lexicographic.{slice_cmp}
 use Rattle.tumbler.specs.declared.span.Span.{Span}
 use Rattle.febe_data.specs.LimitsView.{LimitsView}
-use Rattle.febe_data.specs.Plain.{PlainSpec, PlainRequest, PlainEntry, PlainChange, document_created, version_made, copy_opened, text_inserted, span_deleted, blocks_swapped, specs_copied, link_made}
+use Rattle.febe_data.specs.Plain.{PlainSpec, PlainWant, PlainRequest, PlainEntry, PlainChange, document_created, version_made, copy_opened, text_inserted, span_deleted, blocks_swapped, specs_copied, link_made}
 use Rattle.flat_world.specs.declared.rows.Row.{Row}
-use Rattle.flat_world.specs.World.{World, empty_world, is_same, next_below, has_document, is_text_of, is_link_of, text_length, link_length, content_length, content_address, byte_at}
+use Rattle.flat_world.specs.World.{World, LinkRow, empty_world, is_same, ascending, next_below, has_document, is_text_of, is_link_of, text_length, link_length, content_length, content_address, link_address, links_made_in, byte_at}
 use Rattle.flat_world.specs.Picking.{picks, addresses_of, picked_addresses, places_of}
-use Rattle.flat_world.specs.Edits.{Cuts, cuts_of, up_by, moved_to, new_rows, content_addresses}
+use Rattle.flat_world.specs.Edits.{Cuts, cuts_of, up_by, moved_to, new_rows, content_addresses, new_bytes}
 use Rattle.flat_world.specs.Apply.{change_world, apply, world_of}
 use Rattle.flat_world.specs.History.{kept, recovered}
+use Rattle.flat_world.specs.Finding.{links_found, ids_found}
 use Rattle.flat_world.specs.Refusals.{wanted}
 use Rattle.flat_world.specs.Effects.{Effect, effect}
 use Rattle.flat_world.specs.Answers.{text_of}
+use Rattle.flat_world.specs.RelationLaws.{TextAscends}
 
 -- ---- rows
 
@@ -70,6 +74,22 @@ KeptAgain = (history : List PlainEntry) → kept (recovered history) ≡ kept hi
 
 -- ---- insert
 
+-- All but the document's text is as it was: the rows that are none of it, in their order, the documents, the links,
+-- the open documents and the accounts.
+pub record LeavesAllBut (before : World) (document : List ℕ) (after : World) : Type 0 where
+  pub others : filter (λ (row : Row). not (is_text_of document row)) after.rows ≡ filter (λ (row : Row). not (is_text_of document row)) before.rows
+  pub same_documents : after.documents ≡ before.documents
+  pub same_links : after.links ≡ before.links
+  pub same_open_rows : after.open_rows ≡ before.open_rows
+  pub same_accounts : after.accounts ≡ before.accounts
+
+-- Text that comes in, at any place of any document, leaves all other rows.
+-- Of content bytes there are the old ones and then the new ones.
+abbrev pub InsertLeavesOthers : Type 0
+InsertLeavesOthers = (world : World) (session : ℕ) (document : List ℕ) (at first : ℕ) (text : List ℕ)
+    → LeavesAllBut world document (change_world world session (text_inserted document at first text))
+    × ((change_world world session (text_inserted document at first text)).bytes ≡ world.bytes ++ new_bytes document first text)
+
 -- text can come into the document at this place: before one of its rows, or at its end
 pub record IsOpenPlace (world : World) (document : List ℕ) (at : ℕ) : Type 0 where
   pub numbered : TextIsNumbered world document
@@ -121,6 +141,12 @@ abbrev pub CopiesSpecs : Type 0
 CopiesSpecs = (world : World) (session : ℕ) (document : List ℕ) (at : ℕ) (specs : List PlainSpec) → IsOpenPlace world document at
     → IsCopied world document at specs (change_world world session (specs_copied document at specs))
 
+-- A copy, to any place of any document, leaves all other rows. The content bytes are as they were.
+abbrev pub CopyLeavesOthers : Type 0
+CopyLeavesOthers = (world : World) (session : ℕ) (document : List ℕ) (at : ℕ) (specs : List PlainSpec)
+    → LeavesAllBut world document (change_world world session (specs_copied document at specs))
+    × ((change_world world session (specs_copied document at specs)).bytes ≡ world.bytes)
+
 -- ---- delete
 
 -- the rows that the span does not pick
@@ -157,7 +183,7 @@ pub record IsVersion (before : World) (source document : List ℕ) (after : Worl
   pub same_bytes : after.bytes ≡ before.bytes
   pub same_links : after.links ≡ before.links
 
--- a version of a document that comes in where there was none
+-- a version that comes in as a document that had no rows
 abbrev pub VersionsRows : Type 0
 VersionsRows = (world : World) (session : ℕ) (source document : List ℕ) → rows_of world document ≡ []
     → IsVersion world source document (change_world world session (version_made source document))
@@ -208,7 +234,7 @@ pub record AreThreeCuts (world : World) (document : List ℕ) (first second thir
 abbrev pub world_swapped : World → List ℕ → (first second third : ℕ) → World
 world_swapped world document first second third = change_world world 0 (blocks_swapped document (first ∷ second ∷ third ∷ []))
 
--- an empty block changes no row
+-- where a block is empty, no text row of this document changes
 abbrev pub EmptyBlockStays : Type 0
 EmptyBlockStays = (world : World) (document : List ℕ) (first second third : ℕ) → AreThreeCuts world document first second third → (first ≡ second) ⊎ (second ≡ third)
     → text_rows (world_swapped world document first second third) document ≡ text_rows world document
@@ -217,6 +243,17 @@ EmptyBlockStays = (world : World) (document : List ℕ) (first second third : �
 abbrev pub SwapsBack : Type 0
 SwapsBack = (world : World) (document : List ℕ) (first second third : ℕ) → AreThreeCuts world document first second third
     → text_rows (world_swapped (world_swapped world document first second third) document first (first + (third - second)) third) document ≡ text_rows world document
+
+-- ---- what is found
+
+-- The second list has the same addresses as the first, and each is below those behind it, so each is there once.
+pub record IsInOrder (addresses ordered : List (List ℕ)) : Type 0 where
+  pub same : (address : List ℕ) → list_any (is_same address) ordered ≡ list_any (is_same address) addresses
+  pub ascends : AllPairs (λ (address : List ℕ) (later : List ℕ). slice_cmp nat_cmp address later ≡ Less) ordered
+
+-- what documents and ids that are found are put in
+abbrev pub PutsInOrder : Type 0
+PutsInOrder = (addresses : List (List ℕ)) → IsInOrder addresses (ascending addresses)
 
 -- ---- histories
 
@@ -245,12 +282,14 @@ pub record IsCutAt (world : World) (document cuts : List ℕ) : Type 0 where
   pub from_one : 1 ≤ bounds.first
   pub to_end : bounds.fourth ≤ text_length world document + 1
 
--- a link comes in at the end of its home's links
-pub record IsLinkedAt (world : World) (home : List ℕ) (place : ℕ) : Type 0 where
+-- a link has the next number of the links that were made in its home, and comes in at the end of the home's link rows
+pub record IsLinkedAt (world : World) (home : List ℕ) (number place : ℕ) : Type 0 where
   pub there : IsTrue (has_document world home)
+  pub is_next : number ≡ links_made_in world home + 1
   pub at_end : place ≡ link_length world home + 1
 
--- documents are new, and what comes in or moves does so at places that are there; other changes may be any
+-- documents are new, content bytes and links have the next numbers, and what comes in or moves does so at places that are there;
+-- other changes may be any
 abbrev pub IsPlaced : World → PlainChange → Type 0
 IsPlaced world (document_created document) = IsNext world document
 IsPlaced world (version_made source document) = IsNext world document
@@ -258,7 +297,7 @@ IsPlaced world (copy_opened source document) = IsNext world document
 IsPlaced world (text_inserted document at first text) = ComesInAt world document at first
 IsPlaced world (blocks_swapped document cuts) = IsCutAt world document cuts
 IsPlaced world (specs_copied document at specs) = IsCopiedTo world document at
-IsPlaced world (link_made home number place from to three) = IsLinkedAt world home place
+IsPlaced world (link_made home number place from to three) = IsLinkedAt world home number place
 IsPlaced world other = ⊤
 
 -- each entry is so placed in the world that it finds
@@ -279,9 +318,9 @@ RecoveredIsPlaced = (history : List PlainEntry) → AllPlaced empty_world histor
 abbrev pub NumberedWithoutGaps : Type 0
 NumberedWithoutGaps = (history : List PlainEntry) → AllPlaced empty_world history → (document : List ℕ) → IsNumbered (world_of history) document
 
--- so they stand in the order of their places
+-- so text rows stand in the order of their places, of which no two are the same
 abbrev pub TextInOrder : Type 0
-TextInOrder = (history : List PlainEntry) → AllPlaced empty_world history → (document : List ℕ) → IsNonDecreasing (places_of (text_rows (world_of history) document))
+TextInOrder = (history : List PlainEntry) → AllPlaced empty_world history → (document : List ℕ) → TextAscends (world_of history) document
 
 -- after such a history each next document is one that is not there
 abbrev pub NextIsNew : Type 0
@@ -295,12 +334,26 @@ DocumentsOnce = (history : List PlainEntry) → AllPlaced empty_world history �
 abbrev pub RowsHaveDocuments : Type 0
 RowsHaveDocuments = (history : List PlainEntry) → AllPlaced empty_world history → (document : List ℕ) → has_document (world_of history) document ≡ false → rows_of (world_of history) document ≡ []
 
--- after such a history no text row of any document shows a content byte of a document that is yet to come
+-- the links that were made in a document have its link addresses 1, 2, 3 and on, in the order in which they came
+abbrev pub LinksNumbered : Type 0
+LinksNumbered = (history : List PlainEntry) → AllPlaced empty_world history → (home : List ℕ)
+    → map (λ (link : LinkRow). link.id) (filter (λ (link : LinkRow). is_same link.home home) (world_of history).links)
+    ≡ map (link_address home) (numbers_from 1 (links_made_in (world_of history) home))
+
+-- no two links have the same id
+abbrev pub LinksOnce : Type 0
+LinksOnce = (history : List PlainEntry) → AllPlaced empty_world history → AllPairs (λ (link : LinkRow) (later : LinkRow). link.id ≢ later.id) (world_of history).links
+
+-- So the ids that are found, each once, are as many as the links.
+abbrev pub IdsForLinks : Type 0
+IdsForLinks = (history : List PlainEntry) → AllPlaced empty_world history → (want : PlainWant) → length (ids_found (world_of history) want) ≡ length (links_found (world_of history) want)
+
+-- after such a history no text row of any document shows a content byte that is yet to come, of whatever document
 abbrev pub ShowsWhatCame : Type 0
 ShowsWhatCame = (history : List PlainEntry) → AllPlaced empty_world history → (shown document : List ℕ) (i : ℕ) → content_length (world_of history) document < i
     → All (λ (row : Row). row.address ≢ content_address document i) (text_rows (world_of history) shown)
 
--- so none of a document's text rows shows one of its own
+-- so no document has a text row that shows one of its own content bytes that are yet to come
 abbrev pub ShowsOwnContent : Type 0
 ShowsOwnContent = (history : List PlainEntry) → AllPlaced empty_world history → (document : List ℕ) (count : ℕ)
     → ShowsNoneOf (world_of history) document (content_length (world_of history) document + 1) count

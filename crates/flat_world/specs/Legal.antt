@@ -60,7 +60,8 @@ pub record IsLegal (limits : LimitsView) (session : ℕ) (before : List PlainEnt
       ⊎ MatchOption (wanted_after limits before session request) (IsServed before session request reply added rose)
       (λ refusal. IsRefused refusal reply added)
 
--- one request of a session, its reply, the length of the history after it, and what it added
+-- one request of a session, its reply, the length of the history after it, what it added, and whether the count of disk
+-- faults rose meanwhile
 pub record Exchange : Type 0 where
   pub request : PlainRequest
   pub reply : PlainReply

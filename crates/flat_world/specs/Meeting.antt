@@ -1,5 +1,5 @@
 -- Which links have a byte in common with the runs that specs pick.
-use Rattle.std.specs.Prelude.{◌≡◌, ℕ, ◌+◌, ◌&&◌, ◌||◌, Bool, true, List, [], ◌∷◌, min, max, nat_lt, Some, None, Result, Ok, Err}
+use Rattle.std.specs.Prelude.{◌≡◌, ℕ, ◌+◌, ◌&&◌, Bool, true, List, [], ◌∷◌, min, max, nat_lt, Some, None, Result, Ok, Err}
 use Rattle.std.specs.List.{list_any}
 use Rattle.febe_data.specs.declared.run.Run.{Run}
 use Rattle.febe_data.specs.Plain.{PlainSpec, PlainWant}
@@ -8,7 +8,8 @@ use Rattle.flat_world.specs.World.{World, LinkRow, is_same}
 use Rattle.flat_world.specs.Picking.{runs_of}
 use Rattle.flat_world.specs.Finding.{is_home_wanted}
 use Rattle.febe_data.specs.declared.refusal.Refusal.{Refusal}
-use Rattle.flat_world.specs.Refusals.{first_holding, finding, lacks_document, lacks_opening, has_bad_span, is_bad_span}
+pub use Rattle.flat_world.specs.Refusals.{lacks_document_of, lacks_opening_of, has_bad_span_in}
+use Rattle.flat_world.specs.Refusals.{first_holding, finding}
 
 -- some byte is in both runs
 abbrev pub shares_byte : Run → Run → Bool
@@ -38,14 +39,3 @@ pub record IsSought (world : World) (want : PlainWant) (sought : Sought) : Type 
 abbrev pub IsLooked : World → ℕ → PlainWant → Result Sought Refusal → Type 0
 IsLooked world session want (Ok sought) = IsSought world want sought × (first_holding (finding world session want) ≡ None)
 IsLooked world session want (Err refusal) = first_holding (finding world session want) ≡ Some refusal
-
--- ---- tests of all specs of a want
-
-abbrev pub lacks_document_of : World → PlainWant → Bool
-lacks_document_of world want = lacks_document world want.from || lacks_document world want.to || lacks_document world want.three
-
-abbrev pub lacks_opening_of : World → ℕ → PlainWant → Bool
-lacks_opening_of world session want = lacks_opening world session want.from || lacks_opening world session want.to || lacks_opening world session want.three
-
-abbrev pub has_bad_span_in : PlainWant → Bool
-has_bad_span_in want = has_bad_span want.from || has_bad_span want.to || has_bad_span want.three || list_any is_bad_span want.homes

@@ -1,6 +1,6 @@
 -- What the search for pairs keeps: the positions of each address, and the pairs as a set.
-use Rattle.std.specs.Prelude.{ℕ, ◌≡◌, ◌&&◌, Bool, List, [], ◌∷◌, ◌++◌, if◌then◌else◌, map, filter}
-use Rattle.std.specs.List.{list_any, flat_map}
+use Rattle.std.specs.Prelude.{ℕ, ◌≡◌, Bool, List, [], ◌∷◌, ◌++◌, if◌then◌else◌, map, filter}
+use Rattle.std.specs.List.{flat_map}
 use Rattle.std.specs.Option.{option_map, unwrap_or}
 use Rattle.std.specs.Global.{Vec}
 use Rattle.std.specs.BTreeMap.{BTreeMap, get}
@@ -8,17 +8,12 @@ use Rattle.std.specs.BTreeSet as sets
 use Rattle.std.specs.declared.cmp.Ordering.{Ordering}
 use Rattle.std.specs.Ordering.{nat_cmp, ordering_then}
 use Rattle.std.specs.Cmp.Lexicographic.{slice_cmp}
-use Rattle.tumbler.specs.declared.span.Span.{Span}
 use Rattle.febe_data.specs.Plain.{PlainSpec}
 use Rattle.flat_world.specs.declared.relation.Pair.{Pair}
 use Rattle.flat_world.specs.declared.rows.Row.{Row}
-use Rattle.flat_world.specs.World.{is_same, is_text_of}
-use Rattle.flat_world.specs.Picking.{picks}
+use Rattle.flat_world.specs.World.{is_same}
+use Rattle.flat_world.specs.Picking.{is_picked_by}
 use Rattle.flat_world.specs.Relation.{pairs_of_row, has_pair}
-
--- some span of the spec picks the row of the document's text
-abbrev pub is_picked_by : PlainSpec → Row → Bool
-is_picked_by spec row = is_text_of spec.document row && list_any (λ (span : Span). picks span row) spec.spans
 
 -- the positions of the rows with an address, in their order
 abbrev pub places_at : List Row → List ℕ → List ℕ

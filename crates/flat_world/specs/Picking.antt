@@ -35,9 +35,13 @@ picked_links world document span = filter (λ row. is_link_of document row && pi
 
 -- ---- spec sets
 
+-- some span of the spec picks the row of the document's text
+abbrev pub is_picked_by : PlainSpec → Row → Bool
+is_picked_by spec row = is_text_of spec.document row && list_any (λ (span : Span). picks span row) spec.spans
+
 -- what some span of the spec picks of the document's text, each row once
 abbrev pub picked_once : World → PlainSpec → List Row
-picked_once world spec = filter (λ row. is_text_of spec.document row && list_any (λ (span : Span). picks span row) spec.spans) world.rows
+picked_once world spec = filter (is_picked_by spec) world.rows
 
 -- the I-addresses of rows
 abbrev pub addresses_of : List Row → List (List ℕ)

@@ -11,6 +11,7 @@ use Rattle.febe_data.specs.declared.access.Rule.TheVariants.{Refuse, Copy, Alway
 use Rattle.febe_data.specs.declared.refusal.Refusal.{Refusal}
 use Rattle.febe_data.specs.declared.refusal.Refusal.TheVariants.{NoAccount, NoSuchDocument, NotOpen, NotOpenForWriting, NotOwner, Conflict, BadAddress, BadCuts, NoSuchLink, NoSuchEnd, TooLong, Full}
 use Rattle.febe_data.specs.LimitsView.{LimitsView}
+use Rattle.febe_data.specs.Validity.{spans_in_all}
 use Rattle.febe_data.specs.Plain.{PlainSpec, PlainWant, PlainRequest, insert, span_set, copy, rearrange, retrieve, relate, create, delete, version, whole_span, quit, follow, find_documents, create_link, end_sets, count_links, find_links, next_links, set_account, opens, closes}
 use Rattle.flat_world.specs.declared.ends.End.TheVariants.{From, To, Three}
 use Rattle.flat_world.specs.World.{World, has_document, account_of_session, mode_of, is_held_against, is_of_account, text_length}
@@ -124,10 +125,6 @@ total_of measure specs = sum_by (λ (spec : PlainSpec). sum_by (measure spec.doc
 abbrev pub runs_in_all : World → (from to three : List PlainSpec) → ℕ
 runs_in_all world from to three = length (runs_of world from) + length (runs_of world to) + length (runs_of world three)
 
--- how many spans the specs have together
-abbrev pub spans_in : List PlainSpec → ℕ
-spans_in specs = sum_by (λ (spec : PlainSpec). length spec.spans) specs
-
 -- ---- the tests that requests share
 
 -- the document is there, and the session has it open
@@ -157,12 +154,24 @@ writing_from world session document specs =
     ∷ (is_read_only (mode_of world session document), NotOpenForWriting)
     ∷ []
 
+-- some spec of the want names a document that there is not
+abbrev pub lacks_document_of : World → PlainWant → Bool
+lacks_document_of world want = lacks_document world want.from || lacks_document world want.to || lacks_document world want.three
+
+-- or one that the session has not open
+abbrev pub lacks_opening_of : World → ℕ → PlainWant → Bool
+lacks_opening_of world session want = lacks_opening world session want.from || lacks_opening world session want.to || lacks_opening world session want.three
+
+-- or has a bad span, or the want names one of homes
+abbrev pub has_bad_span_in : PlainWant → Bool
+has_bad_span_in want = has_bad_span want.from || has_bad_span want.to || has_bad_span want.three || list_any is_bad_span want.homes
+
 -- links are looked for
 abbrev pub finding : World → ℕ → PlainWant → List Check
 finding world session want =
-    (lacks_document world want.from || lacks_document world want.to || lacks_document world want.three, NoSuchDocument)
-    ∷ (lacks_opening world session want.from || lacks_opening world session want.to || lacks_opening world session want.three, NotOpen)
-    ∷ (has_bad_span want.from || has_bad_span want.to || has_bad_span want.three || list_any is_bad_span want.homes, BadAddress)
+    (lacks_document_of world want, NoSuchDocument)
+    ∷ (lacks_opening_of world session want, NotOpen)
+    ∷ (has_bad_span_in want, BadAddress)
     ∷ (is_too_long (runs_in_all world want.from want.to want.three), TooLong)
     ∷ []
 
@@ -218,7 +227,7 @@ checks limits counted world session quit = []
 checks limits counted world session (follow link end) =
     (is_none (link_at world link), NoSuchLink)
     ∷ (is_none (end_numbered end), NoSuchEnd)
-    ∷ (is_too_long (spans_in (follow_of world (link_at world link) (end_numbered end))), TooLong)
+    ∷ (is_too_long (spans_in_all (follow_of world (link_at world link) (end_numbered end))), TooLong)
     ∷ []
 checks limits counted world session (find_documents specs) =
     picking world session specs
@@ -233,9 +242,9 @@ checks limits counted world session (create_link home from to three) =
     ∷ []
 checks limits counted world session (end_sets specs) =
     picking world session specs
-    ++ (is_too_long (spans_in (end_set world From specs)), TooLong)
-    ∷ (is_too_long (spans_in (end_set world To specs)), TooLong)
-    ∷ (is_too_long (spans_in (end_set world Three specs)), TooLong)
+    ++ (is_too_long (spans_in_all (end_set world From specs)), TooLong)
+    ∷ (is_too_long (spans_in_all (end_set world To specs)), TooLong)
+    ∷ (is_too_long (spans_in_all (end_set world Three specs)), TooLong)
     ∷ []
 checks limits counted world session (count_links want) = finding world session want
 checks limits counted world session (find_links want) =

@@ -8,11 +8,12 @@ use Rattle.flat_world.specs.declared.rows.Row.{Row}
 use Rattle.flat_world.specs.World.{World, is_same}
 use Rattle.flat_world.specs.Picking.{picked_once}
 
--- the pairs of one row: its position, and the position of each other row with the same I-address
+-- the pairs of a row with these rows: its position, and the position of each that has its I-address, of the row itself too
 abbrev pub pairs_of_row : List Row → Row → List Pair
 pairs_of_row others row = map (λ (other : Row). record { left = row.n; right = other.n }) (filter (λ (other : Row). is_same other.address row.address) others)
 
--- all pairs of positions, the one picked by the left spec and the other by the right one, by left and then by right
+-- All pairs of positions with the same I-address, the one picked by the left spec and the other by the right one.
+-- Where the text of both documents ascends, they come by left and then by right.
 abbrev pub pairs_of : World → (left right : PlainSpec) → List Pair
 pairs_of world left right = flat_map (pairs_of_row (picked_once world right)) (picked_once world left)
 

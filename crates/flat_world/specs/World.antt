@@ -76,11 +76,8 @@ abbrev pub next_below : List (List ℕ) → List ℕ → List ℕ
 next_below documents front = front ++ (count_by (is_child_of front) documents + 1) ∷ []
 
 -- the next document of an account is `account.0.D`
-abbrev pub next_document_of : List (List ℕ) → List ℕ → List ℕ
-next_document_of documents account = account ++ 0 ∷ (count_by (is_child_of (account ++ 0 ∷ [])) documents + 1) ∷ []
-
 abbrev pub next_document : World → List ℕ → List ℕ
-next_document world account = next_document_of world.documents account
+next_document world account = next_below world.documents (account ++ 0 ∷ [])
 
 -- the next version of a document is `document.k`
 abbrev pub next_version : World → List ℕ → List ℕ

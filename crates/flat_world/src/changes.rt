@@ -214,17 +214,10 @@ impl FlatWorld {
         ensures err { OnErr result (self.new ≡ self.old) }
     {
         let addresses = edits::content_addresses(alloc, document, first, text.len())?;
-        let rows = edits::rows_with(
-            alloc,
-            self.rows.as_slice(),
-            document,
-            at,
-            addresses.as_slice(),
-        )?;
         let fresh = edits::new_bytes(alloc, document, first, text)?;
         self.bytes.reserve(fresh.len())?;
+        edits::put_rows(alloc, &mut self.rows, document, at, addresses.as_slice())?;
         edits::append_bytes(&mut self.bytes, fresh.as_slice());
-        self.rows = rows;
         Ok(())
     }
 
@@ -269,14 +262,7 @@ impl FlatWorld {
             return Err(Memory);
         }
         let addresses = self.picked_addresses(alloc, specs)?;
-        self.rows = edits::rows_with(
-            alloc,
-            self.rows.as_slice(),
-            document,
-            at,
-            addresses.as_slice(),
-        )?;
-        Ok(())
+        edits::put_rows(alloc, &mut self.rows, document, at, addresses.as_slice())
     }
 
     /// The link whose ends are the runs of these specs. Where a span's end is no address there is no memory for it.

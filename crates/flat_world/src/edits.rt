@@ -1,5 +1,5 @@
 //! Edits of the world's lists. Those that may need memory build what is new before anything changes.
-ghost use Rattle.std.specs.Prelude.{◌≡◌, ℕ, ◌+◌, ◌==◌, ◌&&◌, ◌≤◌, not, ◌++◌, length, map, filter, nat_le, IfOk, OnOk};
+ghost use Rattle.std.specs.Prelude.{◌≡◌, ℕ, ◌+◌, ◌==◌, ◌&&◌, ◌≤◌, not, ◌++◌, length, map, filter, nat_le, IfOk, OnOk, OnErr};
 ghost use Rattle.flat_world.specs.World.{is_same, is_text_of, content_address};
 ghost use Rattle.flat_world.specs.Edits.{moves_up, up_by, new_rows, new_bytes, rows_with, content_addresses, moved_to, rows_as};
 ghost use Rattle.flat_world.specs.Apply.{without_session, accounts_without, without_opening};
@@ -110,22 +110,47 @@ fn push_new(
     Ok(())
 }
 
-/// The rows once the addresses have come in at `n` of the document's text.
-pub(crate) fn rows_with(
+/// The rows that come behind those that stay: one for each address, and those that make room for them.
+fn rows_behind(
     alloc: Global,
     rows: &[Row],
     document: &Tumbler,
     n: u32,
     addresses: &[Tumbler],
 ) -> Result<List<Row>, Memory>
-    ensures { IfOk result (λ made. made.items ≡ rows_with rows.now document.now n addresses.now) }
+    ensures { IfOk result (λ made. made.items ≡ new_rows document.now n addresses.now ++ map (up_by (length addresses.now)) (filter (moves_up document.now n) rows.now)) }
 {
     let k = u32::try_from(addresses.len()).map_err(|_| Memory)?;
     let mut made = List::new(alloc);
-    push_staying(&mut made, rows, document, n)?;
     push_new(&mut made, document, n, addresses)?;
     push_moved(&mut made, rows, document, n, k)?;
     Ok(made)
+}
+
+/// Drops the rows that make room at `n`, in place.
+fn keep_staying(rows: &mut List<Row>, document: &Tumbler, n: u32)
+    ensures rows { rows.new.items ≡ filter (λ row. not (moves_up document.now n row)) rows.old.items }
+    ensures spare { rows.new.spare ≡ rows.old.spare }
+{
+    rows.retain(|row| !row.moves_up(document, n));
+}
+
+/// Puts the addresses in at `n` of the document's text. The rows that stay are not copied.
+pub(crate) fn put_rows(
+    alloc: Global,
+    rows: &mut List<Row>,
+    document: &Tumbler,
+    n: u32,
+    addresses: &[Tumbler],
+) -> Result<(), Memory>
+    ensures ok { OnOk result (rows.new.items ≡ rows_with rows.old.items document.now n addresses.now) }
+    ensures err { OnErr result (rows.new.items ≡ rows.old.items) }
+{
+    let behind = rows_behind(alloc, rows.as_slice(), document, n, addresses)?;
+    rows.reserve(behind.len())?;
+    keep_staying(rows, document, n);
+    append_rows(rows, behind.as_slice());
+    Ok(())
 }
 
 /// The content bytes that an insert adds.

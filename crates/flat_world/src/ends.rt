@@ -10,7 +10,8 @@ ghost use Rattle.flat_world.specs.PlainLink.{plain_link};
 ghost use Rattle.flat_world.specs.Finding.{link_at};
 ghost use Rattle.flat_world.specs.Ends.{end_numbered, runs_of_end, run_now, end_set, NamesSpans};
 ghost use Rattle.flat_world.specs.EndIndex.{is_indexed, indexed_of};
-ghost use Rattle.flat_world.specs.Refusals.{is_too_long, spans_in};
+ghost use Rattle.febe_data.specs.Validity.{spans_in_all};
+ghost use Rattle.flat_world.specs.Refusals.{is_too_long};
 ghost use Rattle.flat_world.specs.Served.{IsServedAs, IsValidServed};
 
 use crate::end_index::{Piece, end_index, is_indexed};
@@ -166,7 +167,7 @@ fn indexed_positions(
 
 /// Whether the specs have more spans together than a reply has room for.
 fn has_too_many_spans(specs: &[Spec]) -> bool
-    ensures { result ≡ is_too_long (spans_in (map plain_spec specs.now)) }
+    ensures { result ≡ is_too_long (spans_in_all (map plain_spec specs.now)) }
 {
     let mut total: usize = 0;
     for spec in specs {

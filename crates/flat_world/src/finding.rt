@@ -75,6 +75,22 @@ fn first_above(
     Ok(made)
 }
 
+/// Whether the set has the address. Most addresses are before the set's first one or behind its last, and are not searched for.
+fn has_address(addresses: &BTreeSet<Tumbler>, address: &Tumbler) -> bool
+    ensures { result ≡ is_in_set addresses.now address.now }
+{
+    let Some(first) = addresses.first() else {
+        return false;
+    };
+    let Some(last) = addresses.last() else {
+        return false;
+    };
+    if first > address || last < address {
+        return false;
+    }
+    addresses.contains(address)
+}
+
 /// The documents in which some row has one of the addresses.
 fn documents_showing(
     alloc: Global,
@@ -85,7 +101,7 @@ fn documents_showing(
 {
     let mut shown = BTreeSet::new(alloc);
     for row in rows {
-        if addresses.contains(&row.address) {
+        if has_address(addresses, &row.address) {
             shown.insert(row.document.copy())?;
         }
     }

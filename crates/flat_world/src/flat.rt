@@ -8,7 +8,8 @@ use std::alloc::Global;
 use std::marker::Model;
 use std::mem;
 
-/// The world of a history, beside the number of its counted entries. All is done by scans of plain lists.
+/// The world of a history as plain lists, beside how many entries of the history are counted and how many each session
+/// has. Changes go over the lists; queries that look up again and again first make ordered maps or sets of them.
 #[derive(Debug, Drop)]
 pub struct FlatWorld {
     pub(crate) documents: List<Tumbler>,

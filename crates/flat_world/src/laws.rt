@@ -1,6 +1,6 @@
 //! Laws of what histories and changes make of the world. Each is a function that does nothing,
 //! whose contract says the law.
-ghost use Rattle.flat_world.specs.Laws.{CopiesSpecs, DeletesSpan, DocumentsOnce, EmptyBlockStays, InsertedReads, InsertsNumbered, InsertsRows, KeepsContents, KeptAgain, NextIsNew, NumberedWithoutGaps, Rearranges, RecoveredIsPlaced, RetrieveAfterInsert, RowsHaveDocuments, ServedIsPlaced, ShowsOwnContent, ShowsWhatCame, SwapsBack, TextInOrder, VersionsRows};
+ghost use Rattle.flat_world.specs.Laws.{CopiesSpecs, CopyLeavesOthers, DeletesSpan, DocumentsOnce, EmptyBlockStays, IdsForLinks, InsertLeavesOthers, InsertedReads, InsertsNumbered, InsertsRows, KeepsContents, KeptAgain, LinksNumbered, LinksOnce, NextIsNew, NumberedWithoutGaps, PutsInOrder, Rearranges, RecoveredIsPlaced, RetrieveAfterInsert, RowsHaveDocuments, ServedIsPlaced, ShowsOwnContent, ShowsWhatCame, SwapsBack, TextInOrder, VersionsRows};
 
 /// The kept entries of a history alone build the documents, rows, bytes and links that the whole
 /// history builds: sessions, accounts, open documents and restarts change none of them.
@@ -13,28 +13,43 @@ pub fn kept_again()
     ensures { KeptAgain }
 {}
 
-/// Text that comes in leaves the rows before its place as they are, puts its own rows there, and
-/// moves the others up by its length, in their order.
+/// Text that comes in at a place of a document whose text is numbered from 1 without gaps leaves the
+/// text rows before the place as they are, puts its own rows there, and moves the others up by its
+/// length, in their order.
 pub fn inserts_rows()
     ensures { InsertsRows }
 {}
 
-/// Text that comes in at a place from 1 to one more than the document's length leaves each
+/// Text that comes in at such a place, from 1 to one more than the document's length, leaves each
 /// document's rows numbered from 1 without gaps, if they were.
 pub fn inserts_numbered()
     ensures { InsertsNumbered }
 {}
 
-/// After text came in, the document reads: the bytes before the place, the text, and the bytes
-/// from the place on.
+/// After text came in at such a place of a document whose text shows none of the new bytes yet, the
+/// document reads: the bytes before the place, the text, and the bytes from the place on.
 pub fn retrieve_after_insert()
     ensures { RetrieveAfterInsert }
 {}
 
-/// A copy brings what its specs picked in at its place, leaves each document numbered that was, and
-/// changes neither content nor links.
+/// Text that comes in, wherever it does, leaves all rows that are none of the document's text, in
+/// their order, the documents, the links, the open documents and the accounts. The old content bytes
+/// stand before the new ones.
+pub fn insert_leaves_others()
+    ensures { InsertLeavesOthers }
+{}
+
+/// A copy to a place of a document whose text is numbered puts there what its specs picked, and moves
+/// the text rows from there on up. The document reads so. Each document is numbered that was, and the
+/// documents, the content and the links are as they were.
 pub fn copies_specs()
     ensures { CopiesSpecs }
+{}
+
+/// A copy, wherever it comes in, leaves all rows that are none of the document's text, in their
+/// order, the documents, the content, the links, the open documents and the accounts.
+pub fn copy_leaves_others()
+    ensures { CopyLeavesOthers }
 {}
 
 /// What a delete leaves of the document's text and links stands in its order, and without gaps if it
@@ -49,25 +64,34 @@ pub fn versions_rows()
     ensures { VersionsRows }
 {}
 
-/// A rearrange between places of a document leaves its text numbered from 1 without gaps, with the
-/// blocks in the other order. Its links, the rows of other documents, the content and the links are
-/// as they were.
+/// A rearrange between places of a document whose text is numbered leaves it so, with the blocks in
+/// the other order. Its links, the rows of other documents, the content and the links are as they
+/// were.
 pub fn rearranges()
     ensures { Rearranges }
 {}
 
-/// Where one of the two blocks between three cuts is empty, a rearrange leaves the text as it is.
+/// Where one of the two blocks between three cuts of a text that is numbered is empty, a rearrange
+/// leaves the text as it is.
 pub fn empty_block_stays()
     ensures { EmptyBlockStays }
 {}
 
-/// A rearrange by three cuts, and then by those of the two blocks as they stand then, gives the text back.
+/// A rearrange of a text that is numbered, by three cuts and then by those of the two blocks as they
+/// stand then, gives the text back.
 pub fn swaps_back()
     ensures { SwapsBack }
 {}
 
-/// A request that nothing refuses changes the world so that documents are new ones, and text,
-/// copies, blocks and links come in at places that are there.
+/// What is put in ascending order has the same addresses, each once and each below those behind it.
+/// So stand the documents and the ids of links that are found.
+pub fn puts_in_order()
+    ensures { PutsInOrder }
+{}
+
+/// A request that nothing refuses changes the world so that documents are new ones, content bytes
+/// and links have the next numbers, and text, copies, blocks and links come in at places that are
+/// there.
 pub fn served_is_placed()
     ensures { ServedIsPlaced }
 {}
@@ -84,7 +108,7 @@ pub fn numbered_without_gaps()
 {}
 
 /// In the world of such a history the text rows of each document stand in the order of their
-/// places.
+/// places, of which no two are the same.
 pub fn text_in_order()
     ensures { TextInOrder }
 {}
@@ -102,6 +126,22 @@ pub fn documents_once()
 /// In the world of such a history each row is of a document that is there.
 pub fn rows_have_documents()
     ensures { RowsHaveDocuments }
+{}
+
+/// In the world of such a history the links that were made in a document have its link addresses
+/// 1, 2, 3 and on, in the order in which they came.
+pub fn links_numbered()
+    ensures { LinksNumbered }
+{}
+
+/// In the world of such a history no two links have the same id.
+pub fn links_once()
+    ensures { LinksOnce }
+{}
+
+/// So counting links there gives the length of the list of ids that finding them gives.
+pub fn ids_for_links()
+    ensures { IdsForLinks }
 {}
 
 /// In the world of such a history no text row of any document shows a content byte that is yet to

@@ -3,8 +3,8 @@ ghost use Rattle.std.specs.Prelude.{◌≡◌, ◌++◌, ◌∷◌, [], false, l
 ghost use Rattle.std.specs.List.{list_any};
 ghost use Rattle.febe_data.specs.Plain.{plain_spec, relate};
 ghost use Rattle.febe_data.specs.Validity.{IsDiagonal};
-ghost use Rattle.flat_world.specs.PairIndex.{is_picked_by, AddsPlace, pairs_among, pairs_with, places_in, IsPlaceIndex, IsPairSet};
-ghost use Rattle.flat_world.specs.Picking.{picks};
+ghost use Rattle.flat_world.specs.PairIndex.{AddsPlace, pairs_among, pairs_with, places_in, IsPlaceIndex, IsPairSet};
+ghost use Rattle.flat_world.specs.Picking.{picks, is_picked_by};
 ghost use Rattle.flat_world.specs.Refusals.{is_bad_span, first_holding, picking};
 ghost use Rattle.flat_world.specs.Relation.{next_pair, is_start, reach, diagonal_from, diagonals_of};
 ghost use Rattle.flat_world.specs.Served.{IsServedAs, IsValidServed};

@@ -5,20 +5,19 @@ ghost use Rattle.tumbler.specs.Span.{SpanFits, end_of};
 ghost use Rattle.febe_data.specs.Plain.{plain_spec, plain_item, plain_reply, link, retrieve};
 ghost use Rattle.febe_data.specs.Validity.{IsReply};
 ghost use Rattle.flat_world.specs.World.{is_text_of, is_link_of};
-ghost use Rattle.flat_world.specs.Picking.{is_within};
+ghost use Rattle.flat_world.specs.Picking.{is_within, picked_text, addresses_of, picked_by_spec, picked_addresses};
 ghost use Rattle.flat_world.specs.Answers.{items_of_span, items_of, answer, NamesTumbler};
-ghost use Rattle.flat_world.specs.ByteIndex.{IsByteIndex, item_of};
+ghost use Rattle.flat_world.specs.ByteIndex.{HasBytesOf, item_of};
 ghost use Rattle.flat_world.specs.Refusals.{is_bad_span, has_bad_span, span_bytes, span_items, total_of, wanted};
 ghost use Rattle.flat_world.specs.Served.{IsServedAs, IsValidServed};
 
-use crate::byte_index::{byte_index, push_byte};
+use crate::byte_index::{ByteIndex, push_byte};
 use crate::flat::FlatWorld;
 use crate::refusals::MOST_ITEMS;
 use crate::requests::Served;
 use crate::rows::Row;
 use febe_data::{Item, Limits, List, Memory, Refusal, Reply, Span, Spec, Tumbler};
 use std::alloc::Global;
-use std::collections::BTreeMap;
 
 /// The most bytes of text that a retrieve gives.
 pub const MOST_REPLY_BYTES: usize = 16_777_216;
@@ -106,7 +105,7 @@ fn push_text(
     alloc: Global,
     items: &mut List<Item>,
     rows: &[Row],
-    index: &BTreeMap<Tumbler, u8>,
+    index: &ByteIndex,
     document: &Tumbler,
     start: &Tumbler,
     end: &Tumbler,
@@ -162,12 +161,12 @@ impl FlatWorld {
         &self,
         alloc: Global,
         items: &mut List<Item>,
-        index: &BTreeMap<Tumbler, u8>,
+        index: &ByteIndex,
         document: &Tumbler,
         span: &Span,
     ) -> Result<(), Memory>
         requires fits { SpanFits span.now }
-        requires indexed { IsByteIndex self.now.world.bytes index.now }
+        requires indexed { HasBytesOf self.now.world.bytes (addresses_of (picked_text self.now.world document.now span.now)) index.now }
         ensures items { OnOk result (map plain_item items.new.items ≡ map plain_item items.old.items ++ items_of_span self.now.world document.now span.now) }
         ensures valid { OnOk result (All NamesTumbler (map plain_item items.old.items) → All NamesTumbler (map plain_item items.new.items)) }
     {
@@ -183,11 +182,11 @@ impl FlatWorld {
         &self,
         alloc: Global,
         items: &mut List<Item>,
-        index: &BTreeMap<Tumbler, u8>,
+        index: &ByteIndex,
         spec: &Spec,
     ) -> Result<(), Memory>
         requires fits { list_any is_bad_span (plain_spec spec.now).spans ≡ false }
-        requires indexed { IsByteIndex self.now.world.bytes index.now }
+        requires indexed { HasBytesOf self.now.world.bytes (picked_by_spec self.now.world (plain_spec spec.now)) index.now }
         ensures items { OnOk result (map plain_item items.new.items ≡ map plain_item items.old.items ++ flat_map (items_of_span self.now.world spec.now.document) spec.now.spans.items) }
         ensures valid { OnOk result (All NamesTumbler (map plain_item items.old.items) → All NamesTumbler (map plain_item items.new.items)) }
     {
@@ -203,11 +202,11 @@ impl FlatWorld {
         &self,
         alloc: Global,
         items: &mut List<Item>,
-        index: &BTreeMap<Tumbler, u8>,
+        index: &ByteIndex,
         specs: &[Spec],
     ) -> Result<(), Memory>
         requires fits { has_bad_span (map plain_spec specs.now) ≡ false }
-        requires indexed { IsByteIndex self.now.world.bytes index.now }
+        requires indexed { HasBytesOf self.now.world.bytes (picked_addresses self.now.world (map plain_spec specs.now)) index.now }
         ensures items { OnOk result (map plain_item items.new.items ≡ map plain_item items.old.items ++ items_of self.now.world (map plain_spec specs.now)) }
         ensures valid { OnOk result (All NamesTumbler (map plain_item items.old.items) → All NamesTumbler (map plain_item items.new.items)) }
     {
@@ -225,7 +224,7 @@ impl FlatWorld {
         ensures answer { IfOk result (λ reply. plain_reply reply ≡ answer self.now.world (retrieve (map plain_spec specs.now))) }
         ensures valid { IfOk result (λ reply. IsReply (plain_reply reply)) }
     {
-        let index = byte_index(alloc, self.bytes.as_slice())?;
+        let index = self.byte_index(alloc, specs)?;
         let mut items = List::new(alloc);
         self.push_specs(alloc, &mut items, &index, specs)?;
         Ok(Reply::Retrieved(items))

@@ -7,7 +7,7 @@ ghost use Rattle.std.specs.Cmp.Lexicographic.{slice_cmp};
 ghost use Rattle.flat_world.specs.Picking.{is_within, is_between};
 ghost use Rattle.flat_world.specs.Holding.{holds};
 ghost use Rattle.flat_world.specs.PlainLink.{plain_link};
-ghost use Rattle.flat_world.specs.World.{is_same, is_child_of, is_text, is_text_of, is_link_of, opens, is_write, is_of_account, part_number, next_document_of, next_below, content_length_of, LinkRow};
+ghost use Rattle.flat_world.specs.World.{is_same, is_child_of, is_text, is_text_of, is_link_of, opens, is_write, is_of_account, part_number, next_below, content_length_of, LinkRow};
 
 use crate::rows::{AccountRow, ByteRow, LinkRow, OpenRow, Part, Row};
 use febe_data::{Memory, Mode, Tumbler};
@@ -148,7 +148,7 @@ pub(crate) fn one_more_than(count: usize) -> Result<u32, Memory>
 /// The address of the account's next document, where it is a tumbler.
 #[tactic(auto, using(crate::proofs::Fronts::fronts))]
 pub(crate) fn next_document(documents: &[Tumbler], account: &Tumbler) -> Result<Tumbler, Memory>
-    ensures { IfOk result (λ document. document ≡ next_document_of documents.now account.now) }
+    ensures { IfOk result (λ document. document ≡ next_below documents.now (account.now ++ 0 ∷ [])) }
 {
     let first = extended(account, &[0, 1])?;
     let number = one_more_than(children_among(documents, front_of(&first)))?;

@@ -7,16 +7,18 @@ use std::process::ExitCode;
 use std::rt::Env;
 use std::{env, io};
 
-/// What a status other than 0 is told as.
-fn message_of(status: u8) -> Option<&'static str> {
+/// Tells on standard error why a run ended; one that went well says nothing.
+fn tell(rt: &impl Eprint, status: u8, place: u64) -> io::Result<()> {
     match status {
-        2 => Some("usage: green_batch FOLDER"),
-        3 => Some("malformed input"),
-        5 => Some("read fault"),
-        6 => Some("write fault"),
-        9 => Some("out of memory"),
-        10 => Some("input too long"),
-        _ => None,
+        2 => eprintln!(rt; "green_batch: usage: green_batch FOLDER [--limits ENTRIES TEXT FLUSH]"),
+        3 => eprintln!(rt; "green_batch: malformed at {place}"),
+        4 => eprintln!(rt; "green_batch: truncated at {place}"),
+        5 => eprintln!(rt; "green_batch: read fault"),
+        6 => eprintln!(rt; "green_batch: write fault"),
+        9 => eprintln!(rt; "green_batch: out of memory"),
+        10 => eprintln!(rt; "green_batch: input too long"),
+        11 => eprintln!(rt; "green_batch: no session number left"),
+        _ => Ok(()),
     }
 }
 
@@ -40,9 +42,7 @@ fn main(rt: HostRuntime) -> ExitCode {
         // Words that cannot be read are wrong words.
         Err(_) => 2,
     };
-    if let Some(message) = message_of(status) {
-        // There is nowhere left to tell of a line that cannot be written.
-        let _ = eprintln!(rt; "green_batch: {message}");
-    }
+    // There is nowhere left to tell of a line that cannot be written.
+    let _ = tell(&rt, status, report.place);
     ExitCode::from(status)
 }

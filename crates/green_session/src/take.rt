@@ -1,6 +1,6 @@
 //! Reading requests from a source.
 ghost use Rattle.std.specs.Prelude.{◌≡◌, ◌≤◌, ◌+◌, ◌^◌, ◌-◌, min, ℕ};
-ghost use Rattle.green_session.specs.Taking.{TurnsView, IsTaken, ended};
+ghost use Rattle.green_session.specs.Taking.{TurnsView, AreTurns, IsTaken, ended};
 
 use febe_data::Request;
 use febe_feed::{Feed, Next};
@@ -8,26 +8,37 @@ use green_io::{ReadAnswer, Source};
 use std::alloc::Global;
 use std::marker::Model;
 
-/// How many bytes may still be taken.
+/// How many bytes may be taken, and how many the source gave.
 #[derive(Clone, Copy, Debug, PartialEq, Eq)]
 pub struct Turns {
-    left: u64,
+    limit: u64,
+    /// How many bytes the source gave, or the greatest number.
+    taken: u64,
 }
 
 impl Model for Turns {
     ghost Value = { TurnsView };
 
-    ghost view = { λ t. record { left = t.left } };
+    ghost view = { λ t. record { limit = t.limit; taken = t.taken } };
 
-    ghost inverse = { λ v. record { left = v.left } };
+    ghost invariant = { λ t. AreTurns t.limit t.taken };
+
+    ghost inverse = { λ v. record { limit = v.limit; taken = v.taken } };
 }
 
 impl Turns {
-    /// So many bytes, and no read is made once as many were taken. The last read may take more.
+    /// So many bytes, and no read is made once as many were taken. The last read may take up to 4,095 more.
     pub fn new(limit: u64) -> Turns
-        ensures { result ≡ record { left = limit } }
+        ensures { result ≡ record { limit = limit; taken = 0 } }
     {
-        Turns { left: limit }
+        Turns { limit, taken: 0 }
+    }
+
+    /// How many bytes the source gave with these turns, or the greatest number.
+    pub fn taken(&self) -> u64
+        ensures { result ≡ self.now.taken }
+    {
+        self.taken
     }
 }
 
@@ -68,12 +79,12 @@ pub fn take_request<S: Source>(
             Ok(Next::Bad { at }) => return Taken::Malformed { at },
             Err(_) => return Taken::Memory,
         }
-        if turns.left == 0 {
+        if turns.taken >= turns.limit {
             return Taken::Budget;
         }
         match source.read(&mut piece) {
             ReadAnswer::Got(n) => {
-                turns.left = turns.left.saturating_sub(n as u64);
+                turns.taken = turns.taken.saturating_add(n as u64);
                 if feed.push(alloc, piece.split_at(n).0).is_err() {
                     return Taken::Memory;
                 }

@@ -85,6 +85,22 @@ fn what_is_taken(rt: HostRuntime) -> Result<(), Fail> {
             assert_eq!(rt; told(&taken), *answer, "at {input}");
         }
         assert_eq!(rt; source.faults(), failing.len() as u64, "at {input}");
+        assert_eq!(rt; turns.taken(), limit.min(input.len() as u64), "at {input}");
+    }
+    Ok(())
+}
+
+#[test]
+fn a_last_read_takes_more(rt: HostRuntime) -> Result<(), Fail> {
+    let alloc = rt.alloc();
+    let bytes = List::from_slice(alloc, b"P0~11~")?;
+    let mut source = MemorySource::new(bytes, List::new(alloc), List::new(alloc));
+    let mut feed = Feed::new(alloc);
+    let mut turns = Turns::new(1);
+    for answer in ["greeting", "request", "budget"] {
+        let taken = take_request(alloc, &mut source, &mut feed, &mut turns);
+        assert_eq!(rt; told(&taken).0, answer);
+        assert_eq!(rt; turns.taken(), 6);
     }
     Ok(())
 }

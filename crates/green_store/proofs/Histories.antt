@@ -1,12 +1,12 @@
 -- A history with one entry more.
-use Rattle.std.proofs.Common.{◌≡◌, ℕ, ◌+◌, ◌≤◌, Bool, true, false, cond, eqb, max, List, [], ◌∷◌, ◌++◌, length, ap, ◌∙◌, arith}
+use Rattle.std.proofs.Common.{◌≡◌, ℕ, ◌≤◌, Bool, true, false, cond, eqb, max, List, [], ◌∷◌, ◌++◌, length, arith}
 use Rattle.std.specs.Prelude.{filter}
 use Rattle.std.proofs.lemmas.List.{length-map, map_push}
 use Rattle.std.proofs.lemmas.Grind.{fold-append}
 use Rattle.febe_data.specs.declared.entry.Entry.{Entry}
 use Rattle.febe_data.specs.Plain.{PlainEntry, plain_entry, plain_history}
 use Rattle.flat_world.specs.FlatView.{view_of, after_entry, nothing_yet, entries_in}
-use Rattle.flat_world.specs.History.{is_live, live_after, entries_of}
+use Rattle.flat_world.specs.History.{is_live, live_after}
 use Rattle.flat_world.proofs.Folded.{counts_entries}
 use Rattle.green_store.specs.Sessions.{greatest_session}
 

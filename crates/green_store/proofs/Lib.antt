@@ -3,3 +3,5 @@ pub mod Lives
 pub mod Stores
 pub mod Legals
 pub mod Valid
+pub mod Places
+pub mod Remaining

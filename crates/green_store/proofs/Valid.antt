@@ -1,15 +1,13 @@
 -- Parts of a list that are all right, and the whole of it.
-use Rattle.std.proofs.Common.{◌≡◌, ℕ, ◌+◌, ◌*◌, ◌<◌, ◌≤◌, ◌∙◌, List, [], ◌∷◌, ◌++◌, length, map, take, All, get_or, refl, ap, sym, subst, arith}
-use Rattle.std.specs.Prelude.{IsTrue, nat_le, false, ◌↔◌}
+use Rattle.std.proofs.Common.{◌≡◌, ℕ, ◌+◌, ◌*◌, ◌<◌, ◌≤◌, ◌∙◌, List, [], ◌∷◌, ◌++◌, length, map, take, All, get_or, ap, sym, subst, arith}
+use Rattle.std.specs.Prelude.{IsTrue, nat_le, ◌↔◌}
 use Rattle.std.proofs.lemmas.Bool.{leb-true, le-leb}
 use Rattle.std.proofs.lemmas.List.{take_all, map_more, length-map, get_or-map}
-use Rattle.std.proofs.lemmas.List.Elements.{All-more, All-push, All-get_or}
+use Rattle.std.proofs.lemmas.List.Elements.{All-more, All-push}
 use Rattle.std.proofs.lemmas.List.Sums.{sum_by_push}
-use Rattle.tumbler.specs.declared.span.Span.{Span}
-use Rattle.tumbler.specs.Places.{IsTumbler}
 use Rattle.febe_data.specs.declared.spec.Spec.{Spec}
 use Rattle.febe_data.specs.Plain.{PlainSpec, plain_spec}
-use Rattle.febe_data.specs.Validity.{IsSpan, IsList, IsSpec, IsSpecSet, spans_in_all}
+use Rattle.febe_data.specs.Validity.{IsList, IsSpec, IsSpecSet, spans_in_all}
 
 -- where the first ones are right and the next one is
 pub more : {X : Type 0} (P : X → Type 0) (xs : List X) (i : ℕ) (x : X) → i < length xs → x ≡ get_or xs i x → P x → All P (take i xs) → All P (take (i + 1) xs)

@@ -1,5 +1,5 @@
 -- What each step does to a store, and what it is answered.
-use Rattle.std.specs.Prelude.{◌≡◌, ℕ, ◌+◌, ◌<◌, ◌^◌, IsTrue, false, length}
+use Rattle.std.specs.Prelude.{◌≡◌, ◌⊎◌, ℕ, ◌+◌, ◌<◌, ◌^◌, IsTrue, false, length}
 use Rattle.febe_data.specs.declared.refusal.Refusal.TheVariants.{Memory}
 use Rattle.febe_data.specs.Plain.{PlainRequest, plain_request, PlainReply, plain_reply, refused}
 use Rattle.febe_data.specs.Validity.{IsRequest, IsReply}
@@ -42,6 +42,12 @@ pub record IsTurnedDown (before : StoreView) (reply : PlainReply) (after : Store
   pub reply_is : reply ≡ refused Memory
   pub stays : after ≡ before
 
+-- a valid request is replied to by a legal step, and one that is not valid is turned down
+abbrev pub IsGiven : StoreView → ℕ → PlainRequest → PlainReply → StoreView → Type 0
+IsGiven before session request reply after =
+    (IsRequest request × Steps before.limits session before.history request reply after.history false)
+    ⊎ ((¬ IsRequest request) × IsTurnedDown before reply after)
+
 -- The live session's request has this reply, with the number of entries after it: by a legal step where the
 -- request is valid.
 pub record IsReplied (before : StoreView) (session : ℕ) (request : PlainRequest) (reply : PlainReply) (point : ℕ) (after : StoreView) : Type 0 where
@@ -49,8 +55,7 @@ pub record IsReplied (before : StoreView) (session : ℕ) (request : PlainReques
   pub limits_stay : after.limits ≡ before.limits
   pub point_is : point ≡ length after.history
   pub valid : IsReply reply
-  pub legal : IsRequest request → Steps before.limits session before.history request reply after.history false
-  pub turned_down : ¬ IsRequest request → IsTurnedDown before reply after
+  pub given : IsGiven before session request reply after
 
 -- the live session has ended: its End is added
 pub record HasEnded (before : StoreView) (session : ℕ) (after : StoreView) : Type 0 where

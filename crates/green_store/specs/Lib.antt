@@ -11,3 +11,4 @@ pub mod StoreView
 pub mod IsStep
 pub mod IsStore
 pub mod LeavesLive
+pub mod Laws

@@ -1,4 +1,4 @@
--- A legal step of a session, from one history to a longer one.
+-- A legal step of a session, from one history to the next.
 use Rattle.std.specs.Prelude.{◌≡◌, ℕ, Bool, List, ◌++◌}
 use Rattle.febe_data.specs.LimitsView.{LimitsView}
 use Rattle.febe_data.specs.Plain.{PlainRequest, PlainReply, PlainEntry}

@@ -1,6 +1,7 @@
 //! One store for many sessions: the history, and what each step adds to it.
 #![tactic(auto)]
 
+pub mod laws;
 mod step;
 mod store;
 #[cfg(test)]

@@ -121,7 +121,7 @@ impl Store {
     ghost use Rattle.green_store.specs.Sessions.{greatest_session, begin_entry, end_entry};
     ghost use Rattle.green_store.specs.Steps.{Steps};
     ghost use Rattle.green_store.specs.StoreView.{with_one};
-    ghost use Rattle.green_store.specs.IsStep.{IsStep, IsTurnedDown};
+    ghost use Rattle.green_store.specs.IsStep.{IsStep, IsGiven};
     ghost use Rattle.green_store.specs.LeavesLive.{LeavesLive};
 
     fn begin(&mut self, alloc: Global) -> StepAnswer
@@ -212,8 +212,7 @@ impl Store {
         requires { IsTrue (is_live self.old.history session) }
         ensures valid { IsReply (plain_reply result) }
         ensures limits { self.new.limits ≡ self.old.limits }
-        ensures legal { IsRequest (plain_request request.now) → Steps self.old.limits session self.old.history (plain_request request.now) (plain_reply result) self.new.history false }
-        ensures turned_down { ¬ IsRequest (plain_request request.now) → IsTurnedDown self.old (plain_reply result) self.new }
+        ensures given { IsGiven self.old session (plain_request request.now) (plain_reply result) self.new }
     {
         if let Request::Quit = request {
             self.add_end(alloc, session);

@@ -1,20 +1,8 @@
--- A front, and a front of what is behind it.
-use Rattle.std.proofs.Common.{◌≡◌, ℕ, ◌+◌, ◌≤◌, arith, List, [], ◌++◌, Option, Some, None, take, drop, ap, ◌∙◌, sym, append_assoc}
-use Rattle.std.proofs.Math.Seq.{take-add}
+-- Bytes that are read and written, one part after the other.
+use Rattle.std.proofs.Common.{ℕ, ◌≤◌, arith, List, [], ◌++◌, Option, Some, None, refl, ap, ◌∙◌, sym, append_assoc}
 use Rattle.std.proofs.lemmas.List.{append-nil}
 use Rattle.std.specs.Io.KnownBytes.{Appends, Consumes}
 use Rattle.green_io.specs.Outside.{HasRisen}
-
--- bytes were appended, and then more
-pub appends_more : (a b c : Option (List ℕ)) (m n : ℕ) (bytes rest : List ℕ) → rest ≡ drop m bytes → Appends a b (take m bytes) → Appends b c (take n rest) → Appends a c (take (m + n) bytes)
-appends_more None b c m n bytes rest e p q = tt
-appends_more (Some xs) None c m n bytes rest e p q = absurd p
-appends_more (Some xs) (Some ys) None m n bytes rest e p q = absurd q
-appends_more (Some xs) (Some ys) (Some zs) m n bytes rest e p q =
-    q ∙ ap (λ (r : List ℕ). r ++ take n rest) p ∙ append_assoc xs (take m bytes) (take n rest)
-    ∙ ap (λ (r : List ℕ). xs ++ (take m bytes ++ take n r)) e ∙ ap (λ (r : List ℕ). xs ++ r) (sym (take-add m n bytes))
-
-pub ruleset fronts = (appends_more)
 
 -- bytes were consumed, and then more
 pub consumes_more : (a b c : Option (List ℕ)) (xs ys : List ℕ) → Consumes a b xs → Consumes b c ys → Consumes a c (xs ++ ys)
@@ -22,6 +10,10 @@ consumes_more None b c xs ys p q = tt
 consumes_more (Some as') None c xs ys p q = absurd p
 consumes_more (Some as') (Some bs) None xs ys p q = absurd q
 consumes_more (Some as') (Some bs) (Some cs) xs ys p q = p ∙ ap (λ (r : List ℕ). xs ++ r) q ∙ sym (append_assoc xs ys cs)
+
+pub consumes_nothing : (a : Option (List ℕ)) → Consumes a a []
+consumes_nothing None = tt
+consumes_nothing (Some xs) = refl
 
 pub appends_nothing : (a : Option (List ℕ)) → Appends a a []
 appends_nothing None = tt

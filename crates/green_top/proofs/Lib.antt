@@ -1,10 +1,8 @@
-pub mod Histories
-pub mod Steps
 pub mod Fronts
 pub mod Progresses
-pub mod Goings
-pub mod Outcomes
 pub mod Serials
-pub mod Places
 pub mod Turns
-pub mod Inputs
+pub mod WordForms
+pub mod Conversations
+pub mod Held
+pub mod Complete

@@ -14,10 +14,10 @@ use Rattle.flat_world.specs.Apply.{world_of}
 use Rattle.flat_world.specs.History.{entries_of, restart_entry}
 use Rattle.flat_world.specs.Effects.{Effect, effect}
 use Rattle.flat_world.specs.Legal.{IsLegal, IsServed, IsRefused, IsAnswered, IsDone, IsDiskFault, Exchange, TookPlace, wanted_after}
-use Rattle.green_top.specs.Session.{begin_entry}
+use Rattle.green_store.specs.Sessions.{begin_entry}
 use Rattle.green_top.specs.Transcript.{output_of, BeginsBefore, IsEnding, IsCalm, InTurn, Transcript}
 use Rattle.green_top.specs.Progress.{Answers, Progress}
-use Rattle.green_top.proofs.Places.{placed_goes_on}
+use Rattle.green_store.proofs.Places.{placed_goes_on}
 use Rattle.green_top.proofs.Serials.{own_behind, serials_go_on, serials_end}
 use Rattle.green_top.proofs.Turns.{turn_before, turn_push}
 
@@ -112,7 +112,7 @@ progress_goes_on limits h points answered output request after points' o p a =
       own = subst IsOwn (sym (flat_map_push adds p.exchanges e)) (own_append (flat_map adds p.exchanges) a.added p.own own);
       serials = serials_go_on limits h request a.reply a.added after p.serials a.legal own a.grows;
       in_turn = turn_push 1 after start p.exchanges e turns last;
-      placed = placed_goes_on limits h request a.reply a.added after p.placed a.legal a.grows;
+      placed = placed_goes_on limits 1 h request a.reply a.added after p.placed a.legal a.grows;
       rising = rw a.points_are (IsNonDecreasingBy-push (λ n. n) points (length after) p.rising (λ d filled. all_within (length points - 1) d (omega arith)));
       within = rw a.points_are (All-push (λ point. point ≤ length after) points (length after) all_within (omega arith));
       above = rw a.points_are (All-push (λ point. 2 ≤ point) points (length after) p.above two);
@@ -147,7 +147,7 @@ begun limits h points answered output p more = record {
 }
 
 pub transcript_of : (limits : LimitsView) (h : List PlainEntry) (points : List ℕ) (answered : List PlainRequest) (output : List ℕ) (more : List PlainEntry) → Progress limits h points answered output
-    → IsEnding 1 (length (entries_of 1 h)) more → entries_of 1 more ≡ more → Transcript limits 1 (h ++ more) answered points output
+    → IsEnding 1 (entries_of 1 h) more → entries_of 1 more ≡ more → Transcript limits 1 (h ++ more) answered points output
 transcript_of limits h points answered output more p ending own = record {
   exchanges = p.exchanges;
   requests_are = p.requests_are;

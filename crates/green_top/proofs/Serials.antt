@@ -58,9 +58,9 @@ pub serials_go_on : (limits : LimitsView) (h : List PlainEntry) (request : Plain
 serials_go_on limits h request reply added after s legal own grows =
     subst AreSerials (own_behind h added own ∙ ap (entries_of 1) (sym grows)) (by_legal limits h request reply added s legal)
 
-by_ending : (es more : List PlainEntry) → AreSerials es → IsEnding 1 (length es) more → GoOn es more
+by_ending : (es more : List PlainEntry) → AreSerials es → IsEnding 1 es more → GoOn es more
 by_ending es more s (inl e) = by_none es more s e
-by_ending es more s (inr e) = subst (GoOn es) (sym e) (push_serial es _ s refl)
+by_ending es more s (inr e) = subst (GoOn es) (sym e.1) (push_serial es _ s refl)
 
-pub serials_end : (h more : List PlainEntry) → AreSerials (entries_of 1 h) → IsEnding 1 (length (entries_of 1 h)) more → entries_of 1 more ≡ more → AreSerials (entries_of 1 (h ++ more))
+pub serials_end : (h more : List PlainEntry) → AreSerials (entries_of 1 h) → IsEnding 1 (entries_of 1 h) more → entries_of 1 more ≡ more → AreSerials (entries_of 1 (h ++ more))
 serials_end h more s ending own = subst AreSerials (own_behind h more own) (by_ending (entries_of 1 h) more s ending)

@@ -1,53 +1,57 @@
 -- What one call of the top does.
-use Rattle.std.specs.Prelude.{◌≡◌, ◌⊎◌, ◌==◌, ℕ, Bool, true, false, not, List, [], ◌∷◌, Option}
+use Rattle.std.specs.Prelude.{◌≡◌, ◌⊎◌, ℕ, List, []}
+use Rattle.febe_data.specs.LimitsView.{LimitsView}
 use Rattle.febe_data.specs.Plain.{plain_history}
 use Rattle.green_top.specs.declared.report.Report.{Report}
-use Rattle.green_top.specs.declared.status.Status.{Status}
-use Rattle.green_top.specs.declared.status.Status.TheVariants.{Done, Usage, Malformed, ReadFault, WriteFault, Memory, Budget}
+use Rattle.green_top.specs.declared.session_end.SessionEnd.{SessionEnd}
+use Rattle.green_top.specs.declared.session_end.SessionEnd.TheVariants as ends
+use Rattle.green_top.specs.Outside.{Outside}
 use Rattle.green_top.specs.Outcome.{IsRun}
+use Rattle.green_top.specs.Words.{AreWords, AreNoWords}
 
--- ---- words
+-- the status of a run whose session ended so
+abbrev pub status_of : SessionEnd → ℕ
+status_of ends.Quit = 0
+status_of ends.End = 0
+status_of (ends.Malformed at) = 3
+status_of (ends.Truncated at) = 4
+status_of ends.ReadFault = 5
+status_of ends.WriteFault = 6
+status_of ends.Memory = 9
+status_of ends.Budget = 10
+status_of ends.NoNumber = 11
 
--- a folder's word is not empty, and does not begin with a hyphen
-abbrev pub is_folder : List ℕ → Bool
-is_folder [] = false
-is_folder (first ∷ word) = not (first == 45)
+-- the offset in the input that a status names, or 0
+abbrev pub place_of : SessionEnd → ℕ
+place_of (ends.Malformed at) = at
+place_of (ends.Truncated at) = at
+place_of other = 0
 
--- the program's name, and one folder
-abbrev pub are_words : List (List ℕ) → Bool
-are_words (name ∷ folder ∷ []) = is_folder folder
-are_words other = false
+-- the words are no form of the program, and the status is 2; or they are, and it is 9: for want of memory
+abbrev pub WhyNothing : List (List ℕ) → ℕ → Type 0
+WhyNothing words status = (AreNoWords words × (status ≡ 2)) ⊎ (((limits : LimitsView) × AreWords words limits) × (status ≡ 9))
 
--- ---- what is reported
-
-abbrev pub status_number : Status → ℕ
-status_number Done = 0
-status_number Usage = 2
-status_number Malformed = 3
-status_number ReadFault = 5
-status_number WriteFault = 6
-status_number Memory = 9
-status_number Budget = 10
-
--- nothing was opened, read or written, and the status says why: the words are wrong, or there was no memory
-pub record NothingOpened (right : Bool) (left left' : Option (List ℕ)) (taken taken' : Option (List ℕ)) (report : Report) (status : Status) : Type 0 where
-  pub why : ((right ≡ false) × (status ≡ Usage)) ⊎ ((right ≡ true) × (status ≡ Memory))
-  pub nothing_read : left' ≡ left
-  pub nothing_written : taken' ≡ taken
+-- nothing was opened, read or written
+pub record NothingOpened (words : List (List ℕ)) (before after : Outside) (report : Report) (status : ℕ) : Type 0 where
+  pub why : WhyNothing words status
+  pub stays : after ≡ before
   pub history_is : report.history.items ≡ []
   pub opened_is : report.opened ≡ 0
   pub no_points : report.points.items ≡ []
   pub counted : report.bytes_read ≡ 0
-
--- a back end began with one entry, and the run came to this status
-pub record Opened (right : Bool) (left left' : Option (List ℕ)) (taken taken' : Option (List ℕ)) (source_before source_after sink_before sink_after : ℕ) (report : Report) (status : Status) : Type 0 where
-  pub words_right : right ≡ true
-  pub opened_is : report.opened ≡ 1
-  pub run : IsRun left left' taken taken' source_before source_after sink_before sink_after (plain_history report.history.items) report.points.items report.bytes_read status
-
--- A call from this source and sink to those left the report and answered the number.
-pub record IsBatch (words : List (List ℕ)) (left left' : Option (List ℕ)) (taken taken' : Option (List ℕ)) (source_before source_after sink_before sink_after : ℕ) (report : Report) (number : ℕ) : Type 0 where
-  pub status : Status
-  pub number_is : number ≡ status_number status
   pub no_place : report.place ≡ 0
-  pub stands : NothingOpened (are_words words) left left' taken taken' report status ⊎ Opened (are_words words) left left' taken taken' source_before source_after sink_before sink_after report status
+
+-- a back end began with one entry, under the limits of the words, and its session ended so
+pub record Opened (words : List (List ℕ)) (before after : Outside) (report : Report) (status : ℕ) : Type 0 where
+  pub limits : LimitsView
+  pub end : SessionEnd
+  pub words_are : AreWords words limits
+  pub status_is : status ≡ status_of end
+  pub place_is : report.place ≡ place_of end
+  pub opened_is : report.opened ≡ 1
+  pub run : IsRun limits before after (plain_history report.history.items) report.points.items report.bytes_read end
+
+-- A call from this source and sink to those left the report and answered the status.
+abbrev pub IsBatch : List (List ℕ) → Outside → Outside → Report → ℕ → Type 0
+IsBatch words before after report status =
+    NothingOpened words before after report status ⊎ Opened words before after report status

@@ -1,25 +1,23 @@
 -- How far a session has come.
-use Rattle.std.specs.Prelude.{false, true, take, ◌<◌, ◌≡◌, ◌⊎◌, ℕ, ◌≤◌, List, [], ◌∷◌, ◌++◌, length, map, All, Option}
+use Rattle.std.specs.Prelude.{◌≡◌, ◌⊎◌, ℕ, ◌≤◌, false, List, [], ◌∷◌, ◌++◌, length, map, All, Option}
 use Rattle.std.specs.List.{flat_map, AllByRecursion}
 use Rattle.std.specs.List.Sorted.{IsNonDecreasing}
 use Rattle.std.specs.Io.KnownBytes.{Appends}
 use Rattle.green_io.specs.Outside.{HasRisen}
-use Rattle.febe_data.specs.LimitsView.{LimitsView, standard_limits}
+use Rattle.febe_data.specs.LimitsView.{LimitsView}
 use Rattle.febe_data.specs.Plain.{PlainRequest, PlainReply, PlainEntry}
 use Rattle.febe_reply.specs.ReplyGrammar.{spell_reply}
-use Rattle.flat_world.specs.History.{entries_of, is_live, restart_entry}
+use Rattle.flat_world.specs.History.{entries_of, restart_entry}
 use Rattle.flat_world.specs.World.{empty_world}
 use Rattle.flat_world.specs.Laws.{AllPlaced}
 use Rattle.flat_world.specs.Legal.{IsLegal, Exchange, TookPlace}
-use Rattle.green_top.specs.Session.{begin_entry}
+use Rattle.green_store.specs.Sessions.{begin_entry}
+use Rattle.green_session.specs.declared.put.Put.{Put}
+use Rattle.green_session.specs.declared.put.Put.TheVariants.{Done, WriteFault, Memory}
 use Rattle.green_top.specs.Transcript.{IsFrontOf, output_of, IsCalm, AreSerials, InTurn}
-use Rattle.green_top.specs.declared.status.Status.{Status}
-use Rattle.green_top.specs.declared.status.Status.TheVariants as statuses
-use Rattle.green_top.specs.declared.exchange.Answered.{Answered}
-use Rattle.green_top.specs.declared.exchange.Answered.TheVariants.{Done, WriteFault, Memory}
 
--- One request was answered: a legal step made the history longer, the point is its new length, and the
--- output grew by the reply.
+-- One request was answered by a legal step from the history before it to the one after it: its point is the
+-- length of that, and the output is its reply.
 pub record Answers (limits : LimitsView) (before : List PlainEntry) (points : List ℕ) (request : PlainRequest) (after : List PlainEntry) (points' : List ℕ) (output : List ℕ) : Type 0 where
   pub reply : PlainReply
   pub added : List PlainEntry
@@ -29,13 +27,13 @@ pub record Answers (limits : LimitsView) (before : List PlainEntry) (points : Li
   pub output_is : output ≡ spell_reply reply
 
 -- what the sink took of a reply's bytes, by what came of it
-abbrev pub TookOf : Answered → List ℕ → List ℕ → ℕ → ℕ → Type 0
+abbrev pub TookOf : Put → List ℕ → List ℕ → ℕ → ℕ → Type 0
 TookOf Done output written before after = written ≡ output
 TookOf WriteFault output written before after = IsFrontOf written output × HasRisen before after
 TookOf Memory output written before after = written ≡ []
 
 -- the request was answered, and this came of its reply
-pub record Happened (limits : LimitsView) (before : List PlainEntry) (points : List ℕ) (request : PlainRequest) (after : List PlainEntry) (points' : List ℕ) (taken taken' : Option (List ℕ)) (faults faults' : ℕ) (result : Answered) : Type 0 where
+pub record Happened (limits : LimitsView) (before : List PlainEntry) (points : List ℕ) (request : PlainRequest) (after : List PlainEntry) (points' : List ℕ) (taken taken' : Option (List ℕ)) (faults faults' : ℕ) (result : Put) : Type 0 where
   pub output : List ℕ
   pub written : List ℕ
   pub answers : Answers limits before points request after points' output
@@ -44,14 +42,14 @@ pub record Happened (limits : LimitsView) (before : List PlainEntry) (points : L
   pub never_falls : faults ≤ faults'
 
 -- there was no memory, and all is as it was
-pub record Stayed (before : List PlainEntry) (points : List ℕ) (after : List PlainEntry) (points' : List ℕ) (taken taken' : Option (List ℕ)) (faults faults' : ℕ) (result : Answered) : Type 0 where
+pub record Stayed (before : List PlainEntry) (points : List ℕ) (after : List PlainEntry) (points' : List ℕ) (taken taken' : Option (List ℕ)) (faults faults' : ℕ) (result : Put) : Type 0 where
   pub memory : result ≡ Memory
   pub history_stays : after ≡ before
   pub points_stay : points' ≡ points
   pub sink_stays : taken' ≡ taken
   pub faults_stay : faults' ≡ faults
 
-abbrev pub IsAnswered : LimitsView → List PlainEntry → List ℕ → PlainRequest → List PlainEntry → List ℕ → Option (List ℕ) → Option (List ℕ) → ℕ → ℕ → Answered → Type 0
+abbrev pub IsAnswered : LimitsView → List PlainEntry → List ℕ → PlainRequest → List PlainEntry → List ℕ → Option (List ℕ) → Option (List ℕ) → ℕ → ℕ → Put → Type 0
 IsAnswered limits before points request after points' taken taken' faults faults' result =
     Happened limits before points request after points' taken taken' faults faults' result
     ⊎ Stayed before points after points' taken taken' faults faults' result
@@ -73,30 +71,3 @@ pub record Progress (limits : LimitsView) (history : List PlainEntry) (points : 
   pub rising : IsNonDecreasing points
   pub within : All (λ point. point ≤ length history) points
   pub above : All (λ point. 2 ≤ point) points
-
--- what came of answering requests: all of them, or the first ones
-abbrev pub CameOf : Status → List PlainRequest → List ℕ → List ℕ → ℕ → ℕ → Type 0
-CameOf statuses.Done rest output written before after = (rest ≡ []) × (written ≡ output)
-CameOf statuses.WriteFault rest output written before after = IsFrontOf written output × HasRisen before after
-CameOf statuses.Memory rest output written before after = IsFrontOf written output
-CameOf other rest output written before after = ⊥
-
--- the requests were answered up to some place, and this came of it
-pub record AllAnswered (all : List PlainRequest) (history : List PlainEntry) (points : List ℕ) (taken taken' : Option (List ℕ)) (faults faults' : ℕ) (status : Status) : Type 0 where
-  pub answered : List PlainRequest
-  pub rest : List PlainRequest
-  pub front : all ≡ answered ++ rest
-  pub output : List ℕ
-  pub written : List ℕ
-  pub progress : Progress standard_limits history points answered output
-  pub appended : Appends taken taken' written
-  pub never_falls : faults ≤ faults'
-  pub came : CameOf status rest output written faults faults'
-
--- the first i requests were answered, and all of their output written; the session is live while there are more
-pub record Going (all : List PlainRequest) (i : ℕ) (history : List PlainEntry) (points : List ℕ) (taken taken' : Option (List ℕ)) (faults faults' : ℕ) : Type 0 where
-  pub written : List ℕ
-  pub progress : Progress standard_limits history points (take i all) written
-  pub appended : Appends taken taken' written
-  pub never_falls : faults ≤ faults'
-  pub live : i < length all → is_live history 1 ≡ true

@@ -1,14 +1,14 @@
 -- What a session's requests, replies and points have to do with the history.
-use Rattle.std.specs.Prelude.{⊤, take, false, ◌≡◌, ◌⊎◌, ℕ, ◌+◌, ◌≤◌, List, [], ◌∷◌, ◌++◌, length, map, All, codes}
+use Rattle.std.specs.Prelude.{⊤, take, false, true, ◌≡◌, ◌⊎◌, ℕ, ◌+◌, ◌≤◌, List, [], ◌∷◌, ◌++◌, length, map, All, codes}
 use Rattle.std.specs.List.{flat_map, AllByRecursion}
 use Rattle.std.specs.List.Sorted.{IsNonDecreasing}
 use Rattle.febe_data.specs.LimitsView.{LimitsView}
 use Rattle.febe_data.specs.Plain.{PlainRequest, PlainEntry, ended}
 use Rattle.febe_reply.specs.ReplyGrammar.{spell_reply}
-use Rattle.flat_world.specs.History.{entries_of}
+use Rattle.flat_world.specs.History.{entries_of, is_live}
 use Rattle.flat_world.specs.Legal.{Exchange, TookPlace}
 use Rattle.flat_world.specs.Laws.{numbers_from}
-use Rattle.green_top.specs.Session.{begin_entry}
+use Rattle.green_store.specs.Sessions.{begin_entry}
 
 -- the front is what the whole begins with
 abbrev pub IsFrontOf : List ℕ → List ℕ → Type 0
@@ -29,9 +29,9 @@ pub record BeginsBefore (session : ℕ) (history : List PlainEntry) (points : Li
   pub parts : history ≡ before ++ begin_entry session ∷ more
   pub above : All (λ point. length before + 1 ≤ point) points
 
--- nothing, or the session's End after this many of its entries
-abbrev pub IsEnding : ℕ → ℕ → List PlainEntry → Type 0
-IsEnding session count ending = (ending ≡ []) ⊎ (ending ≡ record { session = session; serial = count + 1; change = ended } ∷ [])
+-- nothing; or, where the session's own entries leave it live, its End behind them
+abbrev pub IsEnding : ℕ → List PlainEntry → List PlainEntry → Type 0
+IsEnding session own ending = (ending ≡ []) ⊎ ((is_live own session ≡ true) × (ending ≡ record { session = session; serial = length own + 1; change = ended } ∷ []))
 
 -- the serial of each entry is its place among these, from 1
 abbrev pub AreSerials : List PlainEntry → Type 0
@@ -44,13 +44,13 @@ InTurn session history own [] = ⊤
 InTurn session history own (exchange ∷ exchanges) =
     (entries_of session (take exchange.point history) ≡ own ++ exchange.added) × InTurn session history (own ++ exchange.added) exchanges
 
--- The session's entries are its Begin, then what each exchange added, in their order, then at most one
--- End, which is last. Their serials count them, so none of them is another one's copy.
+-- The session's entries are its Begin, then what each exchange added, in their order, then an End where none
+-- of these was one. Their serials count them, so none of them is another one's copy.
 pub record EntriesAre (session : ℕ) (history : List PlainEntry) (exchanges : List Exchange) : Type 0 where
   pub own : List PlainEntry
   pub ending : List PlainEntry
   pub own_are : own ≡ begin_entry session ∷ flat_map (λ (e : Exchange). e.added) exchanges
-  pub is_ending : IsEnding session (length own) ending
+  pub is_ending : IsEnding session own ending
   pub parts : entries_of session history ≡ own ++ ending
   pub serials : AreSerials (entries_of session history)
   pub in_turn : InTurn session history (begin_entry session ∷ []) exchanges

@@ -3,12 +3,13 @@
 
 mod batch;
 mod exchange;
-mod input;
-mod outside;
+pub mod laws;
 mod report;
-mod status;
-mod store;
+mod session;
+mod session_end;
+mod words;
 
 pub use batch::run_batch;
-pub use outside::MOST_INPUT;
 pub use report::Report;
+pub use session::MOST_INPUT;
+pub use session_end::SessionEnd;

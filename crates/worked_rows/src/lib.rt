@@ -1,5 +1,21 @@
-//! Whole runs over a source and a sink that lie in memory.
+//! Whole runs over a source and a sink that lie in memory, steps of a store, and tables of requests over each.
 #![tactic(auto)]
 
 #[cfg(test)]
+mod batch_rows;
+#[cfg(test)]
+mod bounds;
+#[cfg(test)]
+mod faults;
+#[cfg(test)]
+mod flat_rows;
+#[cfg(test)]
 mod rows;
+#[cfg(test)]
+mod runs;
+#[cfg(test)]
+mod sessions;
+#[cfg(test)]
+mod store_rows;
+#[cfg(test)]
+mod tables;

@@ -1,6 +1,6 @@
 use Rattle.flat_world.proofs.Found.{showing_yes, showing_no}
 use Rattle.flat_world.proofs.finding.documents_showing.Goals as goal
-use Rattle.flat_world.proofs.finding.documents_showing.Goals.{then-contains+in_ok-insert, else-contains}
+use Rattle.flat_world.proofs.finding.documents_showing.Goals.{then-has_address+in_ok-insert, else-has_address}
 
 pub loop-row-preserved : goal.loop-row-preserved
 loop-row-preserved c =
@@ -9,8 +9,8 @@ loop-row-preserved c =
     let i = c.loop-row.row-index in
     let row = c.row-item.result in
     let old = c.loop-row.shown in
-    elim c.if-contains.branch [
-      | then-contains+in_ok-insert w ↦
-          rw w.shown-is (showing_yes addresses rows i row w.copy.result c.contains.result old w.insert.new.self c.loop-row-test.true c.row-item.is w.copy.ensures c.contains.ensures w.if-contains.true c.loop-row.invariant w.in_ok-insert.ensures.updates)
-      | else-contains w ↦ rw w.shown-is (showing_no addresses rows i row c.contains.result old c.loop-row-test.true c.row-item.is c.contains.ensures w.if-contains.false c.loop-row.invariant)
+    elim c.if-has_address.branch [
+      | then-has_address+in_ok-insert w ↦
+          rw w.shown-is (showing_yes addresses rows i row w.copy.result c.has_address.result old w.insert.new.self c.loop-row-test.true c.row-item.is w.copy.ensures c.has_address.ensures w.if-has_address.true c.loop-row.invariant w.in_ok-insert.ensures.updates)
+      | else-has_address w ↦ rw w.shown-is (showing_no addresses rows i row c.has_address.result old c.loop-row-test.true c.row-item.is c.has_address.ensures w.if-has_address.false c.loop-row.invariant)
     ]

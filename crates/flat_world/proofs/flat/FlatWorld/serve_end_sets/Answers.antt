@@ -1,7 +1,8 @@
 use Rattle.std.proofs.Common.{◌≡◌, ◌∙◌, false, length, map, sym}
 use Rattle.febe_data.specs.Plain.{plain_spec}
 use Rattle.flat_world.specs.declared.ends.End.TheVariants.{From, To, Three}
-use Rattle.flat_world.specs.Refusals.{spans_in, is_too_long}
+use Rattle.febe_data.specs.Validity.{spans_in_all}
+use Rattle.flat_world.specs.Refusals.{is_too_long}
 use Rattle.flat_world.proofs.Endings.{end_set_valid}
 use Rattle.flat_world.proofs.flat.FlatWorld.serve_end_sets.Goals as goal
 
@@ -10,9 +11,9 @@ returns-clause-valid c =
     let world = c.args.self.now.world in
     let specs = c.args.specs.now in
     let few : is_too_long (length specs) ≡ false = sym c.is_too_long.ensures ∙ c.if-is_too_long.false in
-    let from : is_too_long (spans_in (map plain_spec c.in_ok-from.from.items)) ≡ false = rw (← c.as_slice.ensures, ← c.has_too_many_spans.ensures) c.if-has_too_many_spans.false in
-    let to : is_too_long (spans_in (map plain_spec c.in_ok-to.to.items)) ≡ false = rw (← c.as_slice-2.ensures, ← c.has_too_many_spans-2.ensures) c.if-has_too_many_spans-2.false in
-    let three : is_too_long (spans_in (map plain_spec c.in_ok-three.three.items)) ≡ false = rw (← c.as_slice-3.ensures, ← c.has_too_many_spans-3.ensures) c.if-has_too_many_spans-3.false in (
+    let from : is_too_long (spans_in_all (map plain_spec c.in_ok-from.from.items)) ≡ false = rw (← c.as_slice.ensures, ← c.has_too_many_spans.ensures) c.if-has_too_many_spans.false in
+    let to : is_too_long (spans_in_all (map plain_spec c.in_ok-to.to.items)) ≡ false = rw (← c.as_slice-2.ensures, ← c.has_too_many_spans-2.ensures) c.if-has_too_many_spans-2.false in
+    let three : is_too_long (spans_in_all (map plain_spec c.in_ok-three.three.items)) ≡ false = rw (← c.as_slice-3.ensures, ← c.has_too_many_spans-3.ensures) c.if-has_too_many_spans-3.false in (
       end_set_valid world From specs c.in_ok-from.from.items c.in_ok-from.ensures.value c.in_ok-from.ensures.valid few from,
       (
         end_set_valid world To specs c.in_ok-to.to.items c.in_ok-to.ensures.value c.in_ok-to.ensures.valid few to,

@@ -1,4 +1,4 @@
-use Rattle.std.proofs.Common.{◌≡◌, ℕ, ◌+◌, ◌≤◌, ◌^◌, ◌<◌, ◌∙◌, true, List, [], ◌∷◌, ◌++◌, ap, arith, length}
+use Rattle.std.proofs.Common.{◌≡◌, ◌+◌, ◌≤◌, ◌^◌, ◌<◌, ◌∙◌, true, List, [], ◌∷◌, ◌++◌, ap, arith}
 use Rattle.febe_data.specs.Plain.{PlainEntry, plain_history, ended}
 use Rattle.flat_world.specs.FlatView.{entries_in, after_entry}
 use Rattle.flat_world.specs.History.{is_live}

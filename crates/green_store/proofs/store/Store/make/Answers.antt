@@ -1,4 +1,4 @@
-use Rattle.std.proofs.Common.{◌≡◌, ℕ, ◌+◌, ◌≤◌, ◌∙◌, true, List, [], ◌∷◌, ◌++◌, ap, refl, arith, length, rules}
+use Rattle.std.proofs.Common.{◌≡◌, ◌≤◌, ◌∙◌, true, List, [], ◌∷◌, ◌++◌, ap, refl, length, rules}
 use Rattle.febe_data.specs.Plain.{PlainEntry, plain_history, plain_change}
 use Rattle.flat_world.specs.FlatView.{after_entry}
 use Rattle.flat_world.specs.History.{is_live}

@@ -1,8 +1,6 @@
 use Rattle.std.proofs.Common.{◌≡◌, ◌∙◌, ap}
-use Rattle.febe_data.specs.LimitsView.{LimitsView}
 use Rattle.febe_data.specs.Plain.{plain_request}
-use Rattle.flat_world.specs.FlatView.{FlatView, view_of}
-use Rattle.flat_world.specs.Served.{IsServedAs}
+use Rattle.flat_world.specs.FlatView.{view_of}
 use Rattle.green_store.specs.StoreView.{StoreView}
 use Rattle.green_store.proofs.Legals.{refused_here, answered_here, changed_here}
 use Rattle.green_store.proofs.store.Store.serve.Goals as goal

@@ -1,0 +1,9 @@
+use Rattle.std.proofs.Common.{◌&&◌, take}
+use Rattle.std.specs.Prelude.{filter}
+use Rattle.flat_world.specs.World.{is_text_of}
+use Rattle.flat_world.specs.Picking.{is_within, addresses_of}
+use Rattle.flat_world.specs.ByteIndex.{WantsMore}
+use Rattle.flat_world.proofs.byte_index.want_rows.Given as goal
+
+abbrev pub invariant-loop-row : goal.invariant-loop-row
+invariant-loop-row l = WantsMore (addresses_of (filter (λ row. is_text_of l.document row && is_within l.start l.end row) (take l.row-index l.rows))) l.initial.index l.index

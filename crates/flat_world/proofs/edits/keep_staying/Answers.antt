@@ -1,0 +1,8 @@
+use Rattle.std.proofs.Common.{rules, not}
+use Rattle.std.proofs.lemmas.Fn.{filter_same}
+use Rattle.flat_world.specs.declared.rows.Row.{Row}
+use Rattle.flat_world.specs.Edits.{moves_up}
+use Rattle.flat_world.proofs.edits.keep_staying.Goals as goal
+
+pub returns-clause-rows : goal.returns-clause-rows
+returns-clause-rows c = filter_same _ (λ (r : Row). not (moves_up c.args.document.now c.args.n r)) _ (λ x b f k. search rules) _ _ c.retain.ensures.filtered

@@ -1,0 +1,8 @@
+use Rattle.std.proofs.Common.{take, map}
+use Rattle.febe_data.specs.Plain.{plain_spec}
+use Rattle.flat_world.specs.Picking.{picked_addresses}
+use Rattle.flat_world.specs.ByteIndex.{WantsMore}
+use Rattle.flat_world.proofs.flat.FlatWorld.byte_index.Given as goal
+
+abbrev pub invariant-loop-spec : goal.invariant-loop-spec
+invariant-loop-spec l = WantsMore (picked_addresses l.self.world (map plain_spec (take l.spec-index l.specs))) l.initial.index l.index

@@ -1,0 +1,114 @@
+//! One session from a source to a sink.
+ghost use Rattle.std.specs.Prelude.{◌≡◌, ◌∷◌, []};
+ghost use Rattle.febe_data.specs.Plain.{plain_history};
+ghost use Rattle.flat_world.specs.History.{restart_entry};
+ghost use Rattle.green_top.specs.Outside.{outside};
+ghost use Rattle.green_top.specs.Outcome.{IsRun};
+ghost use Rattle.green_top.specs.Conversation.{stand, IsGreeted, HasBegun, IsConversed, IsSession};
+
+use crate::exchange::{FIRST_SESSION, answer_next, take_next};
+use crate::report::Report;
+use crate::session_end::SessionEnd;
+use febe_data::List;
+use febe_feed::Feed;
+use green_io::{Sink, Source};
+use green_session::{Put, Turns, put_bytes};
+use green_store::{Step, StepAnswer, Store};
+use std::alloc::Global;
+
+/// Once a session has given so many bytes, no more are read.
+pub const MOST_INPUT: u64 = 1_099_511_627_776;
+
+/// Greets the session, and answers its requests as they come, up to a quit or what else ends it.
+fn converse<S: Source, K: Sink>(
+    alloc: Global,
+    store: &mut Store,
+    source: &mut S,
+    sink: &mut K,
+    feed: &mut Feed,
+    turns: &mut Turns,
+    points: &mut List<u64>,
+) -> SessionEnd
+    requires begun { HasBegun (stand store.old.history points.old.items feed.old turns.old (outside (S.left source.old) (S.fault_count source.old) (K.taken sink.old) (K.fault_count sink.old))) }
+    ensures conversed { IsConversed store.old.limits
+        (stand store.old.history points.old.items feed.old turns.old (outside (S.left source.old) (S.fault_count source.old) (K.taken sink.old) (K.fault_count sink.old)))
+        (stand store.new.history points.new.items feed.new turns.new (outside (S.left source.new) (S.fault_count source.new) (K.taken sink.new) (K.fault_count sink.new))) result }
+    ensures limits { store.new.limits ≡ store.old.limits }
+{
+    match put_bytes(sink, b"P0~") {
+        Put::Done => {}
+        Put::WriteFault => return SessionEnd::WriteFault,
+        Put::Memory => unreachable!(),
+    }
+    loop {
+        let end = answer_next(alloc, store, source, sink, feed, turns, points);
+        if let Some(end) = end {
+            return end;
+        }
+    }
+}
+
+/// Begins a session that has sent its greeting, and ends it whatever came of it.
+fn hold<S: Source, K: Sink>(
+    alloc: Global,
+    store: &mut Store,
+    source: &mut S,
+    sink: &mut K,
+    feed: &mut Feed,
+    turns: &mut Turns,
+    points: &mut List<u64>,
+) -> SessionEnd
+    requires fresh { store.old.history ≡ restart_entry ∷ [] }
+    requires no_points { points.old.items ≡ [] }
+    requires greeted { IsGreeted (stand store.old.history points.old.items feed.old turns.old (outside (S.left source.old) (S.fault_count source.old) (K.taken sink.old) (K.fault_count sink.old))) }
+    ensures session { IsSession store.old.limits
+        (stand store.old.history points.old.items feed.old turns.old (outside (S.left source.old) (S.fault_count source.old) (K.taken sink.old) (K.fault_count sink.old)))
+        (stand store.new.history points.new.items feed.new turns.new (outside (S.left source.new) (S.fault_count source.new) (K.taken sink.new) (K.fault_count sink.new))) result }
+{
+    match store.step(alloc, Step::Begin) {
+        StepAnswer::Begun { .. } => {}
+        StepAnswer::NoNumber => return SessionEnd::NoNumber,
+        StepAnswer::Memory => return SessionEnd::Memory,
+        _ => unreachable!(),
+    }
+    let end = converse(alloc, store, source, sink, feed, turns, points);
+    // After a quit the session is not live, and nothing is left to be done.
+    let _ = store.step(
+        alloc,
+        Step::End {
+            session: FIRST_SESSION,
+        },
+    );
+    end
+}
+
+/// Serves one session over a store that has just begun.
+pub(crate) fn serve<S: Source, K: Sink>(
+    alloc: Global,
+    store: &mut Store,
+    source: &mut S,
+    sink: &mut K,
+    report: &mut Report,
+) -> SessionEnd
+    requires fresh { store.old.history ≡ restart_entry ∷ [] }
+    requires no_points { report.old.points.items ≡ [] }
+    ensures run { IsRun store.old.limits
+        (outside (S.left source.old) (S.fault_count source.old) (K.taken sink.old) (K.fault_count sink.old))
+        (outside (S.left source.new) (S.fault_count source.new) (K.taken sink.new) (K.fault_count sink.new))
+        store.new.history report.new.points.items report.new.bytes_read result }
+{
+    let mut feed = Feed::new(alloc);
+    let mut turns = Turns::new(MOST_INPUT);
+    match take_next(alloc, source, &mut feed, &mut turns) {
+        Ok(None) => {}
+        Ok(Some(_)) => unreachable!(),
+        Err(end) => {
+            report.bytes_read = turns.taken();
+            return end;
+        }
+    }
+    let points = &mut report.points;
+    let end = hold(alloc, store, source, sink, &mut feed, &mut turns, points);
+    report.bytes_read = turns.taken();
+    end
+}

@@ -1,0 +1,213 @@
+//! Steps of one store beside what they are answered.
+
+use crate::sessions::{bytes_of, request_of};
+use crate::tables::{Row, Step as Line, TWO_WRITERS};
+use febe_data::{Limits, Memory, Request};
+use febe_reply::write_reply;
+use green_store::{Step, StepAnswer, Store};
+use std::alloc::Global;
+use std::process::Abort;
+use std::test::Fail;
+use tumbler::Text;
+
+/// A store with the limits of a back end that names none.
+fn fresh(alloc: Global) -> Result<Store, Fail> {
+    let limits = Limits::new(4_194_304, 1_073_741_824, 256)?;
+    Ok(Store::fresh(alloc, limits)?)
+}
+
+/// Begins a session, and gives its number.
+fn begin(alloc: Global, store: &mut Store) -> Option<u64> {
+    match store.step(alloc, Step::Begin) {
+        StepAnswer::Begun { session } => Some(session),
+        _ => None,
+    }
+}
+
+/// The bytes of the reply to a session's request; no bytes where the session is not live.
+fn ask(alloc: Global, store: &mut Store, session: u64, request: Request) -> Result<Text, Memory> {
+    let StepAnswer::Reply { reply, .. } = store.step(alloc, Step::Ask { session, request }) else {
+        return Ok(Text::new(alloc));
+    };
+    write_reply(alloc, &reply)
+}
+
+/// Whether a live session has ended.
+fn end(alloc: Global, store: &mut Store, session: u64) -> bool {
+    match store.step(alloc, Step::End { session }) {
+        StepAnswer::Ended => true,
+        _ => false,
+    }
+}
+
+/// Makes one request, and compares its reply; where none is wanted the session is not live.
+fn check_request(
+    rt: &impl Abort,
+    alloc: Global,
+    store: &mut Store,
+    session: u64,
+    request: &str,
+    wanted: &str,
+) -> Result<(), Fail> {
+    let bytes = bytes_of(alloc, request)?;
+    let asked = request_of(alloc, bytes.as_slice())?.ok_or("no request")?;
+    let told = ask(alloc, store, session, asked)?;
+    assert_eq!(rt;
+        told.as_slice(),
+        bytes_of(alloc, wanted)?.as_slice(),
+        "at {session} {request}"
+    );
+    Ok(())
+}
+
+/// Makes the line's requests, one after the other.
+fn check_line(rt: &impl Abort, alloc: Global, store: &mut Store, line: &Line) -> Result<(), Fail> {
+    let (session, requests, replies) = *line;
+    let mut wanted = replies.split(' ');
+    for request in requests.split(' ') {
+        let reply = wanted.next().ok_or("no reply")?;
+        check_request(rt, alloc, store, session, request, reply)?;
+    }
+    Ok(())
+}
+
+/// Makes the row's steps on a store of two sessions.
+fn play(rt: &impl Abort, alloc: Global, store: &mut Store, row: Row) -> Result<(), Fail> {
+    assert_eq!(rt; begin(alloc, store), Some(1));
+    assert_eq!(rt; begin(alloc, store), Some(2));
+    for line in row {
+        check_line(rt, alloc, store, line)?;
+    }
+    Ok(())
+}
+
+fn check_row(rt: &impl Abort, alloc: Global, row: Row) -> Result<(), Fail> {
+    let mut store = fresh(alloc)?;
+    play(rt, alloc, &mut store, row)
+}
+
+#[test]
+fn documents_pass_between_sessions(rt: HostRuntime) -> Result<(), Fail> {
+    for row in TWO_WRITERS {
+        check_row(&rt, rt.alloc(), *row)?;
+    }
+    Ok(())
+}
+
+/// A session's request and its reply; or `begin`, or `end`. The reply is empty where the session is not live.
+type Turn = (u64, &'static str, &'static str);
+
+/// Three sessions that take turns, in 60 steps: two documents that quote each other, links, versions and handing over.
+const TURNS: &[Turn] = &[
+    (1, "begin", ""),
+    (2, "begin", ""),
+    (1, "34~0.1.1.0.1~", "34~"),
+    (3, "begin", ""),
+    (2, "34~0.1.1.0.2~", "34~"),
+    (1, "11~", "11~A~"),
+    (2, "11~", "11~0.1.1.0.2.0.1~"),
+    (3, "11~", "?1~"),
+    (1, "0~A~0.1.1~t6:abcdef", "0~"),
+    (2, "0~0.1.1.0.2.0.1~0.1.1~t3:xyz", "0~"),
+    (3, "35~A~1~1~", "35~A~"),
+    (2, "35~A~1~1~", "35~A~"),
+    (3, "5~1~A~1~0.1.1~1.9~", "5~1~t6:abcdef"),
+    (2, "2~0.1.1.0.2.0.1~0.1.4~1~A~1~0.1.2~1.3~", "2~"),
+    (2, "5~1~0.1.1.0.2.0.1~1~0.1.1~1.9~", "5~1~t6:xyzbcd"),
+    (3, "22~1~A~1~0.1.1~1.6~", "22~2~A~0.1.1.0.2.0.1~"),
+    (1, "12~A~0.1.1~1.2~", "12~"),
+    (3, "5~1~A~1~0.1.1~1.9~", "5~1~t4:cdef"),
+    (
+        2,
+        "10~A~1~0.1.1~1.9~0.1.1.0.2.0.1~1~0.1.1~1.9~",
+        "10~1~0.1.1~0.1.5~2~",
+    ),
+    (1, "35~0.1.1.0.2.0.1~1~1~", "35~0.1.1.0.2.0.1~"),
+    (
+        1,
+        "27~A~1~A~1~0.1.1~1.2~1~0.1.1.0.2.0.1~1~0.1.1~1.3~0~",
+        "27~0.1.1.0.1.0.1.0.2.1~",
+    ),
+    (3, "18~0.1.1.0.1.0.1.0.2.1~1~", "18~1~A~1~0.1.1~1.2~"),
+    (
+        2,
+        "18~0.1.1.0.1.0.1.0.2.1~2~",
+        "18~1~0.1.1.0.2.0.1~1~0.1.1~1.3~",
+    ),
+    (3, "18~0.1.1.0.1.0.1.0.2.1~3~", "18~0~"),
+    (
+        2,
+        "30~0~1~0.1.1.0.2.0.1~1~0.1.4~1.3~0~0~",
+        "30~1~0.1.1.0.1.0.1.0.2.1~",
+    ),
+    (1, "1~A~", "1~2~0.1.1~1.4~0.2.1~1.1~"),
+    (3, "13~A~", "?1~"),
+    (3, "34~0.1.1.0.3~", "34~"),
+    (3, "13~A~", "13~0.1.1.0.3.0.1~"),
+    (
+        3,
+        "5~1~0.1.1.0.3.0.1~1~0.1.1~0.2~",
+        "5~2~t4:cdef0.1.1.0.1.0.1.0.2.1~",
+    ),
+    (2, "end", ""),
+    (2, "5~1~0.1.1.0.2.0.1~1~0.1.1~1.9~", ""),
+    (1, "35~0.1.1.0.2.0.1~2~2~", "35~0.1.1.0.1.0.2~"),
+    (1, "5~1~0.1.1.0.1.0.2~1~0.1.1~1.9~", "5~1~t6:xyzbcd"),
+    (3, "35~0.1.1.0.2.0.1~2~1~", "?5~"),
+    (3, "34~0.1.1.0.2~", "34~"),
+    (3, "35~0.1.1.0.2.0.1~2~1~", "35~0.1.1.0.2.0.1~"),
+    (1, "34~0.1.1.0.2~", "34~"),
+    (1, "35~0.1.1.0.2.0.1~2~1~", "?6~"),
+    (1, "35~0.1.1.0.2.0.1~2~2~", "35~0.1.1.0.2.0.1.1~"),
+    (3, "3~0.1.1.0.2.0.1~3~0.1.1~0.1.4~0.1.7~", "3~"),
+    (1, "5~1~0.1.1.0.2.0.1~1~0.1.1~1.9~", "5~1~t6:bcdxyz"),
+    (1, "5~1~0.1.1.0.2.0.1.1~1~0.1.1~1.9~", "5~1~t6:xyzbcd"),
+    (1, "0~0.1.1.0.2.0.1~0.1.1~t1:!", "?4~"),
+    (3, "0~0.1.1.0.2.0.1~0.1.7~t1:!", "0~"),
+    (1, "14~0.1.1.0.2.0.1~", "14~0.1.1~1.7~"),
+    (3, "36~A~", "36~"),
+    (3, "5~1~A~1~0.1.1~1.1~", "?3~"),
+    (1, "29~0~1~A~1~0.1.1~1.1~0~0~", "29~1~"),
+    (1, "28~1~A~1~0.1.1~1.4~", "28~1~A~1~0.1.1~1.2~1~A~0~1~A~0~"),
+    (1, "12~A~0.2.1~1.1~", "12~"),
+    (1, "1~A~", "1~1~0.1.1~1.4~"),
+    (3, "18~0.1.1.0.1.0.1.0.2.1~1~", "18~1~A~1~0.1.1~1.2~"),
+    (3, "31~0~0~0~0~0.1~5~", "31~1~0.1.1.0.1.0.1.0.2.1~"),
+    (1, "16~", "16~"),
+    (1, "11~", ""),
+    (3, "35~0.1.1.0.1.0.2~1~1~", "35~0.1.1.0.1.0.2~"),
+    (3, "5~1~0.1.1.0.1.0.2~1~0.1.4~1.3~", "5~1~t3:bcd"),
+    (3, "16~", "16~"),
+    (3, "11~", ""),
+];
+
+/// Makes one turn.
+fn check_turn(rt: &impl Abort, alloc: Global, store: &mut Store, turn: &Turn) -> Result<(), Fail> {
+    let (session, asked, wanted) = *turn;
+    if asked == "begin" {
+        assert_eq!(rt; begin(alloc, store), Some(session));
+        return Ok(());
+    }
+    if asked == "end" {
+        assert!(rt; end(alloc, store, session), "at {session}");
+        return Ok(());
+    }
+    check_request(rt, alloc, store, session, asked, wanted)
+}
+
+fn check_turns(rt: &impl Abort, alloc: Global, store: &mut Store) -> Result<(), Fail> {
+    for turn in TURNS {
+        check_turn(rt, alloc, store, turn)?;
+    }
+    Ok(())
+}
+
+#[test]
+fn three_sessions_take_turns(rt: HostRuntime) -> Result<(), Fail> {
+    let alloc = rt.alloc();
+    assert_eq!(rt; TURNS.len(), 60);
+    let mut store = fresh(alloc)?;
+    check_turns(&rt, alloc, &mut store)?;
+    assert_eq!(rt; store.history().len(), 31);
+    Ok(())
+}
