@@ -8,7 +8,6 @@ use Rattle.flat_world.specs.World.{World, LinkRow, is_same}
 use Rattle.flat_world.specs.Picking.{runs_of}
 use Rattle.flat_world.specs.Finding.{is_home_wanted}
 use Rattle.febe_data.specs.declared.refusal.Refusal.{Refusal}
-pub use Rattle.flat_world.specs.Refusals.{lacks_document_of, lacks_opening_of, has_bad_span_in}
 use Rattle.flat_world.specs.Refusals.{first_holding, finding}
 
 -- some byte is in both runs

@@ -9,8 +9,8 @@ ghost use Rattle.flat_world.specs.Served.{IsServedAs, IsValidServed};
 ghost use Rattle.flat_world.specs.World.{ascending};
 ghost use Rattle.flat_world.specs.Sets.{is_in_set, IsSetOf, IsSetShowing};
 ghost use Rattle.flat_world.specs.PlainLink.{plain_link};
-ghost use Rattle.flat_world.specs.Meeting.{shares_byte, share_bytes, is_end_met, is_met, IsSought, IsLooked, lacks_document_of, lacks_opening_of, has_bad_span_in};
-ghost use Rattle.flat_world.specs.Refusals.{is_bad_span, is_too_long};
+ghost use Rattle.flat_world.specs.Meeting.{shares_byte, share_bytes, is_end_met, is_met, IsSought, IsLooked};
+ghost use Rattle.flat_world.specs.Refusals.{is_bad_span, is_too_long, lacks_document_of, lacks_opening_of, has_bad_span_in};
 ghost use Rattle.flat_world.specs.Finding.{documents_found, holds, is_home_wanted, links_found, ids_found, ids_after};
 
 use crate::flat::FlatWorld;

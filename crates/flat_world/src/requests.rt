@@ -1,5 +1,5 @@
 //! Requests as they come: what each is refused for, changes, or is answered.
-ghost use Rattle.std.specs.Prelude.{◌≡◌, ◌+◌, IsOk, IfOk};
+ghost use Rattle.std.specs.Prelude.{◌≡◌, ◌+◌, None, IsOk, IfOk};
 ghost use Rattle.std.specs.Option.{option_map};
 ghost use Rattle.febe_data.specs.Plain.{plain_request, plain_reply, plain_entry};
 ghost use Rattle.febe_data.specs.Validity.{IsReply};
@@ -43,7 +43,6 @@ impl FlatWorld {
             Request::Insert { document, at, text } => {
                 self.serve_insert(alloc, session, document, at, text.as_slice(), limits)
             }
-            Request::SpanSet { document } => self.serve_span_set(alloc, session, document, limits),
             Request::Copy {
                 document,
                 at,
@@ -52,28 +51,15 @@ impl FlatWorld {
             Request::Rearrange { document, cuts } => {
                 self.serve_rearrange(alloc, session, document, cuts.as_slice(), limits)
             }
-            Request::Retrieve { specs } => {
-                self.serve_retrieve(alloc, session, specs.as_slice(), limits)
-            }
-            Request::Relate { left, right } => {
-                self.serve_relate(alloc, session, left, right, limits)
-            }
             Request::Create => self.serve_create(session, limits),
             Request::Delete { document, span } => {
                 Ok(self.serve_delete(session, document, span, limits))
             }
             Request::Version { document } => self.serve_version(session, document, limits),
-            Request::WholeSpan { document } => {
-                self.serve_whole_span(alloc, session, document, limits)
-            }
             Request::Quit => Ok(Served::Changed(Effect {
                 change: Change::End,
                 reply: Reply::Quit,
             })),
-            Request::Follow { link, end } => self.serve_follow(alloc, session, link, *end, limits),
-            Request::FindDocuments { specs } => {
-                self.serve_find_documents(alloc, session, specs.as_slice(), limits)
-            }
             Request::CreateLink {
                 home,
                 from,
@@ -88,6 +74,44 @@ impl FlatWorld {
                 three.as_slice(),
                 limits,
             ),
+            Request::Account { account } => Ok(self.serve_account(session, account, limits)),
+            Request::Open {
+                document,
+                mode,
+                rule,
+            } => self.serve_open(session, document, *mode, *rule, limits),
+            Request::Close { document } => Ok(self.serve_close(session, document, limits)),
+            query => self.serve_query(alloc, session, query, limits),
+        }
+    }
+
+    /// What comes of a request that changes nothing.
+    fn serve_query(
+        &self,
+        alloc: Global,
+        session: u64,
+        request: &Request,
+        limits: &Limits,
+    ) -> Result<Served, Memory>
+        requires query { effect self.now.world session (plain_request request.now) ≡ None }
+        ensures served { IfOk result (IsServedAs limits.now self.now session (plain_request request.now)) }
+        ensures valid { IfOk result IsValidServed }
+    {
+        match request {
+            Request::SpanSet { document } => self.serve_span_set(alloc, session, document, limits),
+            Request::WholeSpan { document } => {
+                self.serve_whole_span(alloc, session, document, limits)
+            }
+            Request::Retrieve { specs } => {
+                self.serve_retrieve(alloc, session, specs.as_slice(), limits)
+            }
+            Request::Relate { left, right } => {
+                self.serve_relate(alloc, session, left, right, limits)
+            }
+            Request::Follow { link, end } => self.serve_follow(alloc, session, link, *end, limits),
+            Request::FindDocuments { specs } => {
+                self.serve_find_documents(alloc, session, specs.as_slice(), limits)
+            }
             Request::EndSets { specs } => {
                 self.serve_end_sets(alloc, session, specs.as_slice(), limits)
             }
@@ -96,13 +120,7 @@ impl FlatWorld {
             Request::NextLinks { want, after, limit } => {
                 self.serve_next_links(alloc, session, want, after, *limit, limits)
             }
-            Request::Account { account } => Ok(self.serve_account(session, account, limits)),
-            Request::Open {
-                document,
-                mode,
-                rule,
-            } => self.serve_open(session, document, *mode, *rule, limits),
-            Request::Close { document } => Ok(self.serve_close(session, document, limits)),
+            _ => unreachable!(),
         }
     }
 

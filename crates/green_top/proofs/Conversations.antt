@@ -217,7 +217,7 @@ module _ (limits : LimitsView) (start now after : Stand) (c : IsConversing limit
       read = c.read ++ a.read;
       written = c.written ++ h.output;
       requests = c.requests ++ request ∷ [];
-      moves = taking a.read a.takes h.output (subst (λ (w : List ℕ). Appends now.outside.taken after.outside.taken w) h.took h.appended) h.never_falls;
+      moves = taking a.read a.takes h.output (subst (λ (w : List ℕ). Appends now.outside.taken after.outside.taken w) h.put.put h.put.appended) h.put.never_falls;
       given = given_one request puts.Done a;
       greeted = still_greeted request puts.Done a;
       no_quits = push_no_quit c.requests request c.no_quits no_quit;
@@ -236,7 +236,7 @@ module _ (limits : LimitsView) (start now after : Stand) (c : IsConversing limit
       written = c.written ++ h.output;
       answered = c.requests ++ quit ∷ [];
       output = c.written ++ h.output;
-      moves = taking a.read a.takes h.output (subst (λ (w : List ℕ). Appends now.outside.taken after.outside.taken w) h.took h.appended) h.never_falls;
+      moves = taking a.read a.takes h.output (subst (λ (w : List ℕ). Appends now.outside.taken after.outside.taken w) h.put.put h.put.appended) h.put.never_falls;
       counted = ap (λ (x : TurnsView). x.taken) (counts a.read a.takes);
       within = bounded a.read a.takes;
       progress = answered quit puts.Done a h;
@@ -250,15 +250,15 @@ module _ (limits : LimitsView) (start now after : Stand) (c : IsConversing limit
   write_fails request a = elim a.answered [
     | inl h ↦ record {
       read = c.read ++ a.read;
-      written = c.written ++ h.written;
+      written = c.written ++ h.put.written;
       answered = c.requests ++ request ∷ [];
       output = c.written ++ h.output;
-      moves = taking a.read a.takes h.written h.appended h.never_falls;
+      moves = taking a.read a.takes h.put.written h.put.appended h.put.never_falls;
       counted = ap (λ (x : TurnsView). x.taken) (counts a.read a.takes);
       within = bounded a.read a.takes;
       progress = answered request puts.WriteFault a h;
-      cause = risen_since start.outside.sink_faults now.outside.sink_faults after.outside.sink_faults c.moves.sink_never_falls h.took.1;
-      how_far = (one_more request puts.WriteFault a, (h.took.0.0, ap (λ (w : List ℕ). c.written ++ w) h.took.0.1 ∙ sym (append_assoc c.written h.written h.took.0.0)));
+      cause = risen_since start.outside.sink_faults now.outside.sink_faults after.outside.sink_faults c.moves.sink_never_falls h.put.put;
+      how_far = (one_more request puts.WriteFault a, (h.put.rest, ap (λ (w : List ℕ). c.written ++ w) h.put.front ∙ sym (append_assoc c.written h.put.written h.put.rest)));
     }
     | inr s ↦ absurd (let e = s.memory in cc)
   ]
@@ -267,15 +267,15 @@ module _ (limits : LimitsView) (start now after : Stand) (c : IsConversing limit
   no_memory_to_reply request a = elim a.answered [
     | inl h ↦ record {
       read = c.read ++ a.read;
-      written = c.written ++ h.written;
+      written = c.written ++ h.put.written;
       answered = c.requests ++ request ∷ [];
       output = c.written ++ h.output;
-      moves = taking a.read a.takes h.written h.appended h.never_falls;
+      moves = taking a.read a.takes h.put.written h.put.appended h.put.never_falls;
       counted = ap (λ (x : TurnsView). x.taken) (counts a.read a.takes);
       within = bounded a.read a.takes;
       progress = answered request puts.Memory a h;
       cause = tt;
-      how_far = (one_more request puts.Memory a, (h.output, ap (λ (w : List ℕ). c.written ++ w) (ap (λ (w : List ℕ). w ++ h.output) (sym h.took)) ∙ sym (append_assoc c.written h.written h.output)));
+      how_far = (one_more request puts.Memory a, (h.put.rest, ap (λ (w : List ℕ). c.written ++ w) h.put.front ∙ sym (append_assoc c.written h.put.written h.put.rest)));
     }
     | inr s ↦ record {
       read = c.read ++ a.read;

@@ -15,7 +15,7 @@ use Rattle.flat_world.specs.History.{entries_of, restart_entry}
 use Rattle.flat_world.specs.Effects.{Effect, effect}
 use Rattle.flat_world.specs.Legal.{IsLegal, IsServed, IsRefused, IsAnswered, IsDone, IsDiskFault, Exchange, TookPlace, wanted_after}
 use Rattle.green_store.specs.Sessions.{begin_entry}
-use Rattle.green_top.specs.Transcript.{output_of, BeginsBefore, IsEnding, IsCalm, InTurn, Transcript}
+use Rattle.green_top.specs.Transcript.{output_of, BeginsBefore, IsEnding, IsCalm, IsTold, InTurn, Transcript}
 use Rattle.green_top.specs.Progress.{Answers, Progress}
 use Rattle.green_store.proofs.Places.{placed_goes_on}
 use Rattle.green_top.proofs.Serials.{own_behind, serials_go_on, serials_end}
@@ -51,6 +51,10 @@ each_push limits session h (x ∷ es) e all last = (all.0, each_push limits sess
 calm_push : (es : List Exchange) (e : Exchange) → AllByRecursion IsCalm es → IsCalm e → AllByRecursion IsCalm (es ++ e ∷ [])
 calm_push [] e all last = (last, tt)
 calm_push (x ∷ es) e all last = (all.0, calm_push es e all.1 last)
+
+told_push : (es : List Exchange) (e : Exchange) → AllByRecursion IsTold es → IsTold e → AllByRecursion IsTold (es ++ e ∷ [])
+told_push [] e all last = (last, tt)
+told_push (x ∷ es) e all last = (all.0, told_push es e all.1 last)
 
 flat_map_push : {X A : Type 0} (f : X → List A) (xs : List X) (x : X) → flat_map f (xs ++ x ∷ []) ≡ flat_map f xs ++ f x
 flat_map_push f [] x = append-nil (f x)
@@ -90,16 +94,16 @@ entries_so_far limits h points answered output p = ap (entries_of 1) p.history_i
 pub progress_goes_on : (limits : LimitsView) (h : List PlainEntry) (points : List ℕ) (answered : List PlainRequest) (output : List ℕ) (request : PlainRequest) (after : List PlainEntry) (points' : List ℕ) (o : List ℕ)
     → Progress limits h points answered output → Answers limits h points request after points' o → Progress limits after points' (answered ++ request ∷ []) (output ++ o)
 progress_goes_on limits h points answered output request after points' o p a =
-    let e : Exchange = record { request = request; reply = a.reply; point = length after; added = a.added; rose = false } in
-    let longer : length h ≤ length after = rw a.grows (omega (arith, length-append h a.added)) in
-    let here : TookPlace limits 1 after e = record { before = h; more = []; parts = a.grows ∙ sym (append-nil (h ++ a.added)); point_is = ap length a.grows; legal = a.legal } in
-    let earlier : AllByRecursion (TookPlace limits 1 after) p.exchanges = subst (λ (x : List PlainEntry). AllByRecursion (TookPlace limits 1 x) p.exchanges) (sym a.grows) (each_before limits 1 h a.added p.exchanges p.each) in
+    let e : Exchange = record { request = request; reply = a.reply; point = length after; added = a.step.added; rose = false } in
+    let longer : length h ≤ length after = rw a.step.grows (omega (arith, length-append h a.step.added)) in
+    let here : TookPlace limits 1 after e = record { before = h; more = []; parts = a.step.grows ∙ sym (append-nil (h ++ a.step.added)); point_is = ap length a.step.grows; legal = a.step.legal } in
+    let earlier : AllByRecursion (TookPlace limits 1 after) p.exchanges = subst (λ (x : List PlainEntry). AllByRecursion (TookPlace limits 1 x) p.exchanges) (sym a.step.grows) (each_before limits 1 h a.step.added p.exchanges p.each) in
     let all_within : All (λ point. point ≤ length after) points = All-weaker (λ point. point ≤ length h) (λ point. point ≤ length after) (λ x le. le_trans le longer) points p.within in
-    let own = own_added limits h request a.reply a.added a.legal in
+    let own = own_added limits h request a.reply a.step.added a.step.legal in
     let start : List PlainEntry = begin_entry 1 ∷ [] in
-    let turns : InTurn 1 after start p.exchanges = subst (λ (x : List PlainEntry). InTurn 1 x start p.exchanges) (sym a.grows) (turn_before limits 1 h a.added start p.exchanges p.each p.in_turn) in
-    let last : entries_of 1 (take (length after) after) ≡ (start ++ flat_map adds p.exchanges) ++ a.added =
-    ap (entries_of 1) (take-length after ∙ a.grows) ∙ sym (own_behind h a.added own) ∙ ap (λ (x : List PlainEntry). x ++ a.added) (entries_so_far limits h points answered output p) in
+    let turns : InTurn 1 after start p.exchanges = subst (λ (x : List PlainEntry). InTurn 1 x start p.exchanges) (sym a.step.grows) (turn_before limits 1 h a.step.added start p.exchanges p.each p.in_turn) in
+    let last : entries_of 1 (take (length after) after) ≡ (start ++ flat_map adds p.exchanges) ++ a.step.added =
+    ap (entries_of 1) (take-length after ∙ a.step.grows) ∙ sym (own_behind h a.step.added own) ∙ ap (λ (x : List PlainEntry). x ++ a.step.added) (entries_so_far limits h points answered output p) in
     let two : 2 ≤ length after = omega (arith, ap length p.history_is) in
     record {
       exchanges = p.exchanges ++ e ∷ [];
@@ -108,11 +112,12 @@ progress_goes_on limits h points answered output request after points' o p a =
       output_is = ap (λ (x : List ℕ). x ++ o) p.output_is ∙ ap (λ (x : List ℕ). output_of p.exchanges ++ x) a.output_is ∙ ap (λ (x : List ℕ). codes "P0~" ++ x) (sym (flat_map_push says p.exchanges e));
       each = each_push limits 1 after p.exchanges e earlier here;
       calm = calm_push p.exchanges e p.calm refl;
-      history_is = a.grows ∙ ap (λ (x : List PlainEntry). x ++ a.added) p.history_is ∙ ap (λ (x : List PlainEntry). restart_entry ∷ begin_entry 1 ∷ x) (sym (flat_map_push adds p.exchanges e));
-      own = subst IsOwn (sym (flat_map_push adds p.exchanges e)) (own_append (flat_map adds p.exchanges) a.added p.own own);
-      serials = serials_go_on limits h request a.reply a.added after p.serials a.legal own a.grows;
+      told = told_push p.exchanges e p.told a.valid;
+      history_is = a.step.grows ∙ ap (λ (x : List PlainEntry). x ++ a.step.added) p.history_is ∙ ap (λ (x : List PlainEntry). restart_entry ∷ begin_entry 1 ∷ x) (sym (flat_map_push adds p.exchanges e));
+      own = subst IsOwn (sym (flat_map_push adds p.exchanges e)) (own_append (flat_map adds p.exchanges) a.step.added p.own own);
+      serials = serials_go_on limits h request a.reply a.step.added after p.serials a.step.legal own a.step.grows;
       in_turn = turn_push 1 after start p.exchanges e turns last;
-      placed = placed_goes_on limits 1 h request a.reply a.added after p.placed a.legal a.grows;
+      placed = placed_goes_on limits 1 h request a.reply a.step.added after p.placed a.step.legal a.step.grows;
       rising = rw a.points_are (IsNonDecreasingBy-push (λ n. n) points (length after) p.rising (λ d filled. all_within (length points - 1) d (omega arith)));
       within = rw a.points_are (All-push (λ point. point ≤ length after) points (length after) all_within (omega arith));
       above = rw a.points_are (All-push (λ point. 2 ≤ point) points (length after) p.above two);
@@ -126,6 +131,7 @@ progress_begins limits = record {
   output_is = refl;
   each = tt;
   calm = tt;
+  told = tt;
   history_is = refl;
   own = refl;
   serials = refl;
@@ -155,6 +161,7 @@ transcript_of limits h points answered output more p ending own = record {
   output_is = p.output_is;
   each = each_before limits 1 h more p.exchanges p.each;
   calm = p.calm;
+  told = p.told;
   rising = p.rising;
   begun = begun limits h points answered output p more;
   entries = record {

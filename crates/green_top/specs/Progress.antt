@@ -2,44 +2,35 @@
 use Rattle.std.specs.Prelude.{◌≡◌, ◌⊎◌, ℕ, ◌≤◌, false, List, [], ◌∷◌, ◌++◌, length, map, All, Option}
 use Rattle.std.specs.List.{flat_map, AllByRecursion}
 use Rattle.std.specs.List.Sorted.{IsNonDecreasing}
-use Rattle.std.specs.Io.KnownBytes.{Appends}
-use Rattle.green_io.specs.Outside.{HasRisen}
 use Rattle.febe_data.specs.LimitsView.{LimitsView}
 use Rattle.febe_data.specs.Plain.{PlainRequest, PlainReply, PlainEntry}
+use Rattle.febe_data.specs.Validity.{IsReply}
 use Rattle.febe_reply.specs.ReplyGrammar.{spell_reply}
 use Rattle.flat_world.specs.History.{entries_of, restart_entry}
 use Rattle.flat_world.specs.World.{empty_world}
 use Rattle.flat_world.specs.Laws.{AllPlaced}
-use Rattle.flat_world.specs.Legal.{IsLegal, Exchange, TookPlace}
+use Rattle.flat_world.specs.Legal.{Exchange, TookPlace}
 use Rattle.green_store.specs.Sessions.{begin_entry}
+use Rattle.green_store.specs.Steps.{Steps}
 use Rattle.green_session.specs.declared.put.Put.{Put}
-use Rattle.green_session.specs.declared.put.Put.TheVariants.{Done, WriteFault, Memory}
-use Rattle.green_top.specs.Transcript.{IsFrontOf, output_of, IsCalm, AreSerials, InTurn}
+use Rattle.green_session.specs.declared.put.Put.TheVariants.{Memory}
+use Rattle.green_session.specs.Putting.{IsPut}
+use Rattle.green_top.specs.Transcript.{output_of, IsCalm, IsTold, AreSerials, InTurn}
 
 -- One request was answered by a legal step from the history before it to the one after it: its point is the
--- length of that, and the output is its reply.
+-- length of that, and the output is its reply, which the grammar can spell.
 pub record Answers (limits : LimitsView) (before : List PlainEntry) (points : List ℕ) (request : PlainRequest) (after : List PlainEntry) (points' : List ℕ) (output : List ℕ) : Type 0 where
   pub reply : PlainReply
-  pub added : List PlainEntry
-  pub grows : after ≡ before ++ added
-  pub legal : IsLegal limits 1 before request reply added false
+  pub valid : IsReply reply
+  pub step : Steps limits 1 before request reply after false
   pub points_are : points' ≡ points ++ length after ∷ []
   pub output_is : output ≡ spell_reply reply
 
--- what the sink took of a reply's bytes, by what came of it
-abbrev pub TookOf : Put → List ℕ → List ℕ → ℕ → ℕ → Type 0
-TookOf Done output written before after = written ≡ output
-TookOf WriteFault output written before after = IsFrontOf written output × HasRisen before after
-TookOf Memory output written before after = written ≡ []
-
--- the request was answered, and this came of its reply
+-- the request was answered, and this came of writing its reply
 pub record Happened (limits : LimitsView) (before : List PlainEntry) (points : List ℕ) (request : PlainRequest) (after : List PlainEntry) (points' : List ℕ) (taken taken' : Option (List ℕ)) (faults faults' : ℕ) (result : Put) : Type 0 where
   pub output : List ℕ
-  pub written : List ℕ
   pub answers : Answers limits before points request after points' output
-  pub appended : Appends taken taken' written
-  pub took : TookOf result output written faults faults'
-  pub never_falls : faults ≤ faults'
+  pub put : IsPut taken taken' faults faults' output result
 
 -- there was no memory, and all is as it was
 pub record Stayed (before : List PlainEntry) (points : List ℕ) (after : List PlainEntry) (points' : List ℕ) (taken taken' : Option (List ℕ)) (faults faults' : ℕ) (result : Put) : Type 0 where
@@ -63,6 +54,7 @@ pub record Progress (limits : LimitsView) (history : List PlainEntry) (points : 
   pub output_is : output ≡ output_of exchanges
   pub each : AllByRecursion (TookPlace limits 1 history) exchanges
   pub calm : AllByRecursion IsCalm exchanges
+  pub told : AllByRecursion IsTold exchanges
   pub history_is : history ≡ restart_entry ∷ begin_entry 1 ∷ flat_map (λ (e : Exchange). e.added) exchanges
   pub own : entries_of 1 (flat_map (λ (e : Exchange). e.added) exchanges) ≡ flat_map (λ (e : Exchange). e.added) exchanges
   pub serials : AreSerials (entries_of 1 history)

@@ -4,6 +4,7 @@ use Rattle.std.specs.List.{flat_map, AllByRecursion}
 use Rattle.std.specs.List.Sorted.{IsNonDecreasing}
 use Rattle.febe_data.specs.LimitsView.{LimitsView}
 use Rattle.febe_data.specs.Plain.{PlainRequest, PlainEntry, ended}
+use Rattle.febe_data.specs.Validity.{IsReply}
 use Rattle.febe_reply.specs.ReplyGrammar.{spell_reply}
 use Rattle.flat_world.specs.History.{entries_of, is_live}
 use Rattle.flat_world.specs.Legal.{Exchange, TookPlace}
@@ -21,6 +22,10 @@ output_of exchanges = codes "P0~" ++ flat_map (λ (e : Exchange). spell_reply e.
 -- no count of disk faults rose in the exchange, so its reply is no disk fault
 abbrev pub IsCalm : Exchange → Type 0
 IsCalm exchange = exchange.rose ≡ false
+
+-- the reply of an exchange is one that the grammar can spell
+abbrev pub IsTold : Exchange → Type 0
+IsTold exchange = IsReply exchange.reply
 
 -- the session's Begin stands in the history, and no point is below its place
 pub record BeginsBefore (session : ℕ) (history : List PlainEntry) (points : List ℕ) : Type 0 where
@@ -55,8 +60,8 @@ pub record EntriesAre (session : ℕ) (history : List PlainEntry) (exchanges : L
   pub serials : AreSerials (entries_of session history)
   pub in_turn : InTurn session history (begin_entry session ∷ []) exchanges
 
--- The requests were answered at these points, with this output: each exchange took place in the history,
--- the points never fall, and the session's entries are those of its accepted changes.
+-- The requests were answered at these points, with this output: each exchange took place in the history, its
+-- reply is one that can be spelled, the points never fall, and the session's entries are those of its accepted changes.
 pub record Transcript (limits : LimitsView) (session : ℕ) (history : List PlainEntry) (requests : List PlainRequest) (points output : List ℕ) : Type 0 where
   pub exchanges : List Exchange
   pub requests_are : requests ≡ map (λ (e : Exchange). e.request) exchanges
@@ -64,6 +69,7 @@ pub record Transcript (limits : LimitsView) (session : ℕ) (history : List Plai
   pub output_is : output ≡ output_of exchanges
   pub each : AllByRecursion (TookPlace limits session history) exchanges
   pub calm : AllByRecursion IsCalm exchanges
+  pub told : AllByRecursion IsTold exchanges
   pub rising : IsNonDecreasing points
   pub begun : BeginsBefore session history points
   pub entries : EntriesAre session history exchanges
