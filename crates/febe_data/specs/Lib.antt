@@ -3,10 +3,11 @@ pub use Rattle.tumbler.specs.Places
 pub use Rattle.tumbler.specs.Span
 pub use Rattle.tumbler.specs.Address
 pub use Rattle.tumbler.specs.Laws
+pub mod Generator
 pub mod LimitsView
 pub mod Refusal
 pub mod Access
 pub mod Plain
-pub mod Parts
+pub mod FieldValues
 pub mod Spelling
 pub mod Validity

@@ -1,11 +1,11 @@
--- How the parts of requests and replies are written. Each value has one spelling.
+-- How the field values of requests and replies are written. Each has one spelling.
 use Rattle.std.specs.Prelude.{ℕ, zero, suc, List, [], ◌∷◌, ◌++◌, length, drop, codes, decimal}
 use Rattle.std.specs.List.{flat_map}
 use Rattle.tumbler.specs.declared.span.Span.{Span}
 use Rattle.febe_data.specs.declared.run.Diagonal.{Diagonal}
 use Rattle.febe_data.specs.Access.{mode_number, rule_number}
 use Rattle.febe_data.specs.Plain.{PlainSpec, PlainItem, bytes, link}
-use Rattle.febe_data.specs.Parts.{Part, tumbler_part, number_part, text_part, span_part, spans_part, tumblers_part, spec_part, specs_part, mode_part, rule_part, items_part, diagonals_part}
+use Rattle.febe_data.specs.FieldValues.{FieldValue, tumbler_value, number_value, text_value, span_value, spans_value, tumblers_value, spec_value, specs_value, mode_value, rule_value, items_value, diagonals_value}
 
 -- a number: its digits, then a tilde
 abbrev pub spell_number : ℕ → List ℕ
@@ -54,17 +54,17 @@ spell_text_address position = spell_tumbler (1 ∷ position ∷ [])
 abbrev pub spell_diagonal : Diagonal → List ℕ
 spell_diagonal diagonal = spell_text_address diagonal.left ++ spell_text_address diagonal.right ++ spell_number diagonal.length
 
--- any part
-abbrev pub spell_part : Part → List ℕ
-spell_part (tumbler_part places) = spell_tumbler places
-spell_part (number_part n) = spell_number n
-spell_part (text_part text) = spell_text text
-spell_part (span_part span) = spell_span span
-spell_part (spans_part spans) = spell_list spell_span spans
-spell_part (tumblers_part tumblers) = spell_list spell_tumbler tumblers
-spell_part (spec_part spec) = spell_spec spec
-spell_part (specs_part specs) = spell_list spell_spec specs
-spell_part (mode_part mode) = spell_number (mode_number mode)
-spell_part (rule_part rule) = spell_number (rule_number rule)
-spell_part (items_part items) = spell_list spell_item items
-spell_part (diagonals_part diagonals) = spell_list spell_diagonal diagonals
+-- any field value
+abbrev pub spell_value : FieldValue → List ℕ
+spell_value (tumbler_value places) = spell_tumbler places
+spell_value (number_value n) = spell_number n
+spell_value (text_value text) = spell_text text
+spell_value (span_value span) = spell_span span
+spell_value (spans_value spans) = spell_list spell_span spans
+spell_value (tumblers_value tumblers) = spell_list spell_tumbler tumblers
+spell_value (spec_value spec) = spell_spec spec
+spell_value (specs_value specs) = spell_list spell_spec specs
+spell_value (mode_value mode) = spell_number (mode_number mode)
+spell_value (rule_value rule) = spell_number (rule_number rule)
+spell_value (items_value items) = spell_list spell_item items
+spell_value (diagonals_value diagonals) = spell_list spell_diagonal diagonals

@@ -1,18 +1,22 @@
--- Which parts, requests and replies the grammar can spell.
+-- Which field values, requests and replies the grammar can spell.
 use Rattle.std.specs.Prelude.{ℕ, ◌≤◌, ◌<◌, List, length, All, sum_by}
 use Rattle.std.specs.List.{AllByRecursion}
 use Rattle.tumbler.specs.declared.span.Span.{Span}
 use Rattle.tumbler.specs.Places.{IsTumbler}
 use Rattle.febe_data.specs.declared.run.Diagonal.{Diagonal}
 use Rattle.febe_data.specs.Plain.{PlainSpec, PlainItem, bytes, link, PlainRequest, PlainReply}
-use Rattle.febe_data.specs.Parts.{Part, tumbler_part, number_part, text_part, span_part, spans_part, tumblers_part, spec_part, specs_part, mode_part, rule_part, items_part, diagonals_part, request_parts, reply_parts}
+use Rattle.febe_data.specs.FieldValues.{FieldValue, tumbler_value, number_value, text_value, span_value, spans_value, tumblers_value, spec_value, specs_value, mode_value, rule_value, items_value, diagonals_value, request_values, reply_values}
+
+-- as many bytes as one text may have
+abbrev pub IsShort : List ℕ → Type 0
+IsShort text = length text ≤ 16777216
 
 -- bytes, as many as a text may have
 pub record IsText (text : List ℕ) : Type 0 where
-  pub short : length text ≤ 16777216
+  pub short : IsShort text
   pub bytes : All (λ b. b < 256) text
 
--- both parts are tumblers
+-- start and width are tumblers
 pub record IsSpan (span : Span) : Type 0 where
   pub start : IsTumbler span.start
   pub width : IsTumbler span.width
@@ -38,7 +42,7 @@ pub record IsSpecSet (specs : List PlainSpec) : Type 0 where
 
 -- the bytes of an item are as many as a text may have, and its link is a tumbler
 abbrev pub IsItem : PlainItem → Type 0
-IsItem (bytes text) = length text ≤ 16777216
+IsItem (bytes text) = IsShort text
 IsItem (link id) = IsTumbler id
 
 -- text positions count from 1
@@ -50,24 +54,24 @@ pub record IsDiagonal (diagonal : Diagonal) : Type 0 where
   pub length_bound : diagonal.length < 4294967296
 
 -- what the grammar can spell
-abbrev pub IsPart : Part → Type 0
-IsPart (tumbler_part places) = IsTumbler places
-IsPart (number_part n) = n < 4294967296
-IsPart (text_part text) = IsText text
-IsPart (span_part span) = IsSpan span
-IsPart (spans_part spans) = IsList IsSpan spans
-IsPart (tumblers_part tumblers) = IsList IsTumbler tumblers
-IsPart (spec_part spec) = IsSpec spec
-IsPart (specs_part specs) = IsSpecSet specs
-IsPart (mode_part mode) = Unit {0}
-IsPart (rule_part rule) = Unit {0}
-IsPart (items_part items) = IsList IsItem items
-IsPart (diagonals_part diagonals) = IsList IsDiagonal diagonals
+abbrev pub IsFieldValue : FieldValue → Type 0
+IsFieldValue (tumbler_value places) = IsTumbler places
+IsFieldValue (number_value n) = n < 4294967296
+IsFieldValue (text_value text) = IsText text
+IsFieldValue (span_value span) = IsSpan span
+IsFieldValue (spans_value spans) = IsList IsSpan spans
+IsFieldValue (tumblers_value tumblers) = IsList IsTumbler tumblers
+IsFieldValue (spec_value spec) = IsSpec spec
+IsFieldValue (specs_value specs) = IsSpecSet specs
+IsFieldValue (mode_value mode) = Unit {0}
+IsFieldValue (rule_value rule) = Unit {0}
+IsFieldValue (items_value items) = IsList IsItem items
+IsFieldValue (diagonals_value diagonals) = IsList IsDiagonal diagonals
 
--- a valid request: each of its parts is one that the grammar can spell
+-- a valid request: each of its field values is one that the grammar can spell
 abbrev pub IsRequest : PlainRequest → Type 0
-IsRequest request = AllByRecursion IsPart (request_parts request)
+IsRequest request = AllByRecursion IsFieldValue (request_values request)
 
 -- a valid reply
 abbrev pub IsReply : PlainReply → Type 0
-IsReply reply = AllByRecursion IsPart (reply_parts reply)
+IsReply reply = AllByRecursion IsFieldValue (reply_values reply)

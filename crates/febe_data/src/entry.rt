@@ -48,7 +48,8 @@ pub enum Change {
         document: Tumbler,
         /// The n of the V-address `1.n`.
         at: u32,
-        /// The number of the first new content byte, also where the text is empty.
+        /// What the first byte of the text is numbered in the content of the document. Where there is no byte, what it
+        /// would be.
         first: u32,
         text: Text,
     },
@@ -73,7 +74,7 @@ pub enum Change {
     /// The session made a link.
     Link {
         home: Tumbler,
-        /// The last place of the link's id.
+        /// Counts the links that were made in the home: the last place of the id.
         number: u32,
         /// The n of its V-address `2.n` in its home.
         place: u32,
@@ -213,11 +214,11 @@ impl Change {
     }
 }
 
-/// One change, by one session. A restart has session 0 and serial 0.
+/// One change and the session that made it. A restart is made by none, and both its numbers are 0.
 #[derive(Debug, Drop)]
 pub struct Entry {
     pub session: u64,
-    /// The place of this entry among those of its session, from 1.
+    /// Counts the entries of the session: its first one has 1.
     pub serial: u64,
     pub change: Change,
 }

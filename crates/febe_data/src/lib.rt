@@ -2,7 +2,9 @@
 #![tactic(auto)]
 
 mod access;
+pub mod bounds;
 mod entry;
+mod generator;
 mod limits;
 mod refusal;
 mod reply;
@@ -11,11 +13,13 @@ mod run;
 mod spec;
 #[cfg(test)]
 mod tests;
+mod validity;
 mod want;
 mod writing;
 
 pub use access::{Mode, Rule};
 pub use entry::{Change, Entry};
+pub use generator::Generator;
 pub use limits::{BadLimits, Limits};
 pub use refusal::Refusal;
 pub use reply::{Item, Reply};

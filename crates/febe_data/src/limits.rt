@@ -1,18 +1,10 @@
 //! What a back end holds at most.
 ghost use Rattle.std.specs.Prelude.{◌≡◌, ◌↔◌, IfOk, IsOk};
 
+use crate::bounds::{MOST_CONTENT, MOST_ENTRIES, MOST_FLUSH};
 use std::error::Error;
 use std::fmt;
 use std::marker::Model;
-
-/// The greatest number of kept entries that limits may allow.
-pub const MOST_ENTRIES: u32 = 4_194_304;
-
-/// The greatest number of content bytes that limits may allow.
-pub const MOST_TEXT: u32 = 1_073_741_824;
-
-/// The greatest number of kept entries after which pages are written.
-pub const MOST_FLUSH: u32 = 4_194_304;
 
 /// How many kept entries and content bytes there may be, and after how many kept entries pages are written.
 #[derive(Clone, Copy, Debug, PartialEq, Eq)]
@@ -55,7 +47,7 @@ impl Limits {
         ensures accepted { IsOk result ↔ AreLimits entries text flush }
         ensures value { IfOk result (λ limits. (limits.entries ≡ entries) × (limits.text ≡ text) × (limits.flush ≡ flush)) }
     {
-        if entries > MOST_ENTRIES || text > MOST_TEXT {
+        if entries > MOST_ENTRIES || text > MOST_CONTENT {
             return Err(BadLimits);
         }
         if flush == 0 || flush > MOST_FLUSH {

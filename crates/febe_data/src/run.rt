@@ -6,13 +6,13 @@ use tumbler::Tumbler;
 /// Bytes that follow each other in one document's content.
 #[derive(Debug, Drop)]
 pub struct Run {
-    /// The document through which the run was picked.
+    /// The document whose rows show it: the one that a spec named.
     pub origin: Tumbler,
-    /// The document whose content it is.
+    /// The document into which the bytes were first put.
     pub content: Tumbler,
-    /// The number of the first byte, from 1.
+    /// Which of that document's bytes comes first. They are counted from 1.
     pub first: u32,
-    /// The number of bytes, 1 or more.
+    /// How many bytes there are, and never none.
     pub length: u32,
 }
 

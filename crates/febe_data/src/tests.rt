@@ -406,7 +406,17 @@ fn clones_of_entries(rt: HostRuntime) -> Result<(), Fail> {
 }
 
 #[test]
-fn spellings_of_parts(rt: HostRuntime) -> Result<(), Fail> {
+fn numbers_of_the_generator(rt: HostRuntime) {
+    let mut from_seven = Generator::new(7);
+    assert_eq!(rt; from_seven.next(), 2_118_330_556);
+    assert_eq!(rt; from_seven.next(), 4_104_526_463);
+    assert_eq!(rt; from_seven.next(), 3_893_713_506);
+    let mut from_the_greatest = Generator::new(18_446_744_073_709_551_615);
+    assert_eq!(rt; from_the_greatest.next(), 3_149_104_977);
+}
+
+#[test]
+fn spellings_of_values(rt: HostRuntime) -> Result<(), Fail> {
     let alloc = rt.alloc();
     let mut out = List::new(alloc);
     append_tumbler(&mut out, &Tumbler::from_places(alloc, &[1, 1, 0, 1])?)?;

@@ -6,7 +6,7 @@ use Rattle.std.proofs.lemmas.Option.{same_Some}
 use Rattle.std.proofs.lemmas.List.{take-append-drop, take-append-le, length-append, length-drop, length-take-le, take_all}
 use Rattle.febe_fields.specs.declared.scanned.Scanned.{Scanned}
 use Rattle.febe_fields.specs.declared.scanned.Scanned.TheVariants.{Incomplete, Complete, Bad}
-use Rattle.febe_fields.specs.Prefixes.{IsScanned, BeginsWith}
+use Rattle.febe_fields.specs.Prefixes.{IsScanned, HasSpelledPrefix}
 use Rattle.febe_fields.specs.Scanning.{Outcome, goes, done, fails, behind, behind_one, scan_on, scan}
 use Rattle.febe_fields.specs.Fields.{takes}
 use Rattle.febe_fields.proofs.Scans.{takes_some, takes_one, one_taken, scan_says, scanned_too}
@@ -19,11 +19,12 @@ use Rattle.febe_wire.proofs.RequestScans.{request_goes_on, request_scanned}
 use Rattle.febe_data.specs.declared.request.Request.{Request}
 use Rattle.febe_data.specs.Plain.{PlainRequest}
 use Rattle.febe_wire.specs.declared.got.Got.{Got}
-use Rattle.febe_wire.specs.declared.got.Got.TheVariants as gots
+use Rattle.febe_wire.specs.declared.got.Got.TheVariants as got_answers
 use Rattle.febe_wire.specs.Reads.{IsRead, IsGot}
-use Rattle.febe_feed.specs.FeedView.{HeldView, FeedView, later, IsGreeting, Waits, IsWrong, Greets, Gives}
-use Rattle.febe_feed.specs.IsFeed.{IsFeed}
-use Rattle.febe_feed.specs.Greetings.{Rest, all_of_it, greeting_step}
+use Rattle.febe_feed.specs.FeedView.{FeedView, later, IsGreeting, Waits, IsWrong, Greets, GivesRequest}
+use Rattle.febe_feed.specs.inside.HeldView.{HeldView}
+use Rattle.febe_feed.specs.inside.IsFeed.{IsFeed}
+use Rattle.febe_feed.specs.inside.Greetings.{Rest, all_of_it, greeting_step}
 
 -- ---- the greeting
 
@@ -114,7 +115,7 @@ module _ (held : List ℕ) (scanned : ℕ) (scanner : RequestScanner) (bad : Opt
   pub feed_waits : Incomplete ≡ scan request_step (state_of scanner) (drop scanned held) → IsScanned IsSpelled held Incomplete
   feed_waits over = request_scanned held Incomplete (ap (behind scanned) over ∙ sym whole_is)
 
-  pub feed_completes : (used : ℕ) → Complete used ≡ scan request_step (state_of scanner) (drop scanned held) → BeginsWith IsSpelled held (scanned + used)
+  pub feed_completes : (used : ℕ) → Complete used ≡ scan request_step (state_of scanner) (drop scanned held) → HasSpelledPrefix IsSpelled held (scanned + used)
   feed_completes used over = request_scanned held (Complete (scanned + used)) (ap (behind scanned) over ∙ sym whole_is)
 
   pub feed_fails : (at : ℕ) → Bad at ≡ scan request_step (state_of scanner) (drop scanned held) → scan request_step at_start held ≡ Bad (scanned + at)
@@ -136,36 +137,36 @@ module _ (held : List ℕ) (scanned : ℕ) (scanner : RequestScanner) (bad : Opt
 
 module _ (v : FeedView) where
   pub waits : v.greeted ≡ true → IsScanned IsSpelled v.held Incomplete → Waits v v
-  waits greeted h = record { stays = refl; front = rw greeted h }
+  waits greeted h = record { stays = refl; prefix = rw greeted h }
 
   pub is_wrong : (at place : ℕ) → v.greeted ≡ true → IsScanned IsSpelled v.held (Bad at) → place ≡ later v.offset at → IsWrong v v place
   is_wrong at place greeted h e = record { stays = refl; place = at; bad = rw greeted h; at_is = e }
 
   pub waits_greeting : v.greeted ≡ false → IsScanned IsGreeting v.held Incomplete → Waits v v
-  waits_greeting greeted h = record { stays = refl; front = rw greeted h }
+  waits_greeting greeted h = record { stays = refl; prefix = rw greeted h }
 
   pub is_wrong_greeting : (at place : ℕ) → v.greeted ≡ false → IsScanned IsGreeting v.held (Bad at) → place ≡ later v.offset at → IsWrong v v place
   is_wrong_greeting at place greeted h e = record { stays = refl; place = at; bad = rw greeted h; at_is = e }
 
-  greets_used : (used : ℕ) → BeginsWith IsGreeting v.held used → used ≡ 3
-  greets_used used h = omega (arith, h.within, length-take-le used v.held h.within, ap length h.front)
+  greets_used : (used : ℕ) → HasSpelledPrefix IsGreeting v.held used → used ≡ 3
+  greets_used used h = omega (arith, h.within, length-take-le used v.held h.within, ap length h.prefix)
 
-  pub greets : (used : ℕ) (after : FeedView) → v.greeted ≡ false → BeginsWith IsGreeting v.held used → after ≡ record { greeted = true; held = drop used v.held; offset = later v.offset used } → Greets v after
+  pub greets : (used : ℕ) (after : FeedView) → v.greeted ≡ false → HasSpelledPrefix IsGreeting v.held used → after ≡ record { greeted = true; held = drop used v.held; offset = later v.offset used } → Greets v after
   greets used after greeted h e = rw e (record {
     first = greeted;
-    front = sym (take-append-drop used v.held) ∙ ap (λ (ds : List ℕ). ds ++ drop used v.held) h.front;
+    prefix = sym (take-append-drop used v.held) ∙ ap (λ (ds : List ℕ). ds ++ drop used v.held) h.prefix;
     greeted = refl;
     offset = ap (later v.offset) (greets_used used h);
   })
 
-  pub gives : (used more : ℕ) (request : PlainRequest) (after : FeedView) → v.greeted ≡ true → IsRead v.held request used → after ≡ record { greeted = v.greeted; held = drop used v.held; offset = later v.offset used } → Gives v after request
+  pub gives : (used more : ℕ) (request : PlainRequest) (after : FeedView) → v.greeted ≡ true → IsRead v.held request used → after ≡ record { greeted = v.greeted; held = drop used v.held; offset = later v.offset used } → GivesRequest v after request
   gives used more request after greeted read e = record { greeted = greeted; used = used; read = read; after_is = e ∙ ap (λ (g : Bool). record { greeted = g; held = drop used v.held; offset = later v.offset used }) greeted }
 
 -- a request that begins the bytes is got, and nothing else
-pub got_request : (bytes : List ℕ) (used : ℕ) (got : Got) → BeginsWith IsSpelled bytes used → IsGot bytes got → ((request : Request) (used : ℕ) → got ≡ gots.Request request used → ⊥) → ⊥
-got_request bytes used (gots.Request request n) h g other = other request n refl
-got_request bytes used gots.More h g other = g.none used h.within h.front
-got_request bytes used (gots.Bad at) h g other = g.none used h.within h.front
+pub got_request : (bytes : List ℕ) (used : ℕ) (got : Got) → HasSpelledPrefix IsSpelled bytes used → IsGot bytes got → ((request : Request) (used : ℕ) → got ≡ got_answers.Request request used → ⊥) → ⊥
+got_request bytes used (got_answers.Request request n) h g other = other request n refl
+got_request bytes used got_answers.More h g other = g.none used h.within h.prefix
+got_request bytes used (got_answers.Bad at) h g other = g.none used h.within h.prefix
 
 pub feed_pushed_by : {E : Type 0} (held after : HeldView) (piece : List ℕ) (scanned : ℕ) (scanner : RequestScanner) (bad : Option ℕ) (r : Result (Unit {0}) E) → OnOk r (after.bytes ≡ held.bytes ++ piece) → OnErr r (after ≡ held)
     → IsFeed held.bytes scanned scanner bad → IsFeed after.bytes scanned scanner bad

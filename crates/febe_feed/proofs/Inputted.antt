@@ -5,7 +5,7 @@ use Rattle.std.proofs.lemmas.Bool.{cases_Bool, cases_lt}
 use Rattle.std.proofs.lemmas.List.{append-nil, append_cancel_left, length-append, nil_from_length, take_at, take-append-le, take-append-drop}
 use Rattle.febe_data.specs.Plain.{PlainRequest}
 use Rattle.febe_data.specs.Validity.{IsRequest}
-use Rattle.febe_fields.specs.Prefixes.{IsPrefix, BeginsWithNone, IsUnfinished}
+use Rattle.febe_fields.specs.Prefixes.{IsPrefix, HasNoSpelledPrefix, IsUnfinished}
 use Rattle.febe_wire.specs.Grammar.{spell_request, IsSpelled}
 use Rattle.febe_wire.specs.Sessions.{greeting, QuitsLast, EndsInQuit, IsInputOf, IsInput, IsQuitInput}
 use Rattle.febe_wire.proofs.RequestLaws.{same_request, spelling_filled}
@@ -14,15 +14,15 @@ use Rattle.febe_feed.specs.Pieces.{HasGiven}
 use Rattle.febe_feed.specs.Inputs.{NoQuits, IsOpenInput, WaitingIsOpen, WaitingIsTruncated, GivenIsInput}
 use Rattle.febe_feed.proofs.Pieces.{spell_all, begins, behind_greeting, all_push, spelled_push}
 
--- ---- two fronts of the same bytes
+-- ---- two prefixes of the same bytes
 
 -- the shorter begins the longer
-front_of : (x more g y : List ℕ) → x ++ more ≡ g ++ y → length g ≤ length x → take (length g) x ≡ g
-front_of x more g y e le = sym (take-append-le (length g) x more le) ∙ ap (take (length g)) e ∙ take_at g y (length g) refl
+prefix_of : (x more g y : List ℕ) → x ++ more ≡ g ++ y → length g ≤ length x → take (length g) x ≡ g
+prefix_of x more g y e le = sym (take-append-le (length g) x more le) ∙ ap (take (length g)) e ∙ take_at g y (length g) refl
 
 -- and what the longer has behind it makes the longer of it
 completed : (x more g y : List ℕ) → x ++ more ≡ g ++ y → length x ≤ length g → x ++ drop (length x) g ≡ g
-completed x more g y e le = ap (λ (ds : List ℕ). ds ++ drop (length x) g) (sym (front_of g y x more (sym e) le)) ∙ take-append-drop (length x) g
+completed x more g y e le = ap (λ (ds : List ℕ). ds ++ drop (length x) g) (sym (prefix_of g y x more (sym e) le)) ∙ take-append-drop (length x) g
 
 -- ---- requests of which none is quit, and others behind them
 
@@ -60,12 +60,12 @@ follows (r ∷ rs) (s ∷ ss) bytes h g e =
     }
 
 -- bytes that begin with no request spell none
-none_spelled : (ts : List PlainRequest) (bytes : List ℕ) → AllByRecursion IsRequest ts → bytes ≡ spell_all ts → BeginsWithNone IsSpelled bytes → ts ≡ []
+none_spelled : (ts : List PlainRequest) (bytes : List ℕ) → AllByRecursion IsRequest ts → bytes ≡ spell_all ts → HasNoSpelledPrefix IsSpelled bytes → ts ≡ []
 none_spelled [] bytes h e none = refl
 none_spelled (t ∷ ts) bytes h e none = absurd (begins bytes (spell_all ts) t h.0 e none)
 
 -- bytes that begin with no request, and begin some requests, begin the first of them
-begins_first : (ts : List PlainRequest) (x more : List ℕ) → AllByRecursion IsRequest ts → x ++ more ≡ spell_all ts → x ≢ [] → BeginsWithNone IsSpelled x → IsPrefix IsSpelled x
+begins_first : (ts : List PlainRequest) (x more : List ℕ) → AllByRecursion IsRequest ts → x ++ more ≡ spell_all ts → x ≢ [] → HasNoSpelledPrefix IsSpelled x → IsPrefix IsSpelled x
 begins_first [] x more h e some none = absurd (some (nil_from_length x (omega (arith, ap length e, length-append x more))))
 begins_first (t ∷ ts) x more h e some none =
     elim (cases_lt (length x) (length (spell_request t))) [
@@ -73,7 +73,7 @@ begins_first (t ∷ ts) x more h e some none =
         more = drop (length x) (spell_request t);
         whole = record { request = t; spells = record { valid = h.0; spelled = completed x more (spell_request t) (spell_all ts) e (omega (arith, lt)) } };
       }
-      | inr le ↦ absurd (none (length (spell_request t)) le (record { request = t; spells = record { valid = h.0; spelled = front_of x more (spell_request t) (spell_all ts) e le } }))
+      | inr le ↦ absurd (none (length (spell_request t)) le (record { request = t; spells = record { valid = h.0; spelled = prefix_of x more (spell_request t) (spell_all ts) e le } }))
     ]
 
 -- ---- the greeting, requests of which none is quit, and bytes behind them
@@ -88,7 +88,7 @@ module _ (rs : List PlainRequest) (valid : AllByRecursion IsRequest rs) where
   pub behind_others : (ss : List PlainRequest) (x : List ℕ) → IsInputOf ss (behind rs x) → Follows rs ss x
   behind_others ss x h = follows rs ss x valid h.valid (append_cancel_left greeting (spell_all rs ++ x) (spell_all ss) h.spelled)
 
-  module _ (x : List ℕ) (none : BeginsWithNone IsSpelled x) where
+  module _ (x : List ℕ) (none : HasNoSpelledPrefix IsSpelled x) where
     -- an input of these bytes has no more requests
     no_others : (ss : List PlainRequest) → IsInputOf ss (behind rs x) → (ss ≡ rs) × (x ≡ [])
     no_others ss h =
@@ -102,13 +102,13 @@ module _ (rs : List PlainRequest) (valid : AllByRecursion IsRequest rs) where
     pub quit_none : NoQuits rs → IsQuitInput (behind rs x) → ⊥
     quit_none quitless h = no_quit_ends rs quitless (subst EndsInQuit (no_others h.requests h.input).0 h.quits)
 
-    pub front_told : x ≢ [] → IsPrefix IsInput (behind rs x) → IsPrefix IsSpelled x
-    front_told some p =
+    pub prefix_told : x ≢ [] → IsPrefix IsInput (behind rs x) → IsPrefix IsSpelled x
+    prefix_told some p =
         let f = behind_others p.whole.requests (x ++ p.more) (subst (IsInputOf p.whole.requests) (behind_more rs x p.more) p.whole.input) in
         begins_first f.others x p.more f.valid f.spelled some none
 
-  pub front_made : (x : List ℕ) → NoQuits rs → IsPrefix IsSpelled x → IsPrefix IsInput (behind rs x)
-  front_made x quitless p =
+  pub prefix_made : (x : List ℕ) → NoQuits rs → IsPrefix IsSpelled x → IsPrefix IsInput (behind rs x)
+  prefix_made x quitless p =
       let r = p.whole.request in
       record {
         more = p.more;
@@ -124,7 +124,7 @@ module _ (rs : List PlainRequest) (valid : AllByRecursion IsRequest rs) where
 
 -- ---- bytes that may be a greeting
 
-module _ (x : List ℕ) (none : BeginsWithNone IsGreeting x) where
+module _ (x : List ℕ) (none : HasNoSpelledPrefix IsGreeting x) where
   pub greeting_told : IsPrefix IsInput x → IsPrefix IsGreeting x
   greeting_told p =
       elim (cases_lt (length x) (length greeting)) [
@@ -132,7 +132,7 @@ module _ (x : List ℕ) (none : BeginsWithNone IsGreeting x) where
           more = drop (length x) greeting;
           whole = completed x p.more greeting (spell_all p.whole.requests) p.whole.input.spelled (omega (arith, lt));
         }
-        | inr le ↦ absurd (none (length greeting) le (front_of x p.more greeting (spell_all p.whole.requests) p.whole.input.spelled le))
+        | inr le ↦ absurd (none (length greeting) le (prefix_of x p.more greeting (spell_all p.whole.requests) p.whole.input.spelled le))
       ]
 
   pub ungreeted : (ss : List PlainRequest) → IsInputOf ss x → ⊥
@@ -145,8 +145,8 @@ greeting_made x p = record { more = p.more; whole = record { requests = []; inpu
 
 -- ---- a feed that waits
 
-front_of_proper : (Spelled : List ℕ → Type 0) (x : List ℕ) → IsUnfinished Spelled x → IsPrefix Spelled x
-front_of_proper Spelled x h = record { more = h.front.more; whole = h.front.whole }
+prefix_of_proper : (Spelled : List ℕ → Type 0) (x : List ℕ) → IsUnfinished Spelled x → IsPrefix Spelled x
+prefix_of_proper Spelled x h = record { more = h.prefix.more; whole = h.prefix.whole }
 
 -- nothing was given, and all is held
 pub all_held : (stream : List ℕ) (rs : List PlainRequest) (feed : FeedView) → HasGiven stream rs feed → feed.greeted ≡ false → stream ≡ feed.held
@@ -156,15 +156,15 @@ pub waiting_is_open : WaitingIsOpen
 waiting_is_open stream rs feed after h quitless w =
     elim (cases_Bool feed.greeted) [
       | inl is ↦
-          let u : IsUnfinished IsSpelled feed.held = rw is at w.front in
+          let u : IsUnfinished IsSpelled feed.held = rw is at w.prefix in
           subst IsOpenInput (sym (behind_greeting stream rs feed h is)) (record {
-            front = front_made rs h.valid feed.held quitless (front_of_proper IsSpelled feed.held u);
+            prefix = prefix_made rs h.valid feed.held quitless (prefix_of_proper IsSpelled feed.held u);
             no_quit = λ q. quit_none rs h.valid feed.held u.none quitless q;
           })
       | inr not ↦
-          let u : IsUnfinished IsGreeting feed.held = rw not at w.front in
+          let u : IsUnfinished IsGreeting feed.held = rw not at w.prefix in
           subst IsOpenInput (sym (all_held stream rs feed h not)) (record {
-            front = greeting_made feed.held (front_of_proper IsGreeting feed.held u);
+            prefix = greeting_made feed.held (prefix_of_proper IsGreeting feed.held u);
             no_quit = λ q. ungreeted feed.held u.none q.requests q.input;
           })
     ]
@@ -173,10 +173,10 @@ waiting_inside : (stream : List ℕ) (rs : List PlainRequest) (feed after : Feed
 waiting_inside stream rs feed after h w some input =
     elim (cases_Bool feed.greeted) [
       | inl is ↦
-          let u : IsUnfinished IsSpelled feed.held = rw is at w.front in
+          let u : IsUnfinished IsSpelled feed.held = rw is at w.prefix in
           input_none rs h.valid feed.held u.none some (subst IsInput (behind_greeting stream rs feed h is) input)
       | inr not ↦
-          let u : IsUnfinished IsGreeting feed.held = rw not at w.front in
+          let u : IsUnfinished IsGreeting feed.held = rw not at w.prefix in
           let all : IsInput feed.held = subst IsInput (all_held stream rs feed h not) input in
           ungreeted feed.held u.none all.requests all.input
     ]
@@ -187,7 +187,7 @@ nothing_held given held e = nil_from_length held (omega (arith, ap length e, len
 pub waiting_is_truncated : WaitingIsTruncated
 waiting_is_truncated stream rs feed after h quitless w some = record {
   some = λ e. some (nothing_held _ feed.held (sym h.parts ∙ e));
-  front = (waiting_is_open stream rs feed after h quitless w).front;
+  prefix = (waiting_is_open stream rs feed after h quitless w).prefix;
   inside = λ input. waiting_inside stream rs feed after h w some input;
 }
 

@@ -2,3 +2,4 @@ pub mod Feeds
 pub mod Pieces
 pub mod Inputted
 pub mod Malformed
+pub mod BadPlaces

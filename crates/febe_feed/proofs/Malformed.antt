@@ -6,24 +6,24 @@ use Rattle.std.proofs.lemmas.List.{append-nil, length-append, length-take-le, ni
 use Rattle.std.proofs.Math.Seq.{take-append-add}
 use Rattle.febe_data.specs.Plain.{PlainRequest}
 use Rattle.febe_data.specs.Validity.{IsRequest}
-use Rattle.febe_fields.specs.Prefixes.{IsPrefix, BeginsWithNone, IsBadAt}
+use Rattle.febe_fields.specs.Prefixes.{IsPrefix, HasNoSpelledPrefix, IsBadAt}
 use Rattle.febe_wire.specs.Grammar.{IsSpelled}
 use Rattle.febe_wire.specs.Sessions.{greeting, QuitsLast, EndsInQuit, IsInputOf, IsInput, IsQuitInput, IsMalformedAt}
 use Rattle.febe_feed.specs.FeedView.{later, IsGreeting}
-use Rattle.febe_feed.specs.Inputs.{NoQuits, WrongIsMalformed, FrontsAreRight, QuitEndsJudging, InputsAreRight, OneFault}
+use Rattle.febe_feed.specs.Inputs.{NoQuits, WrongIsMalformed, PrefixesAreRight, QuitEndsJudging, InputsAreRight, OneFault}
 use Rattle.febe_feed.proofs.Pieces.{spell_all, behind_greeting, place_of}
-use Rattle.febe_feed.proofs.Inputted.{behind, behind_more, behind_others, quit_none, front_told, front_made, greeting_told, ungreeted, greeting_made, all_held, waiting_is_open, waiting_is_truncated, given_is_input}
+use Rattle.febe_feed.proofs.Inputted.{behind, behind_more, behind_others, quit_none, prefix_told, prefix_made, greeting_told, ungreeted, greeting_made, all_held, waiting_is_open, waiting_is_truncated, given_is_input}
 
--- ---- fronts of bytes
+-- ---- prefixes of bytes
 
 length_front : (n : ℕ) (x : List ℕ) → n ≤ length x → length (take n x) ≡ n
 length_front n x le = length-take-le n x le
 
-some_front : (n : ℕ) (x : List ℕ) → n < length x → take (n + 1) x ≢ []
-some_front n x lt e = omega (arith, length_front (n + 1) x (omega (arith, lt)), ap length e)
+some_prefix : (n : ℕ) (x : List ℕ) → n < length x → take (n + 1) x ≢ []
+some_prefix n x lt e = omega (arith, length_front (n + 1) x (omega (arith, lt)), ap length e)
 
 module _ (Spelled : List ℕ → Type 0) (x : List ℕ) where
-  none_in_front : (n : ℕ) → n ≤ length x → BeginsWithNone Spelled x → BeginsWithNone Spelled (take n x)
+  none_in_front : (n : ℕ) → n ≤ length x → HasNoSpelledPrefix Spelled x → HasNoSpelledPrefix Spelled (take n x)
   none_in_front n le none m within s =
       let short : m ≤ n = omega (arith, within, length_front n x le) in
       none m (omega (arith, short, le)) (subst Spelled (take-take m n x short) s)
@@ -32,7 +32,7 @@ module _ (Spelled : List ℕ → Type 0) (x : List ℕ) where
   none_longer : (place : ℕ) → IsBadAt Spelled x place → ¬ IsPrefix Spelled (take (place + 1) x)
   none_longer place bad p = bad.longest (place + 1) (omega arith) (omega (arith, bad.within)) p
 
--- a front of what begins an input begins it
+-- a prefix of a prefix of an input is one
 shorter : (bytes : List ℕ) (n : ℕ) → IsPrefix IsInput bytes → IsPrefix IsInput (take n bytes)
 shorter bytes n p = record {
   more = drop n bytes ++ p.more;
@@ -42,8 +42,8 @@ shorter bytes n p = record {
 -- ---- a feed that finds a wrong byte
 
 module _ (rs : List PlainRequest) (held : List ℕ) where
-  front_behind : (n : ℕ) → take (length (greeting ++ spell_all rs) + n) (behind rs held) ≡ behind rs (take n held)
-  front_behind n =
+  prefix_behind : (n : ℕ) → take (length (greeting ++ spell_all rs) + n) (behind rs held) ≡ behind rs (take n held)
+  prefix_behind n =
       ap (take (length (greeting ++ spell_all rs) + n)) (sym (append_assoc greeting (spell_all rs) held)) ∙ take-append-add (greeting ++ spell_all rs) held n
       ∙ append_assoc greeting (spell_all rs) (take n held)
 
@@ -53,12 +53,12 @@ module _ (rs : List PlainRequest) (held : List ℕ) where
       let more : place + 1 ≤ length held = omega (arith, bad.within) in
       record {
         within = omega (arith, bad.within, length-append greeting (spell_all rs ++ held), length-append (spell_all rs) held, length-append greeting (spell_all rs));
-        front = subst (IsPrefix IsInput) (sym (front_behind place)) (front_made rs valid (take place held) quitless bad.front);
-        goes_on = λ q. quit_none rs valid (take place held) (none_in_front IsSpelled held place le bad.none) quitless (subst IsQuitInput (front_behind place) q);
+        prefix = subst (IsPrefix IsInput) (sym (prefix_behind place)) (prefix_made rs valid (take place held) quitless bad.prefix);
+        goes_on = λ q. quit_none rs valid (take place held) (none_in_front IsSpelled held place le bad.none) quitless (subst IsQuitInput (prefix_behind place) q);
         longest = λ p.
             let e : length (greeting ++ spell_all rs) + place + 1 ≡ length (greeting ++ spell_all rs) + (place + 1) = omega arith in
-            let p' : IsPrefix IsInput (behind rs (take (place + 1) held)) = subst (IsPrefix IsInput) (ap (λ (k : ℕ). take k (behind rs held)) e ∙ front_behind (place + 1)) p in
-            none_longer IsSpelled held place bad (front_told rs valid (take (place + 1) held) (none_in_front IsSpelled held (place + 1) more bad.none) (some_front place held bad.within) p');
+            let p' : IsPrefix IsInput (behind rs (take (place + 1) held)) = subst (IsPrefix IsInput) (ap (λ (k : ℕ). take k (behind rs held)) e ∙ prefix_behind (place + 1)) p in
+            none_longer IsSpelled held place bad (prefix_told rs valid (take (place + 1) held) (none_in_front IsSpelled held (place + 1) more bad.none) (some_prefix place held bad.within) p');
       }
 
 bad_greeting : (held : List ℕ) (place : ℕ) → IsBadAt IsGreeting held place → IsMalformedAt held place
@@ -67,7 +67,7 @@ bad_greeting held place bad =
     let more : place + 1 ≤ length held = omega (arith, bad.within) in
     record {
       within = bad.within;
-      front = greeting_made (take place held) bad.front;
+      prefix = greeting_made (take place held) bad.prefix;
       goes_on = λ q. ungreeted (take place held) (none_in_front IsGreeting held place le bad.none) q.requests q.input;
       longest = λ p. none_longer IsGreeting held place bad (greeting_told (take (place + 1) held) (none_in_front IsGreeting held (place + 1) more bad.none) p);
     }
@@ -91,8 +91,8 @@ wrong_is_malformed stream rs feed after at h quitless short w =
 
 -- ---- inputs
 
-pub fronts_are_right : FrontsAreRight
-fronts_are_right bytes k p m = m.longest (shorter bytes (k + 1) p)
+pub prefixes_are_right : PrefixesAreRight
+prefixes_are_right bytes k p m = m.longest (shorter bytes (k + 1) p)
 
 none_behind_quit : (rs ts : List PlainRequest) → EndsInQuit rs → QuitsLast (rs ++ ts) → ts ≡ []
 none_behind_quit [] ts e h = absurd e
@@ -120,17 +120,17 @@ quit_ends_judging bytes rest k q m =
       | inr le ↦
           let place : k ≡ length bytes + (k - length bytes) = omega (arith, le) in
           let e : take k (bytes ++ rest) ≡ bytes ++ take (k - length bytes) rest = ap (λ (n : ℕ). take n (bytes ++ rest)) place ∙ take-append-add bytes rest (k - length bytes) in
-          let none : take (k - length bytes) rest ≡ [] = none_behind bytes (take (k - length bytes) rest) q (subst (IsPrefix IsInput) e m.front) in
+          let none : take (k - length bytes) rest ≡ [] = none_behind bytes (take (k - length bytes) rest) q (subst (IsPrefix IsInput) e m.prefix) in
           m.goes_on (subst IsQuitInput (sym (e ∙ ap (λ (ds : List ℕ). bytes ++ ds) none ∙ append-nil bytes)) q)
     ]
 
 pub inputs_are_right : InputsAreRight
-inputs_are_right = (fronts_are_right, quit_ends_judging)
+inputs_are_right = (prefixes_are_right, quit_ends_judging)
 
 -- ---- one place
 
 not_earlier : (bytes : List ℕ) (j k : ℕ) → IsMalformedAt bytes j → IsMalformedAt bytes k → j < k → ⊥
-not_earlier bytes j k m n lt = m.longest (subst (IsPrefix IsInput) (take-take (j + 1) k bytes (omega (arith, lt))) (shorter (take k bytes) (j + 1) n.front))
+not_earlier bytes j k m n lt = m.longest (subst (IsPrefix IsInput) (take-take (j + 1) k bytes (omega (arith, lt))) (shorter (take k bytes) (j + 1) n.prefix))
 
 pub one_fault : OneFault
 one_fault bytes j k m n =
@@ -143,4 +143,4 @@ one_fault bytes j k m n =
     ]
 
 -- the laws of inputs, for a search
-pub ruleset input_laws = (wrong_is_malformed, waiting_is_open, waiting_is_truncated, given_is_input, fronts_are_right, quit_ends_judging, one_fault)
+pub ruleset input_laws = (wrong_is_malformed, waiting_is_open, waiting_is_truncated, given_is_input, prefixes_are_right, quit_ends_judging, one_fault)

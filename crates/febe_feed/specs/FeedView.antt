@@ -1,16 +1,12 @@
 -- What a feed holds, and what it gives.
 use Rattle.std.specs.Prelude.{◌≡◌, ℕ, ◌+◌, ◌-◌, ◌^◌, min, Bool, true, false, List, ◌++◌, drop}
 use Rattle.febe_data.specs.Plain.{plain_request, PlainRequest}
-use Rattle.febe_fields.specs.Prefixes.{IsUnfinished, IsBadAt}
+use Rattle.febe_fields.specs.Prefixes.{HasNoSpelledPrefix, IsUnfinished, IsBadAt}
 use Rattle.febe_wire.specs.Grammar.{IsSpelled}
 use Rattle.febe_wire.specs.Reads.{IsRead}
 use Rattle.febe_wire.specs.Sessions.{greeting}
 use Rattle.febe_feed.specs.declared.feed.Next.{Next}
-use Rattle.febe_feed.specs.declared.feed.Next.TheVariants as nexts
-
--- bytes that are held
-pub record HeldView : Type 0 where
-  pub bytes : List ℕ
+use Rattle.febe_feed.specs.declared.feed.Next.TheVariants as next_answers
 
 -- whether the greeting was given out, the bytes held, and the place in the stream of the first of them
 pub record FeedView : Type 0 where
@@ -22,6 +18,10 @@ pub record FeedView : Type 0 where
 abbrev pub later : ℕ → ℕ → ℕ
 later offset n = min (offset + n) (2 ^ 64 - 1)
 
+-- the feed with a piece of the stream added
+abbrev pub with_piece : FeedView → List ℕ → FeedView
+with_piece feed piece = record { greeted = feed.greeted; held = feed.held ++ piece; offset = feed.offset }
+
 -- the greeting and nothing else
 abbrev pub IsGreeting : List ℕ → Type 0
 IsGreeting bytes = bytes ≡ greeting
@@ -31,15 +31,19 @@ abbrev pub Awaited : Bool → List ℕ → Type 0
 Awaited false bytes = IsGreeting bytes
 Awaited true bytes = IsSpelled bytes
 
--- the greeting stands in front, and is given out
+-- no prefix of the bytes held is what is awaited: the feed has given all that it can
+abbrev pub HasGivenAll : FeedView → Type 0
+HasGivenAll feed = HasNoSpelledPrefix (Awaited feed.greeted) feed.held
+
+-- the greeting is a prefix of the bytes held, and is given out
 pub record Greets (before after : FeedView) : Type 0 where
   pub first : before.greeted ≡ false
-  pub front : before.held ≡ greeting ++ after.held
+  pub prefix : before.held ≡ greeting ++ after.held
   pub greeted : after.greeted ≡ true
   pub offset : after.offset ≡ later before.offset 3
 
--- a request stands in front, and is given out
-pub record Gives (before after : FeedView) (request : PlainRequest) : Type 0 where
+-- a request is spelled by a prefix of the bytes held, and is given out
+pub record GivesRequest (before after : FeedView) (request : PlainRequest) : Type 0 where
   pub greeted : before.greeted ≡ true
   pub used : ℕ
   pub read : IsRead before.held request used
@@ -52,14 +56,14 @@ pub record IsWrong (before after : FeedView) (at : ℕ) : Type 0 where
   pub bad : IsBadAt (Awaited before.greeted) before.held place
   pub at_is : at ≡ later before.offset place
 
--- not yet: the bytes held are a proper front of what is awaited
+-- not yet: the bytes held are a proper prefix of what is awaited
 pub record Waits (before after : FeedView) : Type 0 where
   pub stays : after ≡ before
-  pub front : IsUnfinished (Awaited before.greeted) before.held
+  pub prefix : IsUnfinished (Awaited before.greeted) before.held
 
 -- what comes next is so
 abbrev pub IsNext : FeedView → FeedView → Next → Type 0
-IsNext before after nexts.Greeting = Greets before after
-IsNext before after (nexts.Request request) = Gives before after (plain_request request)
-IsNext before after nexts.NotYet = Waits before after
-IsNext before after (nexts.Bad at) = IsWrong before after at
+IsNext before after next_answers.Greeting = Greets before after
+IsNext before after (next_answers.Request request) = GivesRequest before after (plain_request request)
+IsNext before after next_answers.NotYet = Waits before after
+IsNext before after (next_answers.Bad at) = IsWrong before after at

@@ -11,9 +11,9 @@ use Rattle.febe_feed.specs.Pieces.{HasGiven}
 abbrev pub NoQuits : List PlainRequest → Type 0
 NoQuits requests = AllByRecursion (λ r. r ≢ quit) requests
 
--- the bytes begin some session's input, which no quit has ended
+-- the bytes are a prefix of some session's input, which no quit has ended
 pub record IsOpenInput (bytes : List ℕ) : Type 0 where
-  pub front : IsPrefix IsInput bytes
+  pub prefix : IsPrefix IsInput bytes
   pub no_quit : ¬ IsQuitInput bytes
 
 -- Where a feed that gave no quit finds a wrong byte, the stream is malformed there. The stream is short enough
@@ -22,7 +22,7 @@ abbrev pub WrongIsMalformed : Type 0
 WrongIsMalformed = (stream : List ℕ) (requests : List PlainRequest) (before after : FeedView) (at : ℕ) → HasGiven stream requests before → NoQuits requests → length stream < 2 ^ 64
     → IsWrong before after at → IsMalformedAt stream at
 
--- where a feed that gave no quit waits, the stream begins some session's input, which no quit has ended
+-- where a feed that gave no quit waits, the stream is a prefix of some session's input, which no quit has ended
 abbrev pub WaitingIsOpen : Type 0
 WaitingIsOpen = (stream : List ℕ) (requests : List PlainRequest) (feed after : FeedView) → HasGiven stream requests feed → NoQuits requests → Waits feed after → IsOpenInput stream
 
@@ -36,9 +36,9 @@ abbrev pub GivenIsInput : Type 0
 GivenIsInput = (stream : List ℕ) (requests : List PlainRequest) (feed : FeedView) → HasGiven stream requests feed → QuitsLast requests → feed.greeted ≡ true → feed.held ≡ []
     → IsInputOf requests stream
 
--- what begins some session's input is malformed nowhere
-abbrev pub FrontsAreRight : Type 0
-FrontsAreRight = (bytes : List ℕ) (k : ℕ) → IsPrefix IsInput bytes → ¬ IsMalformedAt bytes k
+-- a prefix of some session's input is malformed nowhere
+abbrev pub PrefixesAreRight : Type 0
+PrefixesAreRight = (bytes : List ℕ) (k : ℕ) → IsPrefix IsInput bytes → ¬ IsMalformedAt bytes k
 
 -- an input that ends in a quit is malformed nowhere, whatever bytes come behind it
 abbrev pub QuitEndsJudging : Type 0
@@ -46,7 +46,7 @@ QuitEndsJudging = (bytes rest : List ℕ) (k : ℕ) → IsQuitInput bytes → ¬
 
 -- both of these
 abbrev pub InputsAreRight : Type 0
-InputsAreRight = FrontsAreRight × QuitEndsJudging
+InputsAreRight = PrefixesAreRight × QuitEndsJudging
 
 -- bytes are malformed at one place at most
 abbrev pub OneFault : Type 0

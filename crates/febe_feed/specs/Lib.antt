@@ -4,7 +4,6 @@ pub use Rattle.febe_wire.specs.Reads
 pub use Rattle.febe_wire.specs.Sessions
 pub use Rattle.febe_fields.specs.Prefixes
 pub mod FeedView
-pub mod IsFeed
-pub mod Greetings
 pub mod Pieces
 pub mod Inputs
+pub mod inside

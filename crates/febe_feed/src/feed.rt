@@ -15,7 +15,7 @@ pub enum Next {
     /// The greeting, which is first.
     Greeting,
     Request(Request),
-    /// The bytes held are a front of what is awaited, or none.
+    /// The bytes held are a proper prefix of what is awaited; there may be none.
     NotYet,
     /// The byte at this offset in the stream can't stand there.
     Bad { at: u64 },
@@ -40,7 +40,7 @@ pub struct Feed {
 
 impl Model for Feed {
     ghost use Rattle.febe_feed.specs.FeedView.{FeedView};
-    ghost use Rattle.febe_feed.specs.IsFeed.{IsFeed};
+    ghost use Rattle.febe_feed.specs.inside.IsFeed.{IsFeed};
 
     ghost Value = { FeedView };
 
@@ -50,8 +50,8 @@ impl Model for Feed {
 }
 
 impl Feed {
-    ghost use Rattle.febe_feed.specs.FeedView.{FeedView, IsNext, later};
-    ghost use Rattle.febe_fields.specs.Prefixes.{BeginsWith};
+    ghost use Rattle.febe_feed.specs.FeedView.{FeedView, IsNext, later, with_piece};
+    ghost use Rattle.febe_fields.specs.Prefixes.{HasSpelledPrefix};
     ghost use Rattle.febe_wire.specs.Grammar.{IsSpelled};
 
     /// A stream of which nothing has come. It takes no memory.
@@ -84,7 +84,7 @@ impl Feed {
 
     /// Adds a piece of the stream. Refused, all is as it was.
     pub fn push(&mut self, alloc: Global, piece: &[u8]) -> Result<(), Memory>
-        ensures ok { OnOk result (self.new ≡ record { greeted = self.old.greeted; held = self.old.held ++ piece.now; offset = self.old.offset }) }
+        ensures ok { OnOk result (self.new ≡ with_piece self.old piece.now) }
         ensures err { OnErr result (self.new ≡ self.old) }
     {
         self.held.push(alloc, piece)
@@ -148,7 +148,7 @@ impl Feed {
     /// Reads the request that the first bytes spell, and lets them go.
     fn take_request(&mut self, alloc: Global, used: usize) -> Result<Next, Memory>
         requires greeted { self.old.greeted ≡ true }
-        requires scanned { BeginsWith IsSpelled self.old.held used }
+        requires scanned { HasSpelledPrefix IsSpelled self.old.held used }
         ensures next { IfOk result (λ next. IsNext self.old self.new next) }
         ensures err { OnErr result (self.new ≡ self.old) }
     {

@@ -1,14 +1,14 @@
 //! The greeting that a session begins with.
 ghost use Rattle.std.specs.Prelude.{◌≡◌};
 ghost use Rattle.febe_fields.specs.Scanning.{scan};
-ghost use Rattle.febe_feed.specs.Greetings.{greeting_step, all_of_it};
+ghost use Rattle.febe_feed.specs.inside.Greetings.{greeting_step, all_of_it};
 
 use febe_fields::Scanned;
 
 /// How many bytes the greeting has.
 pub(crate) const GREETING_LENGTH: usize = 3;
 
-/// Whether the bytes begin with the greeting `P0~`, or are a front of it, or where they are not.
+/// Whether the greeting `P0~` is a prefix of the bytes, or they are a proper prefix of it, or where they are neither.
 #[tactic(auto, unfolding(febe_fields::specs::Scanning::scan))]
 pub(crate) fn scan_greeting(bytes: &[u8]) -> Scanned
     ensures { result ≡ scan greeting_step all_of_it bytes.now }

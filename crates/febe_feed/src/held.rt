@@ -15,7 +15,7 @@ pub(crate) struct Held {
 
 impl Model for Held {
     ghost use Rattle.std.specs.Prelude.{◌≤◌, length, drop};
-    ghost use Rattle.febe_feed.specs.FeedView.{HeldView};
+    ghost use Rattle.febe_feed.specs.inside.HeldView.{HeldView};
 
     ghost Value = { HeldView };
 
@@ -68,11 +68,11 @@ impl Held {
 }
 
 /// One list of the bytes of both.
-fn joined(alloc: Global, front: &[u8], back: &[u8]) -> Result<Text, Memory>
-    ensures { IfOk result (λ text. text.items ≡ front.now ++ back.now) }
+fn joined(alloc: Global, prefix: &[u8], back: &[u8]) -> Result<Text, Memory>
+    ensures { IfOk result (λ text. text.items ≡ prefix.now ++ back.now) }
 {
     let mut joined = List::new(alloc);
-    joined.extend_from_slice(front)?;
+    joined.extend_from_slice(prefix)?;
     joined.extend_from_slice(back)?;
     Ok(joined)
 }

@@ -12,7 +12,7 @@ use Rattle.tumbler.specs.Places.{IsTumbler}
 use Rattle.febe_data.specs.Plain.{PlainSpec}
 use Rattle.febe_data.specs.Spelling.{spell_number, spell_tumbler, spell_text, spell_span, spell_spec, spell_list}
 use Rattle.febe_data.specs.Validity.{IsText, IsSpan, IsSpec, spans_in_all}
-use Rattle.febe_fields.specs.declared.leaf.End.TheVariants.{Tilde, Colon}
+use Rattle.febe_fields.specs.declared.leaf.Terminator.TheVariants.{Tilde, Colon}
 use Rattle.febe_fields.specs.declared.leaf.Leaf.TheVariants.{Byte, ZeroCount, Text, Choice}
 use Rattle.febe_fields.specs.declared.scanner.Field.{Field}
 use Rattle.febe_fields.specs.declared.scanner.Role.TheVariants as roles

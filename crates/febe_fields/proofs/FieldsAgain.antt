@@ -10,16 +10,16 @@ use Rattle.tumbler.specs.Places.{IsTumbler}
 use Rattle.febe_data.specs.declared.access.Mode.TheVariants as modes
 use Rattle.febe_data.specs.declared.access.Rule.TheVariants as rules
 use Rattle.febe_data.specs.Plain.{PlainSpec}
-use Rattle.febe_data.specs.Spelling.{spell_number, spell_tumbler, spell_text, spell_span, spell_spec, spell_list, spell_part}
-use Rattle.febe_data.specs.Validity.{IsText, IsSpan, IsSpec, IsPart, spans_in_all}
-use Rattle.febe_fields.specs.declared.leaf.End.TheVariants.{Tilde, Colon}
+use Rattle.febe_data.specs.Spelling.{spell_number, spell_tumbler, spell_text, spell_span, spell_spec, spell_list, spell_value}
+use Rattle.febe_data.specs.Validity.{IsText, IsSpan, IsSpec, IsFieldValue, spans_in_all}
+use Rattle.febe_fields.specs.declared.leaf.Terminator.TheVariants.{Tilde, Colon}
 use Rattle.febe_fields.specs.declared.leaf.Leaf.TheVariants.{Byte, First, ZeroCount, Text, Choice}
 use Rattle.febe_fields.specs.declared.scanner.Field.{Field}
 use Rattle.febe_fields.specs.declared.scanner.Field.TheVariants as fields
 use Rattle.febe_fields.specs.declared.scanner.Role.{Role}
 use Rattle.febe_fields.specs.declared.scanner.Role.TheVariants as roles
 use Rattle.febe_fields.specs.Machine.{field_step, fields_next, what_next, opened}
-use Rattle.febe_fields.specs.Fields.{ValueOf, part_of, ValuesOf, parts_of, SpellsFields, takes, follows}
+use Rattle.febe_fields.specs.Fields.{ValueOf, field_value, ValuesOf, field_values, SpellsFields, takes, follows}
 use Rattle.febe_fields.proofs.NumberScans.{at_leaf, behind_leaf, taken_step, byte_again, number_again}
 use Rattle.febe_fields.proofs.TumblersAgain.{tumbler_again}
 use Rattle.febe_fields.proofs.FieldScans.{spans_counted}
@@ -120,7 +120,7 @@ specs_again others behind ended (spec ∷ specs) room are few word =
 
 -- ---- all fields
 
-pub field_again : (field : Field) (others : List Field) (behind : List ℕ) → follows field_step (fields_next others) behind → (value : ValueOf field) → IsPart (part_of field value) → takes field_step (opened field others) (spell_part (part_of field value) ++ behind)
+pub field_again : (field : Field) (others : List Field) (behind : List ℕ) → follows field_step (fields_next others) behind → (value : ValueOf field) → IsFieldValue (field_value field value) → takes field_step (opened field others) (spell_value (field_value field value) ++ behind)
 unfolding digits
 field_again fields.Tumbler others behind ended value h = tumbler_again roles.Value 0 0 0 others behind ended value h
 field_again fields.Number others behind ended value h = spelled_number_again roles.Value 0 0 0 others value 4294967295 behind (omega (arith, h)) (omega arith) ended
@@ -145,9 +145,9 @@ field_again fields.Rule others behind ended rules.Refuse h = taken_step roles.Va
 field_again fields.Rule others behind ended rules.Copy h = taken_step roles.Value 0 0 0 others (Choice 2) 50 (126 ∷ behind) (byte_again roles.Value 0 0 0 others 126 behind ended)
 field_again fields.Rule others behind ended rules.Always h = taken_step roles.Value 0 0 0 others (Choice 2) 51 (126 ∷ behind) (byte_again roles.Value 0 0 0 others 126 behind ended)
 
-pub fields_again : (others : List Field) (values : ValuesOf others) → AllByRecursion IsPart (parts_of others values) → follows field_step (fields_next others) (flat_map spell_part (parts_of others values))
+pub fields_again : (others : List Field) (values : ValuesOf others) → AllByRecursion IsFieldValue (field_values others values) → follows field_step (fields_next others) (flat_map spell_value (field_values others values))
 fields_again [] values h = refl
-fields_again (field ∷ others) values h = field_again field others (flat_map spell_part (parts_of others values.1)) (fields_again others values.1 h.1) values.0 h.0
+fields_again (field ∷ others) values h = field_again field others (flat_map spell_value (field_values others values.1)) (fields_again others values.1 h.1) values.0 h.0
 
 -- the same, for bytes that spell fields
 pub fields_taken : (others : List Field) (bytes : List ℕ) → SpellsFields others bytes → follows field_step (fields_next others) bytes

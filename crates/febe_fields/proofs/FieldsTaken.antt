@@ -7,14 +7,14 @@ use Rattle.febe_data.specs.declared.access.Mode.TheVariants as modes
 use Rattle.febe_data.specs.declared.access.Rule.{Rule}
 use Rattle.febe_data.specs.declared.access.Rule.TheVariants as rules
 use Rattle.febe_data.specs.Access.{mode_number, rule_number}
-use Rattle.febe_data.specs.Spelling.{spell_number, spell_tumbler, spell_span, spell_spec, spell_part}
-use Rattle.febe_data.specs.Validity.{IsPart}
-use Rattle.febe_fields.specs.declared.leaf.End.TheVariants.{Tilde}
+use Rattle.febe_data.specs.Spelling.{spell_number, spell_tumbler, spell_span, spell_spec, spell_value}
+use Rattle.febe_data.specs.Validity.{IsFieldValue}
+use Rattle.febe_fields.specs.declared.leaf.Terminator.TheVariants.{Tilde}
 use Rattle.febe_fields.specs.declared.scanner.Field.{Field}
 use Rattle.febe_fields.specs.declared.scanner.Field.TheVariants as fields
 use Rattle.febe_fields.specs.declared.scanner.Role.TheVariants as roles
 use Rattle.febe_fields.specs.Machine.{field_step, fields_next, opened}
-use Rattle.febe_fields.specs.Fields.{ValueOf, part_of, SpellsFields, takes, follows}
+use Rattle.febe_fields.specs.Fields.{ValueOf, field_value, SpellsFields, takes, follows}
 use Rattle.febe_fields.proofs.NumberScans.{number_takes}
 use Rattle.febe_fields.proofs.TumblerScans.{tumbler_takes}
 use Rattle.febe_fields.proofs.FieldScans.{text_takes, tumblers_take, spans_take, spec_takes, specs_take, choice_takes}
@@ -23,8 +23,8 @@ use Rattle.febe_fields.proofs.FieldScans.{text_takes, tumblers_take, spans_take,
 pub record TakesField (field : Field) (others : List Field) (bytes : List ℕ) : Type 0 where
   pub value : ValueOf field
   pub behind : List ℕ
-  pub valid : IsPart (part_of field value)
-  pub spelled : bytes ≡ spell_part (part_of field value) ++ behind
+  pub valid : IsFieldValue (field_value field value)
+  pub spelled : bytes ≡ spell_value (field_value field value) ++ behind
   pub ended : follows field_step (fields_next others) behind
 
 number_joined : (bytes behind : List ℕ) (n : ℕ) → bytes ≡ decimal n ++ 126 ∷ behind → bytes ≡ spell_number n ++ behind
@@ -38,19 +38,19 @@ span_joined : (bytes start after width behind : List ℕ) → bytes ≡ spell_tu
 span_joined bytes start after width behind e f = e ∙ ap (λ (ds : List ℕ). spell_tumbler start ++ ds) f ∙ sym (append_assoc (spell_tumbler start) (spell_tumbler width) behind)
 
 -- the mode of a number
-mode_of : (n : ℕ) → 1 ≤ n → n ≤ 1 + 1 → (mode : Mode) × (mode_number mode ≡ n)
-mode_of zero low high = absurd (omega arith)
-mode_of (suc zero) low high = (modes.Read, refl)
-mode_of (suc (suc zero)) low high = (modes.Write, refl)
-mode_of (suc (suc (suc n))) low high = absurd (omega arith)
+mode_with_number : (n : ℕ) → 1 ≤ n → n ≤ 1 + 1 → (mode : Mode) × (mode_number mode ≡ n)
+mode_with_number zero low high = absurd (omega arith)
+mode_with_number (suc zero) low high = (modes.Read, refl)
+mode_with_number (suc (suc zero)) low high = (modes.Write, refl)
+mode_with_number (suc (suc (suc n))) low high = absurd (omega arith)
 
 -- the rule of a number
-rule_of : (n : ℕ) → 1 ≤ n → n ≤ 2 + 1 → (rule : Rule) × (rule_number rule ≡ n)
-rule_of zero low high = absurd (omega arith)
-rule_of (suc zero) low high = (rules.Refuse, refl)
-rule_of (suc (suc zero)) low high = (rules.Copy, refl)
-rule_of (suc (suc (suc zero))) low high = (rules.Always, refl)
-rule_of (suc (suc (suc (suc n)))) low high = absurd (omega arith)
+rule_with_number : (n : ℕ) → 1 ≤ n → n ≤ 2 + 1 → (rule : Rule) × (rule_number rule ≡ n)
+rule_with_number zero low high = absurd (omega arith)
+rule_with_number (suc zero) low high = (rules.Refuse, refl)
+rule_with_number (suc (suc zero)) low high = (rules.Copy, refl)
+rule_with_number (suc (suc (suc zero))) low high = (rules.Always, refl)
+rule_with_number (suc (suc (suc (suc n)))) low high = absurd (omega arith)
 
 pub field_takes : (field : Field) (others : List Field) (bytes : List ℕ) → takes field_step (opened field others) bytes → TakesField field others bytes
 field_takes fields.Tumbler others bytes h =
@@ -113,11 +113,11 @@ field_takes fields.Specs others bytes h =
     }
 field_takes fields.Mode others bytes h =
     let t = choice_takes others 1 bytes h in
-    let m = mode_of t.number t.from_one t.bound in
+    let m = mode_with_number t.number t.from_one t.bound in
     record { value = m.0; behind = t.behind; valid = tt; spelled = subst (λ (k : ℕ). bytes ≡ spell_number k ++ t.behind) (sym m.1) t.spelled; ended = t.ended }
 field_takes fields.Rule others bytes h =
     let t = choice_takes others 2 bytes h in
-    let m = rule_of t.number t.from_one t.bound in
+    let m = rule_with_number t.number t.from_one t.bound in
     record { value = m.0; behind = t.behind; valid = tt; spelled = subst (λ (k : ℕ). bytes ≡ spell_number k ++ t.behind) (sym m.1) t.spelled; ended = t.ended }
 
 pub fields_take : (others : List Field) (bytes : List ℕ) → follows field_step (fields_next others) bytes → SpellsFields others bytes
@@ -128,5 +128,5 @@ fields_take (field ∷ others) bytes h =
     record {
       values = (t.value, on.values);
       valid = (t.valid, on.valid);
-      spelled = t.spelled ∙ ap (λ (ds : List ℕ). spell_part (part_of field t.value) ++ ds) on.spelled;
+      spelled = t.spelled ∙ ap (λ (ds : List ℕ). spell_value (field_value field t.value) ++ ds) on.spelled;
     }

@@ -7,24 +7,24 @@ use Rattle.std.proofs.lemmas.List.Elements.{All-nil}
 use Rattle.tumbler.specs.Places.{IsTumbler}
 use Rattle.febe_data.specs.declared.access.Mode.TheVariants as modes
 use Rattle.febe_data.specs.declared.access.Rule.TheVariants as rules
-use Rattle.febe_data.specs.Spelling.{spell_part}
-use Rattle.febe_data.specs.Validity.{IsSpan, IsSpec, IsPart}
-use Rattle.febe_fields.specs.declared.leaf.End.{End}
-use Rattle.febe_fields.specs.declared.leaf.End.TheVariants as ends
+use Rattle.febe_data.specs.Spelling.{spell_value}
+use Rattle.febe_data.specs.Validity.{IsSpan, IsSpec, IsFieldValue}
+use Rattle.febe_fields.specs.declared.leaf.Terminator.{Terminator}
+use Rattle.febe_fields.specs.declared.leaf.Terminator.TheVariants as terminators
 use Rattle.febe_fields.specs.declared.leaf.Leaf.{Leaf}
 use Rattle.febe_fields.specs.declared.leaf.Leaf.TheVariants as leaves
 use Rattle.febe_fields.specs.declared.scanner.Field.{Field}
 use Rattle.febe_fields.specs.declared.scanner.Field.TheVariants as fields
 use Rattle.febe_fields.specs.declared.scanner.Role.{Role}
 use Rattle.febe_fields.specs.declared.scanner.Role.TheVariants as roles
-use Rattle.febe_fields.specs.Leaves.{end_byte}
+use Rattle.febe_fields.specs.Leaves.{terminator_byte}
 use Rattle.febe_fields.specs.Machine.{field_step, fields_next, what_next}
-use Rattle.febe_fields.specs.Fields.{ValueOf, part_of, ValuesOf, parts_of, takes, follows, NeverStuck}
+use Rattle.febe_fields.specs.Fields.{ValueOf, field_value, ValuesOf, field_values, takes, follows, NeverStuck}
 use Rattle.febe_fields.proofs.NumberScans.{at_leaf, behind_leaf, taken_step, byte_again}
 use Rattle.febe_fields.proofs.FieldsAgain.{fields_again}
 
 -- a value for each field
-some_value : (field : Field) → (value : ValueOf field) × IsPart (part_of field value)
+some_value : (field : Field) → (value : ValueOf field) × IsFieldValue (field_value field value)
 some_value fields.Tumbler = ([], no_places) where
   no_places : IsTumbler []
   no_places = record { few = omega arith; small = All-nil (λ p. p < 4294967296); ends = λ e. refl }
@@ -42,7 +42,7 @@ some_value fields.Specs = ([], record { list = record { few = omega arith; each 
 some_value fields.Mode = (modes.Read, tt)
 some_value fields.Rule = (rules.Refuse, tt)
 
-some_values : (others : List Field) → (values : ValuesOf others) × AllByRecursion IsPart (parts_of others values)
+some_values : (others : List Field) → (values : ValuesOf others) × AllByRecursion IsFieldValue (field_values others values)
 some_values [] = (tt, tt)
 some_values (field ∷ others) =
     let this = some_value field in
@@ -52,16 +52,16 @@ some_values (field ∷ others) =
 pub fields_go_on : (others : List Field) → (bytes : List ℕ) × follows field_step (fields_next others) bytes
 fields_go_on others =
     let v = some_values others in
-    (flat_map spell_part (parts_of others v.0), fields_again others v.0 v.1)
+    (flat_map spell_value (field_values others v.0), fields_again others v.0 v.1)
 
 -- the tumbler without places, where one begins
 zero_tumbler : (role : Role) (tumblers specs room : ℕ) (others : List Field) (behind : List ℕ) → behind_leaf role tumblers specs room others 0 behind → takes field_step (at_leaf role tumblers specs room others leaves.ZeroCount) (48 ∷ 126 ∷ behind)
 zero_tumbler role tumblers specs room others behind h =
     taken_step role tumblers specs room others leaves.ZeroCount 48 (126 ∷ behind) (taken_step role tumblers specs room others leaves.NoZeros 126 behind h)
 
-zero_number : (role : Role) (tumblers specs room : ℕ) (others : List Field) (most : ℕ) (end : End) (behind : List ℕ) → behind_leaf role tumblers specs room others 0 behind → takes field_step (at_leaf role tumblers specs room others (leaves.First most end)) (48 ∷ end_byte end ∷ behind)
+zero_number : (role : Role) (tumblers specs room : ℕ) (others : List Field) (most : ℕ) (end : Terminator) (behind : List ℕ) → behind_leaf role tumblers specs room others 0 behind → takes field_step (at_leaf role tumblers specs room others (leaves.First most end)) (48 ∷ terminator_byte end ∷ behind)
 zero_number role tumblers specs room others most end behind h =
-    taken_step role tumblers specs room others (leaves.First most end) 48 (end_byte end ∷ behind) (byte_again role tumblers specs room others (end_byte end) behind h)
+    taken_step role tumblers specs room others (leaves.First most end) 48 (terminator_byte end ∷ behind) (byte_again role tumblers specs room others (terminator_byte end) behind h)
 
 specs_go_on : (specs room : ℕ) (others : List Field) → (bytes : List ℕ) × follows field_step (what_next 0 specs room others) bytes
 specs_go_on zero room others = fields_go_on others
@@ -69,7 +69,7 @@ specs_go_on (suc n) room others =
     let one : suc n - 1 ≡ n = omega arith in
     let some : 0 < suc n = omega arith in
     let on = specs_go_on n (room - 0) others in
-    (48 ∷ 126 ∷ 48 ∷ 126 ∷ on.0, rw (lt-ltb 0 (suc n) some, one) (zero_tumbler roles.Document 0 n room others (48 ∷ 126 ∷ on.0) (zero_number roles.CountOfSpecSpans 0 n room others room ends.Tilde on.0 on.1)))
+    (48 ∷ 126 ∷ 48 ∷ 126 ∷ on.0, rw (lt-ltb 0 (suc n) some, one) (zero_tumbler roles.Document 0 n room others (48 ∷ 126 ∷ on.0) (zero_number roles.CountOfSpecSpans 0 n room others room terminators.Tilde on.0 on.1)))
 
 next_goes_on : (tumblers specs room : ℕ) (others : List Field) → (bytes : List ℕ) × follows field_step (what_next tumblers specs room others) bytes
 next_goes_on zero specs room others = specs_go_on specs room others
@@ -102,14 +102,14 @@ role_goes_on : (role : Role) (n tumblers specs room : ℕ) (others : List Field)
 role_goes_on roles.Value n tumblers specs room others = next_goes_on tumblers specs room others
 role_goes_on roles.TextMark n tumblers specs room others =
     let on = length_goes_on 0 tumblers specs room others in
-    (48 ∷ 58 ∷ on.0, zero_number roles.TextLength tumblers specs room others 16777216 ends.Colon on.0 on.1)
+    (48 ∷ 58 ∷ on.0, zero_number roles.TextLength tumblers specs room others 16777216 terminators.Colon on.0 on.1)
 role_goes_on roles.TextLength n tumblers specs room others = length_goes_on n tumblers specs room others
 role_goes_on roles.CountOfTumblers n tumblers specs room others = next_goes_on n specs room others
 role_goes_on roles.CountOfSpans n tumblers specs room others = next_goes_on (n * 2) specs room others
 role_goes_on roles.CountOfSpecs n tumblers specs room others = next_goes_on tumblers n 65536 others
 role_goes_on roles.Document n tumblers specs room others =
     let on = specs_go_on specs (room - 0) others in
-    (48 ∷ 126 ∷ on.0, zero_number roles.CountOfSpecSpans tumblers specs room others room ends.Tilde on.0 on.1)
+    (48 ∷ 126 ∷ on.0, zero_number roles.CountOfSpecSpans tumblers specs room others room terminators.Tilde on.0 on.1)
 role_goes_on roles.CountOfSpecSpans n tumblers specs room others = next_goes_on (n * 2) specs (room - n) others
 
 -- no number is below 0
@@ -127,13 +127,13 @@ module _ (role : Role) (tumblers specs room : ℕ) (others : List Field) where
       (wanted ∷ on.0, byte_again role tumblers specs room others wanted on.0 on.1)
   leaf_goes_on (leaves.First most end) =
       let on = role_goes_on role 0 tumblers specs room others in
-      (48 ∷ end_byte end ∷ on.0, zero_number role tumblers specs room others most end on.0 on.1)
-  leaf_goes_on (leaves.Digits number most ends.Tilde) =
+      (48 ∷ terminator_byte end ∷ on.0, zero_number role tumblers specs room others most end on.0 on.1)
+  leaf_goes_on (leaves.Digits number most terminators.Tilde) =
       let on = role_goes_on role number tumblers specs room others in
-      (126 ∷ on.0, taken_step role tumblers specs room others (leaves.Digits number most ends.Tilde) 126 on.0 on.1)
-  leaf_goes_on (leaves.Digits number most ends.Colon) =
+      (126 ∷ on.0, taken_step role tumblers specs room others (leaves.Digits number most terminators.Tilde) 126 on.0 on.1)
+  leaf_goes_on (leaves.Digits number most terminators.Colon) =
       let on = role_goes_on role number tumblers specs room others in
-      (58 ∷ on.0, taken_step role tumblers specs room others (leaves.Digits number most ends.Colon) 58 on.0 on.1)
+      (58 ∷ on.0, taken_step role tumblers specs room others (leaves.Digits number most terminators.Colon) 58 on.0 on.1)
   leaf_goes_on (leaves.Choice more) =
       let on = role_goes_on role 0 tumblers specs room others in
       (49 ∷ 126 ∷ on.0, taken_step role tumblers specs room others (leaves.Choice more) 49 (126 ∷ on.0) (rw (none_over more) (byte_again role tumblers specs room others 126 on.0 on.1)))

@@ -7,59 +7,59 @@ use Rattle.std.proofs.lemmas.Bool.{ne_eqb, eq-eqb}
 use Rattle.febe_fields.specs.Reading.{◌>>=◌, after, digits_at, places_at, ends_well, all_places_at, tumbler_at}
 
 -- what was read before, and what is still read
-abbrev pub with_front : List ℕ → Option (List ℕ × List ℕ) → Option (List ℕ × List ℕ)
-with_front front read = read >>= λ x. Some (front ++ x.0, x.1)
+abbrev pub with_prefix : List ℕ → Option (List ℕ × List ℕ) → Option (List ℕ × List ℕ)
+with_prefix prefix read = read >>= λ x. Some (prefix ++ x.0, x.1)
 
-regroup : (front : List ℕ) (n : ℕ) (read : Option (List ℕ × List ℕ)) → with_front front (read >>= λ x. Some (n ∷ x.0, x.1)) ≡ with_front (front ++ n ∷ []) read
-regroup front n (Some x) = ap (λ (ns : List ℕ). Some (ns, x.1)) (simp append_assoc)
-regroup front n None = refl
+regroup : (prefix : List ℕ) (n : ℕ) (read : Option (List ℕ × List ℕ)) → with_prefix prefix (read >>= λ x. Some (n ∷ x.0, x.1)) ≡ with_prefix (prefix ++ n ∷ []) read
+regroup prefix n (Some x) = ap (λ (ns : List ℕ). Some (ns, x.1)) (simp append_assoc)
+regroup prefix n None = refl
 
-pub goes_on : (front : List ℕ) (room i : ℕ) (bytes : List ℕ) (n : ℕ) (behind : List ℕ) (total : Option (List ℕ × List ℕ)) → i < room → digits_at bytes ≡ Some (n, behind)
-    → with_front front (places_at (room - i) (46 ∷ bytes)) ≡ total → with_front (front ++ n ∷ []) (places_at (room - (i + 1)) behind) ≡ total
+pub goes_on : (prefix : List ℕ) (room i : ℕ) (bytes : List ℕ) (n : ℕ) (behind : List ℕ) (total : Option (List ℕ × List ℕ)) → i < room → digits_at bytes ≡ Some (n, behind)
+    → with_prefix prefix (places_at (room - i) (46 ∷ bytes)) ≡ total → with_prefix (prefix ++ n ∷ []) (places_at (room - (i + 1)) behind) ≡ total
 unfolding places_at
-goes_on front room i bytes n behind total lt h so_far =
+goes_on prefix room i bytes n behind total lt h so_far =
     let k : room - i ≡ suc (room - (i + 1)) = omega arith in
-    let one : with_front front (places_at (room - i) (46 ∷ bytes)) ≡ with_front (front ++ n ∷ []) (places_at (room - (i + 1)) behind) = rw (k, h) (regroup front n (places_at (room - (i + 1)) behind)) in
+    let one : with_prefix prefix (places_at (room - i) (46 ∷ bytes)) ≡ with_prefix (prefix ++ n ∷ []) (places_at (room - (i + 1)) behind) = rw (k, h) (regroup prefix n (places_at (room - (i + 1)) behind)) in
     sym one ∙ so_far
 
-pub fails : (front : List ℕ) (room i : ℕ) (bytes : List ℕ) (total : Option (List ℕ × List ℕ)) → i < room → digits_at bytes ≡ None
-    → with_front front (places_at (room - i) (46 ∷ bytes)) ≡ total → total ≡ None
+pub fails : (prefix : List ℕ) (room i : ℕ) (bytes : List ℕ) (total : Option (List ℕ × List ℕ)) → i < room → digits_at bytes ≡ None
+    → with_prefix prefix (places_at (room - i) (46 ∷ bytes)) ≡ total → total ≡ None
 unfolding places_at
-fails front room i bytes total lt h so_far =
+fails prefix room i bytes total lt h so_far =
     let k : room - i ≡ suc (room - (i + 1)) = omega arith in
-    let one : with_front front (places_at (room - i) (46 ∷ bytes)) ≡ None = rw (k, h) refl in
+    let one : with_prefix prefix (places_at (room - i) (46 ∷ bytes)) ≡ None = rw (k, h) refl in
     sym so_far ∙ one
 
-pub is_full : (front : List ℕ) (room i : ℕ) (bytes : List ℕ) (total : Option (List ℕ × List ℕ)) → room ≤ i → with_front front (places_at (room - i) bytes) ≡ total → total ≡ Some (front, bytes)
+pub is_full : (prefix : List ℕ) (room i : ℕ) (bytes : List ℕ) (total : Option (List ℕ × List ℕ)) → room ≤ i → with_prefix prefix (places_at (room - i) bytes) ≡ total → total ≡ Some (prefix, bytes)
 unfolding places_at
-is_full front room i bytes total le so_far =
+is_full prefix room i bytes total le so_far =
     let k : room - i ≡ 0 = omega arith in
-    let one : with_front front (places_at (room - i) bytes) ≡ Some (front, bytes) = rw k (ap (λ (ns : List ℕ). Some (ns, bytes)) (append-nil front)) in
+    let one : with_prefix prefix (places_at (room - i) bytes) ≡ Some (prefix, bytes) = rw k (ap (λ (ns : List ℕ). Some (ns, bytes)) (append-nil prefix)) in
     sym so_far ∙ one
 
-pub ends_early : (front : List ℕ) (room i : ℕ) (b : ℕ) (bytes : List ℕ) (total : Option (List ℕ × List ℕ)) → i < room → (b ≡ 46 → ⊥)
-    → with_front front (places_at (room - i) (b ∷ bytes)) ≡ total → total ≡ Some (front, b ∷ bytes)
+pub ends_early : (prefix : List ℕ) (room i : ℕ) (b : ℕ) (bytes : List ℕ) (total : Option (List ℕ × List ℕ)) → i < room → (b ≡ 46 → ⊥)
+    → with_prefix prefix (places_at (room - i) (b ∷ bytes)) ≡ total → total ≡ Some (prefix, b ∷ bytes)
 unfolding places_at
-ends_early front room i b bytes total lt other so_far =
+ends_early prefix room i b bytes total lt other so_far =
     let k : room - i ≡ suc (room - (i + 1)) = omega arith in
     let test = ne_eqb b 46 other in
-    let one : with_front front (places_at (room - i) (b ∷ bytes)) ≡ Some (front, b ∷ bytes) = rw (k, test) (ap (λ (ns : List ℕ). Some (ns, b ∷ bytes)) (append-nil front)) in
+    let one : with_prefix prefix (places_at (room - i) (b ∷ bytes)) ≡ Some (prefix, b ∷ bytes) = rw (k, test) (ap (λ (ns : List ℕ). Some (ns, b ∷ bytes)) (append-nil prefix)) in
     sym so_far ∙ one
 
-pub ends_all : (front : List ℕ) (room i : ℕ) (total : Option (List ℕ × List ℕ)) → i < room
-    → with_front front (places_at (room - i) []) ≡ total → total ≡ Some (front, [])
+pub ends_all : (prefix : List ℕ) (room i : ℕ) (total : Option (List ℕ × List ℕ)) → i < room
+    → with_prefix prefix (places_at (room - i) []) ≡ total → total ≡ Some (prefix, [])
 unfolding places_at
-ends_all front room i total lt so_far =
+ends_all prefix room i total lt so_far =
     let k : room - i ≡ suc (room - (i + 1)) = omega arith in
-    let one : with_front front (places_at (room - i) []) ≡ Some (front, []) = rw k (ap (λ (ns : List ℕ). Some (ns, [])) (append-nil front)) in
+    let one : with_prefix prefix (places_at (room - i) []) ≡ Some (prefix, []) = rw k (ap (λ (ns : List ℕ). Some (ns, [])) (append-nil prefix)) in
     sym so_far ∙ one
 
 -- one more place, as the code reads it
-pub goes_on_at : (front : List ℕ) (room i : ℕ) (rest : List ℕ) (n : ℕ) (behind : List ℕ) (total : Option (List ℕ × List ℕ)) → i < room → 1 ≤ length rest → get_or rest 0 0 ≡ 46
-    → digits_at (drop 1 rest) ≡ Some (n, behind) → with_front front (places_at (room - i) rest) ≡ total → with_front (front ++ n ∷ []) (places_at (room - (i + 1)) behind) ≡ total
-goes_on_at front room i [] n behind total lt long dot h so_far = absurd (omega arith)
-goes_on_at front room i (b ∷ rest) n behind total lt long dot h so_far =
-    goes_on front room i rest n behind total lt h (subst (λ (d : ℕ). with_front front (places_at (room - i) (d ∷ rest)) ≡ total) dot so_far)
+pub goes_on_at : (prefix : List ℕ) (room i : ℕ) (rest : List ℕ) (n : ℕ) (behind : List ℕ) (total : Option (List ℕ × List ℕ)) → i < room → 1 ≤ length rest → get_or rest 0 0 ≡ 46
+    → digits_at (drop 1 rest) ≡ Some (n, behind) → with_prefix prefix (places_at (room - i) rest) ≡ total → with_prefix (prefix ++ n ∷ []) (places_at (room - (i + 1)) behind) ≡ total
+goes_on_at prefix room i [] n behind total lt long dot h so_far = absurd (omega arith)
+goes_on_at prefix room i (b ∷ rest) n behind total lt long dot h so_far =
+    goes_on prefix room i rest n behind total lt h (subst (λ (d : ℕ). with_prefix prefix (places_at (room - i) (d ∷ rest)) ≡ total) dot so_far)
 
 or_is_false : (a b : Bool) → a ≡ false → b ≡ true → (a || not b) ≡ false
 or_is_false a b e f = rw (e, f) refl

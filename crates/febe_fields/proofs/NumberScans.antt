@@ -6,14 +6,14 @@ use Rattle.std.specs.Fmt.{decimal}
 use Rattle.std.proofs.lemmas.Bool.{cases_Bool, cases_lt, eqb-true, eqb-false, ne_eqb, eq-eqb, lt-ltb, le-ltb}
 use Rattle.std.proofs.lemmas.Bool.Decides.{nat_tests}
 use Rattle.std.proofs.lemmas.Fmt.{decimal_by_steps, decimal_digit, decimal_step}
-use Rattle.febe_fields.specs.declared.leaf.End.{End}
-use Rattle.febe_fields.specs.declared.leaf.End.TheVariants as ends
+use Rattle.febe_fields.specs.declared.leaf.Terminator.{Terminator}
+use Rattle.febe_fields.specs.declared.leaf.Terminator.TheVariants as terminators
 use Rattle.febe_fields.specs.declared.leaf.Leaf.{Leaf}
 use Rattle.febe_fields.specs.declared.leaf.Leaf.TheVariants.{Byte, First, Digits}
 use Rattle.febe_fields.specs.declared.scanner.Field.{Field}
 use Rattle.febe_fields.specs.declared.scanner.Role.{Role}
 use Rattle.febe_fields.specs.Machine.{State, role_ended, field_step}
-use Rattle.febe_fields.specs.Leaves.{end_byte}
+use Rattle.febe_fields.specs.Leaves.{terminator_byte}
 use Rattle.febe_fields.proofs.Scans.{takes_some, takes_one, one_taken}
 use Rattle.febe_fields.specs.Fields.{takes, follows}
 
@@ -59,14 +59,14 @@ module _ (role : Role) (tumblers specs room : ℕ) (fields : List Field) where
   -- ---- numbers
 
   -- a number and the byte that ends it, in front of what comes behind
-  pub record TakesNumber (most : ℕ) (end : End) (bytes : List ℕ) : Type 0 where
+  pub record TakesNumber (most : ℕ) (end : Terminator) (bytes : List ℕ) : Type 0 where
     pub number : ℕ
     pub behind : List ℕ
     pub bound : number ≤ most
-    pub spelled : bytes ≡ decimal number ++ end_byte end ∷ behind
+    pub spelled : bytes ≡ decimal number ++ terminator_byte end ∷ behind
     pub ended : behind_leaf number behind
 
-  digits_take : (n most : ℕ) (end : End) (bytes : List ℕ) → most < 4294967296 → 0 < n → n ≤ most → takes field_step (at_leaf (Digits n most end)) bytes → TakesNumber most end (decimal n ++ bytes)
+  digits_take : (n most : ℕ) (end : Terminator) (bytes : List ℕ) → most < 4294967296 → 0 < n → n ≤ most → takes field_step (at_leaf (Digits n most end)) bytes → TakesNumber most end (decimal n ++ bytes)
   digits_take n most end [] word some small h = absurd (takes_some field_step (at_leaf (Digits n most end)) h)
   digits_take n most end (b ∷ bytes) word some small h =
       let f = step_taken (Digits n most end) b bytes h in
@@ -84,7 +84,7 @@ module _ (role : Role) (tumblers specs room : ℕ) (fields : List Field) where
                 ended = ih.ended;
               }
         ]
-        | inr other ↦ elim (cases_Bool (b == end_byte end)) [
+        | inr other ↦ elim (cases_Bool (b == terminator_byte end)) [
           | inl is ↦ record {
             number = n;
             behind = bytes;
@@ -96,18 +96,18 @@ module _ (role : Role) (tumblers specs room : ℕ) (fields : List Field) where
         ]
       ]
 
-  pub number_takes : (most : ℕ) (end : End) (bytes : List ℕ) → most < 4294967296 → takes field_step (at_leaf (First most end)) bytes → TakesNumber most end bytes
+  pub number_takes : (most : ℕ) (end : Terminator) (bytes : List ℕ) → most < 4294967296 → takes field_step (at_leaf (First most end)) bytes → TakesNumber most end bytes
   number_takes most end [] word h = absurd (takes_some field_step (at_leaf (First most end)) h)
   number_takes most end (b ∷ bytes) word h =
       let f = step_taken (First most end) b bytes h in
       elim (cases_Bool (b == 48)) [
         | inl is_zero ↦
-            let ended = byte_takes (end_byte end) bytes (rw is_zero at f) in
+            let ended = byte_takes (terminator_byte end) bytes (rw is_zero at f) in
             record {
               number = 0;
               behind = ended.0;
               bound = omega arith;
-              spelled = zero_spelled b (end_byte end) bytes ended.0 (eqb-true _ _ is_zero) ended.1;
+              spelled = zero_spelled b (terminator_byte end) bytes ended.0 (eqb-true _ _ is_zero) ended.1;
               ended = ended.2;
             }
         | inr other ↦ elim (cases_Bool (is_ascii_digit b)) [
@@ -134,20 +134,20 @@ module _ (role : Role) (tumblers specs room : ℕ) (fields : List Field) where
         ]
       ]
 
-  first_digit_again : (n most : ℕ) (end : End) (behind : List ℕ) → n < 10 → 0 < n → n ≤ most → takes field_step (at_leaf (Digits n most end)) behind → takes field_step (at_leaf (First most end)) ((48 + n) ∷ behind)
+  first_digit_again : (n most : ℕ) (end : Terminator) (behind : List ℕ) → n < 10 → 0 < n → n ≤ most → takes field_step (at_leaf (Digits n most end)) behind → takes field_step (at_leaf (First most end)) ((48 + n) ∷ behind)
   first_digit_again n most end behind one some small h =
       let other : (48 + n == 48) ≡ false = ne_eqb _ _ (λ e. omega arith) in
       let digit : is_ascii_digit (48 + n) ≡ true = grind (arith, nat_tests) in
       let same : 0 * 10 + (48 + n - 48) ≡ n = omega arith in
       taken_step (First most end) (48 + n) behind (rw (other, digit, same, le-ltb _ _ small) h)
 
-  more_digits_again : (n most : ℕ) (end : End) (behind : List ℕ) → 10 ≤ n → n ≤ most → takes field_step (at_leaf (Digits n most end)) behind → takes field_step (at_leaf (Digits (n / 10) most end)) ((48 + n % 10) ∷ behind)
+  more_digits_again : (n most : ℕ) (end : Terminator) (behind : List ℕ) → 10 ≤ n → n ≤ most → takes field_step (at_leaf (Digits n most end)) behind → takes field_step (at_leaf (Digits (n / 10) most end)) ((48 + n % 10) ∷ behind)
   more_digits_again n most end behind big small h =
       let digit : is_ascii_digit (48 + n % 10) ≡ true = grind (arith, nat_tests) in
       let same : n / 10 * 10 + (48 + n % 10 - 48) ≡ n = omega arith in
       taken_step (Digits (n / 10) most end) (48 + n % 10) behind (rw (digit, same, le-ltb _ _ small) h)
 
-  digits_again : (n most : ℕ) (end : End) → 0 < n → n ≤ most → most < 4294967296 → (behind : List ℕ) → takes field_step (at_leaf (Digits n most end)) behind → takes field_step (at_leaf (First most end)) (decimal n ++ behind)
+  digits_again : (n most : ℕ) (end : Terminator) → 0 < n → n ≤ most → most < 4294967296 → (behind : List ℕ) → takes field_step (at_leaf (Digits n most end)) behind → takes field_step (at_leaf (First most end)) (decimal n ++ behind)
   digits_again n most end some small word =
       decimal_by_steps (λ n ds. 0 < n → n ≤ most → (behind : List ℕ) → takes field_step (at_leaf (Digits n most end)) behind → takes field_step (at_leaf (First most end)) (ds ++ behind))
       (λ n one some small behind h. first_digit_again n most end behind one some small h)
@@ -155,11 +155,11 @@ module _ (role : Role) (tumblers specs room : ℕ) (fields : List Field) where
       subst (takes field_step (at_leaf (First most end))) (sym (append_assoc ds ((48 + n % 10) ∷ []) behind)) (below (omega arith) (omega arith) ((48 + n % 10) ∷ behind) (more_digits_again n most end behind big small h)))
       n (omega arith) some small
 
-  digits_end_again : (n most : ℕ) (end : End) (behind : List ℕ) → behind_leaf n behind → takes field_step (at_leaf (Digits n most end)) (end_byte end ∷ behind)
-  digits_end_again n most ends.Tilde behind h = taken_step (Digits n most ends.Tilde) 126 behind h
-  digits_end_again n most ends.Colon behind h = taken_step (Digits n most ends.Colon) 58 behind h
+  digits_end_again : (n most : ℕ) (end : Terminator) (behind : List ℕ) → behind_leaf n behind → takes field_step (at_leaf (Digits n most end)) (terminator_byte end ∷ behind)
+  digits_end_again n most terminators.Tilde behind h = taken_step (Digits n most terminators.Tilde) 126 behind h
+  digits_end_again n most terminators.Colon behind h = taken_step (Digits n most terminators.Colon) 58 behind h
 
   -- each number up to the bound is taken
-  pub number_again : (n most : ℕ) (end : End) (behind : List ℕ) → n ≤ most → most < 4294967296 → behind_leaf n behind → takes field_step (at_leaf (First most end)) (decimal n ++ end_byte end ∷ behind)
-  number_again zero most end behind small word h = subst (λ (ds : List ℕ). takes field_step (at_leaf (First most end)) (ds ++ end_byte end ∷ behind)) (sym (decimal_digit 0 (omega arith))) (taken_step (First most end) 48 (end_byte end ∷ behind) (byte_again (end_byte end) behind h))
-  number_again (suc n) most end behind small word h = digits_again (suc n) most end (omega arith) small word (end_byte end ∷ behind) (digits_end_again (suc n) most end behind h)
+  pub number_again : (n most : ℕ) (end : Terminator) (behind : List ℕ) → n ≤ most → most < 4294967296 → behind_leaf n behind → takes field_step (at_leaf (First most end)) (decimal n ++ terminator_byte end ∷ behind)
+  number_again zero most end behind small word h = subst (λ (ds : List ℕ). takes field_step (at_leaf (First most end)) (ds ++ terminator_byte end ∷ behind)) (sym (decimal_digit 0 (omega arith))) (taken_step (First most end) 48 (terminator_byte end ∷ behind) (byte_again (terminator_byte end) behind h))
+  number_again (suc n) most end behind small word h = digits_again (suc n) most end (omega arith) small word (terminator_byte end ∷ behind) (digits_end_again (suc n) most end behind h)

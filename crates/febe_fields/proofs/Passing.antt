@@ -84,10 +84,10 @@ whole_ends total r k e f = sym (e ∙ ap (behind k) f)
 pub whole_goes : (total r one left : Scanned) (k m n : ℕ) → total ≡ behind k r → r ≡ behind 1 one → one ≡ behind m left → n ≡ k + 1 + m → total ≡ behind n left
 whole_goes total r one left k m n e f g h = e ∙ ap (behind k) (f ∙ ap (behind 1) g ∙ behind_more 1 m left) ∙ behind_more k (1 + m) left ∙ ap (λ (j : ℕ). behind j left) (omega (arith, h))
 
-pub drop_front : (n : ℕ) (bytes more : List ℕ) → n ≤ length bytes → drop n (bytes ++ more) ≡ drop n bytes ++ more
-drop_front zero bytes more long = refl
-drop_front (suc n) [] more long = absurd (omega arith)
-drop_front (suc n) (b ∷ bytes) more long = drop_front n bytes more (omega arith)
+pub drop_prefix : (n : ℕ) (bytes more : List ℕ) → n ≤ length bytes → drop n (bytes ++ more) ≡ drop n bytes ++ more
+drop_prefix zero bytes more long = refl
+drop_prefix (suc n) [] more long = absurd (omega arith)
+drop_prefix (suc n) (b ∷ bytes) more long = drop_prefix n bytes more (omega arith)
 
 -- a text is passed over
 pub text_passed : (role : Role) (tumblers specs room : ℕ) (fields : List Field) (n more : ℕ) (bytes : List ℕ) → n ≤ more → n ≤ length bytes → ((i : ℕ) → i < n → get_or bytes i 0 < 256)
@@ -114,7 +114,7 @@ leaf_passed s more n bytes left behind_them is le long are rest =
     let all = bytes ++ behind_them in
     let e : scan field_step s all ≡ scan field_step (at_leaf s.role s.tumblers s.specs s.room s.fields (Text more)) all = ap (λ (leaf : Leaf). scan field_step (at_leaf s.role s.tumblers s.specs s.room s.fields leaf) all) is in
     let len : length bytes - length left ≡ n = rw rest (omega (arith, length-drop n bytes, long)) in
-    let dropped : drop n all ≡ left ++ behind_them = drop_front n bytes behind_them long ∙ ap (λ (ds : List ℕ). ds ++ behind_them) (sym rest) in
+    let dropped : drop n all ≡ left ++ behind_them = drop_prefix n bytes behind_them long ∙ ap (λ (ds : List ℕ). ds ++ behind_them) (sym rest) in
     let are_too : (i : ℕ) → i < n → get_or all i 0 < 256 = λ i lt. rw (get_or_append_left bytes behind_them 0 i (omega (arith, lt, long))) (are i) in
     let passed = text_passed s.role s.tumblers s.specs s.room s.fields n more all le (omega (arith, length-append bytes behind_them, long)) are_too in
     rw (len, ← dropped) (e ∙ passed)

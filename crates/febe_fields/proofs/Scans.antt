@@ -2,7 +2,7 @@
 use Rattle.std.proofs.Common.{◌≡◌, ℕ, zero, suc, ◌<◌, ◌≤◌, List, [], ◌∷◌, ◌++◌, length, take, refl, sym, subst, arith}
 use Rattle.febe_fields.specs.declared.scanned.Scanned.{Scanned}
 use Rattle.febe_fields.specs.declared.scanned.Scanned.TheVariants.{Incomplete, Complete, Bad}
-use Rattle.febe_fields.specs.Prefixes.{IsPrefix, BeginsWithNone, IsBadAt, IsUnfinished, BeginsWith, IsScanned}
+use Rattle.febe_fields.specs.Prefixes.{IsPrefix, HasNoSpelledPrefix, IsBadAt, IsUnfinished, HasSpelledPrefix, IsScanned}
 use Rattle.febe_fields.specs.Fields.{takes_on, takes, follows}
 use Rattle.febe_fields.specs.Scanning.{Outcome, goes, done, fails, behind_one, scan_on, scan}
 
@@ -42,20 +42,20 @@ module _ {State : Type 0} (step : State → ℕ → Outcome State) where
 
   -- what a scan says, in terms of what the machine takes
   module _ (live : (s : State) → (bytes : List ℕ) × takes step s bytes) where
-    none_behind : (s : State) (b : ℕ) (bytes : List ℕ) (t : State) → step s b ≡ goes t → BeginsWithNone (takes step t) bytes → BeginsWithNone (takes step s) (b ∷ bytes)
+    none_behind : (s : State) (b : ℕ) (bytes : List ℕ) (t : State) → step s b ≡ goes t → HasNoSpelledPrefix (takes step t) bytes → HasNoSpelledPrefix (takes step s) (b ∷ bytes)
     none_behind s b bytes t e none zero le h = takes_some s h
     none_behind s b bytes t e none (suc n) le h = none n (omega arith) (subst (λ (o : Outcome State). follows step o (take n bytes)) e (takes_one s b (take n bytes) h))
 
     unfinished_behind : (s : State) (b : ℕ) (bytes : List ℕ) (t : State) → step s b ≡ goes t → IsUnfinished (takes step t) bytes → IsUnfinished (takes step s) (b ∷ bytes)
     unfinished_behind s b bytes t e u = record {
-      front = record { more = u.front.more; goes_on = u.front.goes_on; whole = one_taken s b (bytes ++ u.front.more) (subst (λ (o : Outcome State). follows step o (bytes ++ u.front.more)) (sym e) u.front.whole) };
+      prefix = record { more = u.prefix.more; goes_on = u.prefix.goes_on; whole = one_taken s b (bytes ++ u.prefix.more) (subst (λ (o : Outcome State). follows step o (bytes ++ u.prefix.more)) (sym e) u.prefix.whole) };
       none = none_behind s b bytes t e u.none;
     }
 
-    begins_behind : (s : State) (b : ℕ) (bytes : List ℕ) (t : State) (used : ℕ) → step s b ≡ goes t → BeginsWith (takes step t) bytes used → BeginsWith (takes step s) (b ∷ bytes) (suc used)
+    begins_behind : (s : State) (b : ℕ) (bytes : List ℕ) (t : State) (used : ℕ) → step s b ≡ goes t → HasSpelledPrefix (takes step t) bytes used → HasSpelledPrefix (takes step s) (b ∷ bytes) (suc used)
     begins_behind s b bytes t used e w = record {
       within = omega (arith, w.within);
-      front = one_taken s b (take used bytes) (subst (λ (o : Outcome State). follows step o (take used bytes)) (sym e) w.front);
+      prefix = one_taken s b (take used bytes) (subst (λ (o : Outcome State). follows step o (take used bytes)) (sym e) w.prefix);
     }
 
     longest_behind : (s : State) (b : ℕ) (bytes : List ℕ) (t : State) (at : ℕ) → step s b ≡ goes t → IsBadAt (takes step t) bytes at → (n : ℕ) → suc at < n → n ≤ suc (length bytes) → IsPrefix (takes step s) (take n (b ∷ bytes)) → ⊥
@@ -66,7 +66,7 @@ module _ {State : Type 0} (step : State → ℕ → Outcome State) where
     bad_behind : (s : State) (b : ℕ) (bytes : List ℕ) (t : State) (at : ℕ) → step s b ≡ goes t → IsBadAt (takes step t) bytes at → IsBadAt (takes step s) (b ∷ bytes) (suc at)
     bad_behind s b bytes t at e bad = record {
       within = omega (arith, bad.within);
-      front = record { more = bad.front.more; whole = one_taken s b (take at bytes ++ bad.front.more) (subst (λ (o : Outcome State). follows step o (take at bytes ++ bad.front.more)) (sym e) bad.front.whole) };
+      prefix = record { more = bad.prefix.more; whole = one_taken s b (take at bytes ++ bad.prefix.more) (subst (λ (o : Outcome State). follows step o (take at bytes ++ bad.prefix.more)) (sym e) bad.prefix.whole) };
       longest = longest_behind s b bytes t at e bad;
       none = none_behind s b bytes t e bad.none;
     }
@@ -83,7 +83,7 @@ module _ {State : Type 0} (step : State → ℕ → Outcome State) where
     bad_at_once : (s : State) (b : ℕ) (bytes : List ℕ) → step s b ≡ fails → IsBadAt (takes step s) (b ∷ bytes) 0
     bad_at_once s b bytes e = record {
       within = omega arith;
-      front = record { more = (live s).0; whole = (live s).1 };
+      prefix = record { more = (live s).0; whole = (live s).1 };
       longest = longest;
       none = none;
     } where
@@ -91,7 +91,7 @@ module _ {State : Type 0} (step : State → ℕ → Outcome State) where
       longest zero lt le p = omega arith
       longest (suc n) lt le p = fails_at s b (take n bytes ++ p.more) e p.whole
 
-      none : BeginsWithNone (takes step s) (b ∷ bytes)
+      none : HasNoSpelledPrefix (takes step s) (b ∷ bytes)
       none zero le h = takes_some s h
       none (suc n) le h = fails_at s b (take n bytes) e h
 
@@ -101,10 +101,10 @@ module _ {State : Type 0} (step : State → ℕ → Outcome State) where
 
     unfinished_at_once : (s : State) → IsUnfinished (takes step s) []
     unfinished_at_once s = record {
-      front = record { more = (live s).0; goes_on = filled s (live s).0 (live s).1; whole = (live s).1 };
+      prefix = record { more = (live s).0; goes_on = filled s (live s).0 (live s).1; whole = (live s).1 };
       none = none;
     } where
-      none : BeginsWithNone (takes step s) []
+      none : HasNoSpelledPrefix (takes step s) []
       none n le h = takes_some s (subst (takes step s) (take_none n) h) where
         take_none : (n : ℕ) → take {A = ℕ} n [] ≡ []
         take_none zero = refl
@@ -116,12 +116,12 @@ module _ {State : Type 0} (step : State → ℕ → Outcome State) where
     scan_says s (b ∷ bytes) = said_by (λ t. scan_says t bytes) (step s b) refl where
       said_by : ((t : State) → IsScanned (takes step t) bytes (scan step t bytes)) → (o : Outcome State) → step s b ≡ o → IsScanned (takes step s) (b ∷ bytes) (scan_on o (λ next. scan step next bytes))
       said_by on (goes t) e = scanned_behind s b bytes t (scan step t bytes) e (on t)
-      said_by on done e = record { within = omega arith; front = one_taken s b [] (subst (λ (o : Outcome State). follows step o []) (sym e) refl) }
+      said_by on done e = record { within = omega arith; prefix = one_taken s b [] (subst (λ (o : Outcome State). follows step o []) (sym e) refl) }
       said_by on fails e = bad_at_once s b bytes e
 
 -- what is said of one grammar holds of another that spells the same
 module _ (One Other : List ℕ → Type 0) (to : (bytes : List ℕ) → One bytes → Other bytes) (from : (bytes : List ℕ) → Other bytes → One bytes) where
-  none_too : (bytes : List ℕ) → BeginsWithNone One bytes → BeginsWithNone Other bytes
+  none_too : (bytes : List ℕ) → HasNoSpelledPrefix One bytes → HasNoSpelledPrefix Other bytes
   none_too bytes none n le h = none n le (from (take n bytes) h)
 
   prefix_too : (bytes : List ℕ) → IsPrefix One bytes → IsPrefix Other bytes
@@ -131,6 +131,6 @@ module _ (One Other : List ℕ → Type 0) (to : (bytes : List ℕ) → One byte
   prefix_back bytes p = record { more = p.more; whole = from (bytes ++ p.more) p.whole }
 
   pub scanned_too : (bytes : List ℕ) (r : Scanned) → IsScanned One bytes r → IsScanned Other bytes r
-  scanned_too bytes Incomplete h = record { front = record { more = h.front.more; goes_on = h.front.goes_on; whole = to (bytes ++ h.front.more) h.front.whole }; none = none_too bytes h.none }
-  scanned_too bytes (Complete used) h = record { within = h.within; front = to (take used bytes) h.front }
-  scanned_too bytes (Bad at) h = record { within = h.within; front = prefix_too (take at bytes) h.front; longest = λ n lt le p. h.longest n lt le (prefix_back (take n bytes) p); none = none_too bytes h.none }
+  scanned_too bytes Incomplete h = record { prefix = record { more = h.prefix.more; goes_on = h.prefix.goes_on; whole = to (bytes ++ h.prefix.more) h.prefix.whole }; none = none_too bytes h.none }
+  scanned_too bytes (Complete used) h = record { within = h.within; prefix = to (take used bytes) h.prefix }
+  scanned_too bytes (Bad at) h = record { within = h.within; prefix = prefix_too (take at bytes) h.prefix; longest = λ n lt le p. h.longest n lt le (prefix_back (take n bytes) p); none = none_too bytes h.none }

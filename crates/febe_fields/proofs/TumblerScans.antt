@@ -31,13 +31,13 @@ last_of : (p : ℕ) (places : List ℕ) → LastIsSome p places → 0 < place (p
 last_of p [] h = h
 last_of p (q ∷ places) h = last_of q places h
 
-last_behind : (front : List ℕ) (p : ℕ) (places : List ℕ) → LastIsSome p places → 0 < place (front ++ p ∷ places) (length front + length places)
-last_behind front p places h = rw (get_or-append-add front (p ∷ places) (length places) 0) (last_of p places h)
+last_behind : (prefix : List ℕ) (p : ℕ) (places : List ℕ) → LastIsSome p places → 0 < place (prefix ++ p ∷ places) (length prefix + length places)
+last_behind prefix p places h = rw (get_or-append-add prefix (p ∷ places) (length places) 0) (last_of p places h)
 
-pub ends_well_behind : (front : List ℕ) (p : ℕ) (places : List ℕ) → LastIsSome p places → EndsWell (front ++ p ∷ places)
-ends_well_behind front p places h e =
-    let k : length (front ++ p ∷ places) - 1 ≡ length front + length places = omega (arith, length-append front (p ∷ places)) in
-    let some : 0 < place (front ++ p ∷ places) (length (front ++ p ∷ places) - 1) = rw k (last_behind front p places h) in
+pub ends_well_behind : (prefix : List ℕ) (p : ℕ) (places : List ℕ) → LastIsSome p places → EndsWell (prefix ++ p ∷ places)
+ends_well_behind prefix p places h e =
+    let k : length (prefix ++ p ∷ places) - 1 ≡ length prefix + length places = omega (arith, length-append prefix (p ∷ places)) in
+    let some : 0 < place (prefix ++ p ∷ places) (length (prefix ++ p ∷ places) - 1) = rw k (last_behind prefix p places h) in
     absurd (omega (arith, some, e))
 
 -- ---- spellings joined

@@ -25,11 +25,11 @@ last_from : (p : ℕ) (places : List ℕ) → 0 < place (p ∷ places) (length p
 last_from p [] h = h
 last_from p (q ∷ places) h = last_from q places h
 
-last_is_some : (front : List ℕ) (p : ℕ) (places : List ℕ) → EndsWell (front ++ p ∷ places) → LastIsSome p places
-last_is_some front p places ends =
-    let k : length (front ++ p ∷ places) - 1 ≡ length front + length places = omega (arith, length-append front (p ∷ places)) in
-    let at : place (front ++ p ∷ places) (length (front ++ p ∷ places) - 1) ≡ place (p ∷ places) (length places) = rw (k, get_or-append-add front (p ∷ places) (length places) 0) refl in
-    last_from p places (not_zero (place (p ∷ places) (length places)) (λ e. omega (arith, ends (at ∙ e), length-append front (p ∷ places)))) where
+last_is_some : (prefix : List ℕ) (p : ℕ) (places : List ℕ) → EndsWell (prefix ++ p ∷ places) → LastIsSome p places
+last_is_some prefix p places ends =
+    let k : length (prefix ++ p ∷ places) - 1 ≡ length prefix + length places = omega (arith, length-append prefix (p ∷ places)) in
+    let at : place (prefix ++ p ∷ places) (length (prefix ++ p ∷ places) - 1) ≡ place (p ∷ places) (length places) = rw (k, get_or-append-add prefix (p ∷ places) (length places) 0) refl in
+    last_from p places (not_zero (place (p ∷ places) (length places)) (λ e. omega (arith, ends (at ∙ e), length-append prefix (p ∷ places)))) where
       not_zero : (n : ℕ) → (n ≡ 0 → ⊥) → 0 < n
       not_zero zero h = absurd (h refl)
       not_zero (suc n) h = omega arith

@@ -5,9 +5,9 @@ use Rattle.tumbler.specs.declared.span.Span.{Span}
 use Rattle.febe_data.specs.declared.access.Mode.{Mode}
 use Rattle.febe_data.specs.declared.access.Rule.{Rule}
 use Rattle.febe_data.specs.Plain.{PlainSpec}
-use Rattle.febe_data.specs.Parts.{Part, tumbler_part, number_part, text_part, span_part, spans_part, tumblers_part, spec_part, specs_part, mode_part, rule_part}
-use Rattle.febe_data.specs.Spelling.{spell_part}
-use Rattle.febe_data.specs.Validity.{IsPart}
+use Rattle.febe_data.specs.FieldValues.{FieldValue, tumbler_value, number_value, text_value, span_value, spans_value, tumblers_value, spec_value, specs_value, mode_value, rule_value}
+use Rattle.febe_data.specs.Spelling.{spell_value}
+use Rattle.febe_data.specs.Validity.{IsFieldValue}
 use Rattle.febe_fields.specs.declared.scanner.Field.{Field}
 use Rattle.febe_fields.specs.declared.scanner.Field.TheVariants as fields
 use Rattle.febe_fields.specs.Scanning.{Outcome, goes, done, fails}
@@ -26,34 +26,34 @@ ValueOf fields.Specs = List PlainSpec
 ValueOf fields.Mode = Mode
 ValueOf fields.Rule = Rule
 
--- a value as a part
-abbrev pub part_of : (field : Field) → ValueOf field → Part
-part_of fields.Tumbler value = tumbler_part value
-part_of fields.Number value = number_part value
-part_of fields.Text value = text_part value
-part_of fields.Span value = span_part value
-part_of fields.Spans value = spans_part value
-part_of fields.Tumblers value = tumblers_part value
-part_of fields.Spec value = spec_part value
-part_of fields.Specs value = specs_part value
-part_of fields.Mode value = mode_part value
-part_of fields.Rule value = rule_part value
+-- the value of a field of this kind
+abbrev pub field_value : (field : Field) → ValueOf field → FieldValue
+field_value fields.Tumbler value = tumbler_value value
+field_value fields.Number value = number_value value
+field_value fields.Text value = text_value value
+field_value fields.Span value = span_value value
+field_value fields.Spans value = spans_value value
+field_value fields.Tumblers value = tumblers_value value
+field_value fields.Spec value = spec_value value
+field_value fields.Specs value = specs_value value
+field_value fields.Mode value = mode_value value
+field_value fields.Rule value = rule_value value
 
 -- one value for each field
 abbrev pub ValuesOf : List Field → Type 0
 ValuesOf [] = Unit {0}
 ValuesOf (field ∷ behind) = ValueOf field × ValuesOf behind
 
--- the values as parts
-abbrev pub parts_of : (fields : List Field) → ValuesOf fields → List Part
-parts_of [] values = []
-parts_of (field ∷ behind) values = part_of field values.0 ∷ parts_of behind values.1
+-- the values of these fields
+abbrev pub field_values : (fields : List Field) → ValuesOf fields → List FieldValue
+field_values [] values = []
+field_values (field ∷ behind) values = field_value field values.0 ∷ field_values behind values.1
 
 -- the bytes spell a right value for each field, one after the other
 pub record SpellsFields (fields : List Field) (bytes : List ℕ) : Type 0 where
   pub values : ValuesOf fields
-  pub valid : AllByRecursion IsPart (parts_of fields values)
-  pub spelled : bytes ≡ flat_map spell_part (parts_of fields values)
+  pub valid : AllByRecursion IsFieldValue (field_values fields values)
+  pub spelled : bytes ≡ flat_map spell_value (field_values fields values)
 
 -- these bytes, and no fewer, follow an outcome
 abbrev pub takes_on : {State : Type 0} → Outcome State → List ℕ → (State → Type 0) → Type 0

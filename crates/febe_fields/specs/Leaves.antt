@@ -1,17 +1,17 @@
 -- The smallest pieces of fields, byte by byte.
 use Rattle.std.specs.Prelude.{ℕ, ◌+◌, ◌-◌, ◌*◌, Option, Some, None, nat_lt, ◌==◌, ◌&&◌, not, if◌then◌else◌}
 use Rattle.std.specs.Char.{is_ascii_digit}
-use Rattle.febe_fields.specs.declared.leaf.End.{End}
-use Rattle.febe_fields.specs.declared.leaf.End.TheVariants as ends
+use Rattle.febe_fields.specs.declared.leaf.Terminator.{Terminator}
+use Rattle.febe_fields.specs.declared.leaf.Terminator.TheVariants as terminators
 use Rattle.febe_fields.specs.declared.leaf.Leaf.{Leaf}
 use Rattle.febe_fields.specs.declared.leaf.Leaf.TheVariants.{Byte, First, Digits, Choice, ZeroCount, NoZeros, Zeros, FirstPlace, NextPlace, ZeroPlace, Place, Text}
 use Rattle.febe_fields.specs.declared.leaf.LeafStep.{LeafStep}
 use Rattle.febe_fields.specs.declared.leaf.LeafStep.TheVariants.{Goes, Ends, Fails}
 
 -- the byte behind a number
-abbrev pub end_byte : End → ℕ
-end_byte ends.Tilde = 126
-end_byte ends.Colon = 58
+abbrev pub terminator_byte : Terminator → ℕ
+terminator_byte terminators.Tilde = 126
+terminator_byte terminators.Colon = 58
 
 -- one more digit of a number, unless that passes its bound
 abbrev pub number_step : ℕ → ℕ → ℕ → Option ℕ
@@ -27,14 +27,14 @@ abbrev pub byte_step : ℕ → ℕ → LeafStep
 byte_step wanted byte = if byte == wanted then Ends 0 else Fails
 
 -- the first digit of a number: behind a 0 nothing but the end may come
-abbrev pub first_step : ℕ → End → ℕ → LeafStep
+abbrev pub first_step : ℕ → Terminator → ℕ → LeafStep
 first_step most end byte =
-    if byte == 48 then Goes (Byte (end_byte end)) else (if is_ascii_digit byte then goes_with (λ number. Digits number most end) (number_step 0 most byte) else Fails)
+    if byte == 48 then Goes (Byte (terminator_byte end)) else (if is_ascii_digit byte then goes_with (λ number. Digits number most end) (number_step 0 most byte) else Fails)
 
 -- a further digit, or the end
-abbrev pub digits_step : ℕ → ℕ → End → ℕ → LeafStep
+abbrev pub digits_step : ℕ → ℕ → Terminator → ℕ → LeafStep
 digits_step number most end byte =
-    if is_ascii_digit byte then goes_with (λ next. Digits next most end) (number_step number most byte) else (if byte == end_byte end then Ends number else Fails)
+    if is_ascii_digit byte then goes_with (λ next. Digits next most end) (number_step number most byte) else (if byte == terminator_byte end then Ends number else Fails)
 
 -- the digit 1 or one of so many behind it, then a tilde
 abbrev pub choice_step : ℕ → ℕ → LeafStep

@@ -1,5 +1,5 @@
 pub use Rattle.febe_data.specs.Plain
-pub use Rattle.febe_data.specs.Parts
+pub use Rattle.febe_data.specs.FieldValues
 pub use Rattle.febe_data.specs.Spelling
 pub use Rattle.febe_data.specs.Validity
 pub mod Prefixes

@@ -2,7 +2,7 @@
 use Rattle.std.specs.Prelude.{ℕ, ◌-◌, ◌*◌, List, [], ◌∷◌, nat_lt, ◌==◌, if◌then◌else◌}
 use Rattle.febe_fields.specs.declared.leaf.Leaf.{Leaf}
 use Rattle.febe_fields.specs.declared.leaf.Leaf.TheVariants as leaves
-use Rattle.febe_fields.specs.declared.leaf.End.TheVariants.{Tilde, Colon}
+use Rattle.febe_fields.specs.declared.leaf.Terminator.TheVariants.{Tilde, Colon}
 use Rattle.febe_fields.specs.declared.leaf.LeafStep.{LeafStep}
 use Rattle.febe_fields.specs.declared.leaf.LeafStep.TheVariants.{Goes, Ends, Fails}
 use Rattle.febe_fields.specs.declared.scanner.Field.{Field}

@@ -21,16 +21,16 @@ Reads view (Some x) read = read ≡ Some (view x)
 Reads view None read = read ≡ None
 
 -- the same, unless memory ran out
-abbrev pub Gives : {X Y : Type 0} → (X → Y) → Result (Option X) Memory → Option Y → Type 0
-Gives view (Ok o) read = Reads view o read
-Gives view (Err e) read = Unit {0}
+abbrev pub ReadsIfOk : {X Y : Type 0} → (X → Y) → Result (Option X) Memory → Option Y → Type 0
+ReadsIfOk view (Ok o) read = Reads view o read
+ReadsIfOk view (Err e) read = Unit {0}
 
 -- the bytes after this one
 abbrev pub after : ℕ → List ℕ → Option (List ℕ)
 after byte [] = None
 after byte (b ∷ bytes) = if b == byte then Some bytes else None
 
--- the digits in front, which go on from the number so far
+-- the digits that come first, which go on from the number so far
 unfoldable pub digits_after : ℕ → List ℕ → Option (ℕ × List ℕ)
 digits_after n [] = Some (n, [])
 digits_after n (b ∷ bytes) = if is_ascii_digit b then (if nat_lt (n * 10 + (b - 48)) 4294967296 then digits_after (n * 10 + (b - 48)) bytes else None) else Some (n, b ∷ bytes)
@@ -87,25 +87,25 @@ text_at bytes = do
   if nat_lt 16777216 len.0 || nat_lt (length rest) len.0 then None else Some (take len.0 rest, drop len.0 rest)
 
 -- the mode of this number
-abbrev pub mode_of : ℕ → Option Mode
-mode_of n = if n == 1 then Some modes.Read else (if n == 2 then Some modes.Write else None)
+abbrev pub mode_with_number : ℕ → Option Mode
+mode_with_number n = if n == 1 then Some modes.Read else (if n == 2 then Some modes.Write else None)
 
 -- the number of a mode and its tilde
 unfoldable pub mode_at : List ℕ → Option (Mode × List ℕ)
 mode_at bytes = do
   n ← number_at bytes
-  mode ← mode_of n.0
+  mode ← mode_with_number n.0
   Some (mode, n.1)
 
 -- the rule of this number
-abbrev pub rule_of : ℕ → Option Rule
-rule_of n = if n == 1 then Some rules.Refuse else (if n == 2 then Some rules.Copy else (if n == 3 then Some rules.Always else None))
+abbrev pub rule_with_number : ℕ → Option Rule
+rule_with_number n = if n == 1 then Some rules.Refuse else (if n == 2 then Some rules.Copy else (if n == 3 then Some rules.Always else None))
 
 -- the number of a rule and its tilde
 unfoldable pub rule_at : List ℕ → Option (Rule × List ℕ)
 rule_at bytes = do
   n ← number_at bytes
-  rule ← rule_of n.0
+  rule ← rule_with_number n.0
   Some (rule, n.1)
 
 -- this many items, one behind the other

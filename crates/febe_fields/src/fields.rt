@@ -1,14 +1,12 @@
-//! The parts of requests, each read from the front of the bytes: the value and the bytes after it.
+//! The parts of requests, each read from the start of the bytes: the value and the bytes after it.
 ghost use Rattle.std.specs.Prelude.{◌≡◌, ◌≤◌, ◌-◌, length, replicate, IfSome};
 ghost use Rattle.febe_fields.specs.Reading.{Reads, after, digits_after, digits_at, number_at, places_at, all_places_at, tumbler_at, text_at, mode_at, rule_at};
 
+use febe_data::bounds::MOST_TEXT_BYTES;
 use febe_data::{Mode, Rule};
 use smallvec::SmallVec;
 use std::alloc::Global;
 use tumbler::{MOST_PLACES, Tumbler};
-
-/// The most bytes that a text has.
-const MOST_TEXT: u32 = 16_777_216;
 
 /// As many places that are 0 as a tumbler has room for.
 const ZEROS: [u32; 24] = [0; 24];
@@ -23,7 +21,7 @@ fn after(byte: u8, bytes: &[u8]) -> Option<&[u8]>
     }
 }
 
-/// The digits in front, which go on from the number so far.
+/// The digits that come first, which go on from the number so far.
 #[tactic(auto, unfolding(crate::specs::Reading::digits_after))]
 fn digits_after(first: u32, bytes: &[u8]) -> Option<(u32, &[u8])>
     ensures { Reads (λ x. (x.0, x.1.now)) result (digits_after first bytes.now) }
@@ -67,7 +65,7 @@ pub fn text_at(bytes: &[u8]) -> Option<(&[u8], &[u8])>
 {
     let (len, rest) = digits_at(after(b't', bytes)?)?;
     let rest = after(b':', rest)?;
-    if len > MOST_TEXT || rest.len() < len as usize {
+    if len > MOST_TEXT_BYTES || rest.len() < len as usize {
         return None;
     }
     Some(rest.split_at(len as usize))

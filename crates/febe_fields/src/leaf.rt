@@ -7,22 +7,22 @@ const MOST_MORE: u32 = 23;
 
 /// The byte behind a number.
 #[derive(Clone, Copy, Debug, PartialEq, Eq)]
-pub enum End {
+pub enum Terminator {
     Tilde,
     /// Behind the length of a text.
     Colon,
 }
 
-impl End {
-    ghost use Rattle.febe_fields.specs.Leaves.{end_byte};
+impl Terminator {
+    ghost use Rattle.febe_fields.specs.Leaves.{terminator_byte};
 
     /// The byte itself.
     fn byte(self) -> u8
-        ensures { result ≡ end_byte self }
+        ensures { result ≡ terminator_byte self }
     {
         match self {
-            End::Tilde => b'~',
-            End::Colon => b':',
+            Terminator::Tilde => b'~',
+            Terminator::Colon => b':',
         }
     }
 }
@@ -31,29 +31,53 @@ impl End {
 #[derive(Clone, Copy, Debug, PartialEq, Eq)]
 pub enum Leaf {
     /// This very byte.
-    Byte { byte: u8 },
+    Byte {
+        byte: u8,
+    },
     /// The first digit of a number.
-    First { most: u32, end: End },
+    First {
+        most: u32,
+        end: Terminator,
+    },
     /// A further digit of a number that is not 0, or the byte that ends it.
-    Digits { number: u32, most: u32, end: End },
+    Digits {
+        number: u32,
+        most: u32,
+        end: Terminator,
+    },
     /// The digit 1, or one of so many behind it.
-    Choice { more: u8 },
+    Choice {
+        more: u8,
+    },
     /// The first digit of the count of places that are 0.
     ZeroCount,
     /// What follows the count 0.
     NoZeros,
     /// A further digit of a count that is not 0, or the dot behind it.
-    Zeros { count: u32 },
+    Zeros {
+        count: u32,
+    },
     /// The first digit of the first written place, behind which so many more may come.
-    FirstPlace { more: u32 },
+    FirstPlace {
+        more: u32,
+    },
     /// The first digit of a later place.
-    NextPlace { more: u32 },
+    NextPlace {
+        more: u32,
+    },
     /// The dot behind a place that is 0.
-    ZeroPlace { more: u32 },
+    ZeroPlace {
+        more: u32,
+    },
     /// A further digit of a place, or what ends it.
-    Place { number: u32, more: u32 },
+    Place {
+        number: u32,
+        more: u32,
+    },
     /// A byte of a text, behind which so many more come.
-    Text { more: u32 },
+    Text {
+        more: u32,
+    },
 }
 
 /// What a byte makes of a leaf.
@@ -86,7 +110,7 @@ fn byte_step(wanted: u8, byte: u8) -> LeafStep
     LeafStep::Fails
 }
 
-fn first_step(most: u32, end: End, byte: u8) -> LeafStep
+fn first_step(most: u32, end: Terminator, byte: u8) -> LeafStep
     ensures { result ≡ first_step most end byte }
 {
     match byte {
@@ -99,7 +123,7 @@ fn first_step(most: u32, end: End, byte: u8) -> LeafStep
     }
 }
 
-fn digits_step(number: u32, most: u32, end: End, byte: u8) -> LeafStep
+fn digits_step(number: u32, most: u32, end: Terminator, byte: u8) -> LeafStep
     ensures { result ≡ digits_step number most end byte }
 {
     match byte {

@@ -1,14 +1,12 @@
-//! Lists, and what has lists in it, each read from the front of the bytes: the value and the bytes after it.
+//! Lists, and what has lists in it, each read from the start of the bytes: the value and the bytes after it.
 ghost use Rattle.febe_data.specs.Plain.{plain_spec, plain_specs};
-ghost use Rattle.febe_fields.specs.Reading.{Reads, Gives, tumbler_at, many_at, list_at, tumblers_at, span_at, spans_at, spec_at, specs_at};
+ghost use Rattle.febe_fields.specs.Reading.{Reads, ReadsIfOk, tumbler_at, many_at, list_at, tumblers_at, span_at, spans_at, spec_at, specs_at};
 
 use crate::fields::{number_at, tumbler_at};
 use febe_data::Spec;
+use febe_data::bounds::MOST_ITEMS;
 use std::alloc::Global;
 use tumbler::{List, Memory, Span, Tumbler};
-
-/// The most items that a list has.
-const MOST_ITEMS: u32 = 65_536;
 
 /// This many tumblers.
 fn many_tumblers_at(
@@ -16,7 +14,7 @@ fn many_tumblers_at(
     count: u32,
     bytes: &[u8],
 ) -> Result<Option<(List<Tumbler>, &[u8])>, Memory>
-    ensures { Gives (λ x. (x.0.items, x.1.now)) result (many_at tumbler_at count bytes.now) }
+    ensures { ReadsIfOk (λ x. (x.0.items, x.1.now)) result (many_at tumbler_at count bytes.now) }
 {
     let mut tumblers = List::new(alloc);
     tumblers.reserve(count as usize)?;
@@ -35,7 +33,7 @@ fn many_tumblers_at(
 /// before the first is read.
 #[tactic(auto, unfolding(crate::specs::Reading::list_at))]
 pub fn tumblers_at(alloc: Global, bytes: &[u8]) -> Result<Option<(List<Tumbler>, &[u8])>, Memory>
-    ensures { Gives (λ x. (x.0.items, x.1.now)) result (tumblers_at bytes.now) }
+    ensures { ReadsIfOk (λ x. (x.0.items, x.1.now)) result (tumblers_at bytes.now) }
 {
     let Some((count, rest)) = number_at(bytes) else {
         return Ok(None);
@@ -62,7 +60,7 @@ fn many_spans_at(
     count: u32,
     bytes: &[u8],
 ) -> Result<Option<(List<Span>, &[u8])>, Memory>
-    ensures { Gives (λ x. (x.0.items, x.1.now)) result (many_at span_at count bytes.now) }
+    ensures { ReadsIfOk (λ x. (x.0.items, x.1.now)) result (many_at span_at count bytes.now) }
 {
     let mut spans = List::new(alloc);
     spans.reserve(count as usize)?;
@@ -81,7 +79,7 @@ fn many_spans_at(
 /// before the first is read.
 #[tactic(auto, unfolding(crate::specs::Reading::list_at))]
 pub fn spans_at(alloc: Global, bytes: &[u8]) -> Result<Option<(List<Span>, &[u8])>, Memory>
-    ensures { Gives (λ x. (x.0.items, x.1.now)) result (spans_at bytes.now) }
+    ensures { ReadsIfOk (λ x. (x.0.items, x.1.now)) result (spans_at bytes.now) }
 {
     let Some((count, rest)) = number_at(bytes) else {
         return Ok(None);
@@ -95,7 +93,7 @@ pub fn spans_at(alloc: Global, bytes: &[u8]) -> Result<Option<(List<Span>, &[u8]
 /// A spec: its document and its spans, at most 65,536.
 #[tactic(auto, unfolding(crate::specs::Reading::spec_at))]
 pub fn spec_at(alloc: Global, bytes: &[u8]) -> Result<Option<(Spec, &[u8])>, Memory>
-    ensures { Gives (λ x. (plain_spec x.0, x.1.now)) result (spec_at bytes.now) }
+    ensures { ReadsIfOk (λ x. (plain_spec x.0, x.1.now)) result (spec_at bytes.now) }
 {
     let Some((document, rest)) = tumbler_at(alloc, bytes) else {
         return Ok(None);
@@ -112,7 +110,7 @@ fn many_specs_at(
     count: u32,
     bytes: &[u8],
 ) -> Result<Option<(List<Spec>, &[u8])>, Memory>
-    ensures { Gives (λ x. (plain_specs x.0.items, x.1.now)) result (many_at spec_at count bytes.now) }
+    ensures { ReadsIfOk (λ x. (plain_specs x.0.items, x.1.now)) result (many_at spec_at count bytes.now) }
 {
     let mut specs = List::new(alloc);
     specs.reserve(count as usize)?;
@@ -131,7 +129,7 @@ fn many_specs_at(
 /// before the first is read.
 #[tactic(auto, unfolding(crate::specs::Reading::list_at))]
 pub fn specs_at(alloc: Global, bytes: &[u8]) -> Result<Option<(List<Spec>, &[u8])>, Memory>
-    ensures { Gives (λ x. (plain_specs x.0.items, x.1.now)) result (specs_at bytes.now) }
+    ensures { ReadsIfOk (λ x. (plain_specs x.0.items, x.1.now)) result (specs_at bytes.now) }
 {
     let Some((count, rest)) = number_at(bytes) else {
         return Ok(None);

@@ -4,10 +4,11 @@ ghost use Rattle.febe_fields.specs.Machine.{state_of, outcome_of, opened, fields
 ghost use Rattle.febe_fields.specs.Scanning.{goes, behind, scan};
 ghost use Rattle.febe_fields.specs.declared.scanner.Role.TheVariants.{Value};
 ghost use Rattle.febe_fields.specs.declared.leaf.Leaf.TheVariants.{First, Text};
-ghost use Rattle.febe_fields.specs.declared.leaf.End.TheVariants.{Tilde};
+ghost use Rattle.febe_fields.specs.declared.leaf.Terminator.TheVariants.{Tilde};
 
-use crate::leaf::{End, Leaf, LeafStep};
+use crate::leaf::{Leaf, LeafStep, Terminator};
 use crate::scanned::Scanned;
+use febe_data::bounds::{MOST_ITEMS, MOST_TEXT_BYTES};
 
 /// A field of a request or of a reply.
 #[derive(Clone, Copy, Debug, PartialEq, Eq)]
@@ -76,12 +77,6 @@ pub enum Progress {
     Fails,
 }
 
-/// The most items of a list, and the most spans of a spec set.
-const MOST_ITEMS: u32 = 65_536;
-
-/// The most bytes of a text.
-const MOST_TEXT: u32 = 16_777_216;
-
 impl Scanner {
     /// The scan of one field, with others behind it.
     pub fn open(field: Field, fields: &'static [Field]) -> Scanner
@@ -118,7 +113,7 @@ fn number_leaf(most: u32) -> Leaf
 {
     Leaf::First {
         most,
-        end: End::Tilde,
+        end: Terminator::Tilde,
     }
 }
 
@@ -158,8 +153,8 @@ impl Ahead {
             Role::Value => self.next(),
             Role::TextMark => self.goes_on(
                 Leaf::First {
-                    most: MOST_TEXT,
-                    end: End::Colon,
+                    most: MOST_TEXT_BYTES,
+                    end: Terminator::Colon,
                 },
                 Role::TextLength,
             ),

@@ -10,11 +10,11 @@ use Rattle.febe_fields.specs.Fields.{takes, follows}
 use Rattle.febe_fields.proofs.Scans.{takes_some, takes_one, one_taken}
 use Rattle.febe_fields.proofs.NumberScans.{next_digit}
 use Rattle.febe_fields.proofs.TumblerScans.{is_digit, one_digit_is}
-use Rattle.febe_reply.specs.declared.scan.Sought.{Sought}
-use Rattle.febe_reply.specs.declared.scan.Sought.TheVariants.{Refusal, Items, Diagonals, Left, Right, Length}
-use Rattle.febe_reply.specs.ReplyMachine.{at_number, at_zero, in_number, most_of, may_be_zero, number_ended, reply_step}
+use Rattle.febe_reply.specs.declared.scan.NumberRole.{NumberRole}
+use Rattle.febe_reply.specs.declared.scan.NumberRole.TheVariants.{Refusal, Items, Diagonals, Left, Right, Length}
+use Rattle.febe_reply.specs.inside.ReplyMachine.{at_number, at_zero, in_number, most_of, may_be_zero, number_ended, reply_step}
 
-most_small : (sought : Sought) → most_of sought < 4294967296
+most_small : (role : NumberRole) → most_of role < 4294967296
 most_small Refusal = omega arith
 most_small Items = omega arith
 most_small Diagonals = omega arith
@@ -23,7 +23,7 @@ most_small (Right more) = omega arith
 most_small (Length more) = omega arith
 
 -- 1 is always such a number
-pub most_some : (sought : Sought) → 1 ≤ most_of sought
+pub most_some : (role : NumberRole) → 1 ≤ most_of role
 most_some Refusal = omega arith
 most_some Items = omega arith
 most_some Diagonals = omega arith
@@ -37,26 +37,26 @@ zero_spelled b c bytes e f = rw (e, f, decimal_digit 0 (omega arith)) refl
 digit_joined : (b n : ℕ) (input behind : List ℕ) → 48 ≤ b → b ≤ 57 → decimal (b - 48) ++ input ≡ decimal n ++ 126 ∷ behind → b ∷ input ≡ decimal n ++ 126 ∷ behind
 digit_joined b n input behind low high e = ap (λ (ds : List ℕ). ds ++ input) (sym (one_digit_is b low high)) ∙ e
 
-module _ (sought : Sought) where
+module _ (role : NumberRole) where
   -- a right number and its tilde, in front of what comes behind
   pub record TakesCount (bytes : List ℕ) : Type 0 where
     pub number : ℕ
     pub behind : List ℕ
-    pub bound : number ≤ most_of sought
-    pub some : may_be_zero sought ≡ false → 1 ≤ number
+    pub bound : number ≤ most_of role
+    pub some : may_be_zero role ≡ false → 1 ≤ number
     pub spelled : bytes ≡ decimal number ++ 126 ∷ behind
-    pub ended : follows reply_step (number_ended sought number) behind
+    pub ended : follows reply_step (number_ended role number) behind
 
-  digits_take : (n : ℕ) (bytes : List ℕ) → 0 < n → n ≤ most_of sought → takes reply_step (in_number n sought) bytes → TakesCount (decimal n ++ bytes)
-  digits_take n [] some small h = absurd (takes_some reply_step (in_number n sought) h)
+  digits_take : (n : ℕ) (bytes : List ℕ) → 0 < n → n ≤ most_of role → takes reply_step (in_number n role) bytes → TakesCount (decimal n ++ bytes)
+  digits_take n [] some small h = absurd (takes_some reply_step (in_number n role) h)
   digits_take n (b ∷ bytes) some small h =
-      let f = takes_one reply_step (in_number n sought) b bytes h in
-      let word = most_small sought in
+      let f = takes_one reply_step (in_number n role) b bytes h in
+      let word = most_small role in
       elim (cases_Bool (is_ascii_digit b)) [
-        | inl digit ↦ elim (cases_lt (most_of sought) (n * 10 + (b - 48))) [
+        | inl digit ↦ elim (cases_lt (most_of role) (n * 10 + (b - 48))) [
           | inl over ↦ absurd (rw (digit, lt-ltb _ _ over) at f)
           | inr within ↦
-              let more : takes reply_step (in_number (n * 10 + (b - 48)) sought) bytes = rw (digit, le-ltb _ _ within) at f in
+              let more : takes reply_step (in_number (n * 10 + (b - 48)) role) bytes = rw (digit, le-ltb _ _ within) at f in
               let ih = digits_take (n * 10 + (b - 48)) bytes (omega arith) within more in
               record {
                 number = ih.number;
@@ -80,10 +80,10 @@ module _ (sought : Sought) where
         ]
       ]
 
-  zero_takes : (b : ℕ) (bytes : List ℕ) → b ≡ 48 → may_be_zero sought ≡ true → takes reply_step (at_zero sought) bytes → TakesCount (b ∷ bytes)
-  zero_takes b [] is may h = absurd (takes_some reply_step (at_zero sought) h)
+  zero_takes : (b : ℕ) (bytes : List ℕ) → b ≡ 48 → may_be_zero role ≡ true → takes reply_step (at_zero role) bytes → TakesCount (b ∷ bytes)
+  zero_takes b [] is may h = absurd (takes_some reply_step (at_zero role) h)
   zero_takes b (c ∷ bytes) is may h =
-      let f = takes_one reply_step (at_zero sought) c bytes h in
+      let f = takes_one reply_step (at_zero role) c bytes h in
       elim (cases_Bool (c == 126)) [
         | inl tilde ↦ record {
           number = 0;
@@ -96,12 +96,12 @@ module _ (sought : Sought) where
         | inr other ↦ absurd (rw other at f)
       ]
 
-  pub count_takes : (bytes : List ℕ) → takes reply_step (at_number sought) bytes → TakesCount bytes
-  count_takes [] h = absurd (takes_some reply_step (at_number sought) h)
+  pub count_takes : (bytes : List ℕ) → takes reply_step (at_number role) bytes → TakesCount bytes
+  count_takes [] h = absurd (takes_some reply_step (at_number role) h)
   count_takes (b ∷ bytes) h =
-      let f = takes_one reply_step (at_number sought) b bytes h in
+      let f = takes_one reply_step (at_number role) b bytes h in
       elim (cases_Bool (b == 48)) [
-        | inl is_zero ↦ elim (cases_Bool (may_be_zero sought)) [
+        | inl is_zero ↦ elim (cases_Bool (may_be_zero role)) [
           | inl may ↦ zero_takes b bytes (eqb-true _ _ is_zero) may (rw (is_zero, may) at f)
           | inr never ↦ absurd (rw (is_zero, never) at f)
         ]
@@ -110,10 +110,10 @@ module _ (sought : Sought) where
               let range = is_digit b digit in
               let not_zero = eqb-false _ _ other in
               let one : 0 * 10 + (b - 48) ≡ b - 48 = omega arith in
-              elim (cases_lt (most_of sought) (b - 48)) [
+              elim (cases_lt (most_of role) (b - 48)) [
                 | inl over ↦ absurd (rw (other, digit, one, lt-ltb _ _ over) at f)
                 | inr within ↦
-                    let more : takes reply_step (in_number (b - 48) sought) bytes = rw (other, digit, one, le-ltb _ _ within) at f in
+                    let more : takes reply_step (in_number (b - 48) role) bytes = rw (other, digit, one, le-ltb _ _ within) at f in
                     let t = digits_take (b - 48) bytes (omega (arith, range.0, not_zero)) within more in
                     record {
                       number = t.number;
@@ -128,37 +128,37 @@ module _ (sought : Sought) where
         ]
       ]
 
-  first_digit_again : (n : ℕ) (behind : List ℕ) → n < 10 → 0 < n → n ≤ most_of sought → takes reply_step (in_number n sought) behind → takes reply_step (at_number sought) ((48 + n) ∷ behind)
+  first_digit_again : (n : ℕ) (behind : List ℕ) → n < 10 → 0 < n → n ≤ most_of role → takes reply_step (in_number n role) behind → takes reply_step (at_number role) ((48 + n) ∷ behind)
   first_digit_again n behind one some small h =
       let other : (48 + n == 48) ≡ false = ne_eqb _ _ (λ e. omega arith) in
       let digit : is_ascii_digit (48 + n) ≡ true = grind (arith, nat_tests) in
       let same : 0 * 10 + (48 + n - 48) ≡ n = omega arith in
-      one_taken reply_step (at_number sought) (48 + n) behind (rw (other, digit, same, le-ltb _ _ small) h)
+      one_taken reply_step (at_number role) (48 + n) behind (rw (other, digit, same, le-ltb _ _ small) h)
 
-  more_digits_again : (n : ℕ) (behind : List ℕ) → 10 ≤ n → n ≤ most_of sought → takes reply_step (in_number n sought) behind → takes reply_step (in_number (n / 10) sought) ((48 + n % 10) ∷ behind)
+  more_digits_again : (n : ℕ) (behind : List ℕ) → 10 ≤ n → n ≤ most_of role → takes reply_step (in_number n role) behind → takes reply_step (in_number (n / 10) role) ((48 + n % 10) ∷ behind)
   more_digits_again n behind big small h =
       let digit : is_ascii_digit (48 + n % 10) ≡ true = grind (arith, nat_tests) in
       let same : n / 10 * 10 + (48 + n % 10 - 48) ≡ n = omega arith in
-      one_taken reply_step (in_number (n / 10) sought) (48 + n % 10) behind (rw (digit, same, le-ltb _ _ small) h)
+      one_taken reply_step (in_number (n / 10) role) (48 + n % 10) behind (rw (digit, same, le-ltb _ _ small) h)
 
-  digits_again : (n : ℕ) → 0 < n → n ≤ most_of sought → (behind : List ℕ) → takes reply_step (in_number n sought) behind → takes reply_step (at_number sought) (decimal n ++ behind)
+  digits_again : (n : ℕ) → 0 < n → n ≤ most_of role → (behind : List ℕ) → takes reply_step (in_number n role) behind → takes reply_step (at_number role) (decimal n ++ behind)
   digits_again n some small =
-      decimal_by_steps (λ n ds. 0 < n → n ≤ most_of sought → (behind : List ℕ) → takes reply_step (in_number n sought) behind → takes reply_step (at_number sought) (ds ++ behind))
+      decimal_by_steps (λ n ds. 0 < n → n ≤ most_of role → (behind : List ℕ) → takes reply_step (in_number n role) behind → takes reply_step (at_number role) (ds ++ behind))
       (λ n one some small behind h. first_digit_again n behind one some small h)
       (λ n ds big below some small behind h.
-      subst (takes reply_step (at_number sought)) (sym (append_assoc ds ((48 + n % 10) ∷ []) behind)) (below (omega arith) (omega arith) ((48 + n % 10) ∷ behind) (more_digits_again n behind big small h)))
-      n (omega (arith, small, most_small sought)) some small
+      subst (takes reply_step (at_number role)) (sym (append_assoc ds ((48 + n % 10) ∷ []) behind)) (below (omega arith) (omega arith) ((48 + n % 10) ∷ behind) (more_digits_again n behind big small h)))
+      n (omega (arith, small, most_small role)) some small
 
-  zero_again : (behind : List ℕ) → may_be_zero sought ≡ true → follows reply_step (number_ended sought 0) behind → takes reply_step (at_number sought) (decimal 0 ++ 126 ∷ behind)
+  zero_again : (behind : List ℕ) → may_be_zero role ≡ true → follows reply_step (number_ended role 0) behind → takes reply_step (at_number role) (decimal 0 ++ 126 ∷ behind)
   zero_again behind may h =
-      let tilde : takes reply_step (at_zero sought) (126 ∷ behind) = one_taken reply_step (at_zero sought) 126 behind h in
-      subst (λ (ds : List ℕ). takes reply_step (at_number sought) (ds ++ 126 ∷ behind)) (sym (decimal_digit 0 (omega arith))) (one_taken reply_step (at_number sought) 48 (126 ∷ behind) (rw may tilde))
+      let tilde : takes reply_step (at_zero role) (126 ∷ behind) = one_taken reply_step (at_zero role) 126 behind h in
+      subst (λ (ds : List ℕ). takes reply_step (at_number role) (ds ++ 126 ∷ behind)) (sym (decimal_digit 0 (omega arith))) (one_taken reply_step (at_number role) 48 (126 ∷ behind) (rw may tilde))
 
   -- each right number is taken
-  pub count_again : (n : ℕ) (behind : List ℕ) → n ≤ most_of sought → (may_be_zero sought ≡ false → 1 ≤ n) → follows reply_step (number_ended sought n) behind → takes reply_step (at_number sought) (decimal n ++ 126 ∷ behind)
+  pub count_again : (n : ℕ) (behind : List ℕ) → n ≤ most_of role → (may_be_zero role ≡ false → 1 ≤ n) → follows reply_step (number_ended role n) behind → takes reply_step (at_number role) (decimal n ++ 126 ∷ behind)
   count_again zero behind small some h =
-      elim (cases_Bool (may_be_zero sought)) [
+      elim (cases_Bool (may_be_zero role)) [
         | inl may ↦ zero_again behind may h
         | inr never ↦ absurd (omega (arith, some never))
       ]
-  count_again (suc n) behind small some h = digits_again (suc n) (omega arith) small (126 ∷ behind) (one_taken reply_step (in_number (suc n) sought) 126 behind h)
+  count_again (suc n) behind small some h = digits_again (suc n) (omega arith) small (126 ∷ behind) (one_taken reply_step (in_number (suc n) role) 126 behind h)

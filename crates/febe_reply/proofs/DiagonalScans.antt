@@ -11,9 +11,9 @@ use Rattle.febe_data.specs.Spelling.{spell_number, spell_text_address, spell_dia
 use Rattle.febe_data.specs.Validity.{IsList, IsDiagonal}
 use Rattle.febe_fields.specs.Fields.{takes, follows}
 use Rattle.febe_fields.proofs.Scans.{takes_some, takes_one, one_taken}
-use Rattle.febe_reply.specs.declared.scan.Sought.{Sought}
-use Rattle.febe_reply.specs.declared.scan.Sought.TheVariants.{Diagonals, Left, Right, Length}
-use Rattle.febe_reply.specs.ReplyMachine.{ReplyState, at_number, at_address, diagonals_next, expects, reply_step}
+use Rattle.febe_reply.specs.declared.scan.NumberRole.{NumberRole}
+use Rattle.febe_reply.specs.declared.scan.NumberRole.TheVariants.{Diagonals, Left, Right, Length}
+use Rattle.febe_reply.specs.inside.ReplyMachine.{ReplyState, at_number, at_address, diagonals_next, expects, reply_step}
 use Rattle.febe_reply.proofs.CountScans.{count_takes, count_again}
 
 -- ---- the bytes before a text position
@@ -26,49 +26,49 @@ expected wanted next b input h =
     ]
 
 -- these bytes, and the number behind them
-record TakesAddress (read : List ℕ) (sought : Sought) (input : List ℕ) : Type 0 where
+record TakesAddress (read : List ℕ) (role : NumberRole) (input : List ℕ) : Type 0 where
   behind : List ℕ
   spelled : input ≡ read ++ behind
-  ended : takes reply_step (at_number sought) behind
+  ended : takes reply_step (at_number role) behind
 
-one_more : (sought : Sought) (front : List ℕ) (b wanted : ℕ) (input : List ℕ) → b ≡ wanted → TakesAddress front sought input → TakesAddress (wanted ∷ front) sought (b ∷ input)
-one_more sought front b wanted input e t = record { behind = t.behind; spelled = rw e (ap (λ (ds : List ℕ). wanted ∷ ds) t.spelled); ended = t.ended }
+one_more : (role : NumberRole) (prefix : List ℕ) (b wanted : ℕ) (input : List ℕ) → b ≡ wanted → TakesAddress prefix role input → TakesAddress (wanted ∷ prefix) role (b ∷ input)
+one_more role prefix b wanted input e t = record { behind = t.behind; spelled = rw e (ap (λ (ds : List ℕ). wanted ∷ ds) t.spelled); ended = t.ended }
 
-last_dot : (sought : Sought) (input : List ℕ) → takes reply_step (at_address 3 sought) input → TakesAddress (46 ∷ []) sought input
-last_dot sought [] h = absurd (takes_some reply_step (at_address 3 sought) h)
-last_dot sought (b ∷ input) h =
-    let e = expected 46 (at_number sought) b input (takes_one reply_step (at_address 3 sought) b input h) in
-    one_more sought [] b 46 input e.0 (record { behind = input; spelled = refl; ended = e.1 })
+last_dot : (role : NumberRole) (input : List ℕ) → takes reply_step (at_address 3 role) input → TakesAddress (46 ∷ []) role input
+last_dot role [] h = absurd (takes_some reply_step (at_address 3 role) h)
+last_dot role (b ∷ input) h =
+    let e = expected 46 (at_number role) b input (takes_one reply_step (at_address 3 role) b input h) in
+    one_more role [] b 46 input e.0 (record { behind = input; spelled = refl; ended = e.1 })
 
-one_dot : (sought : Sought) (input : List ℕ) → takes reply_step (at_address 2 sought) input → TakesAddress (49 ∷ 46 ∷ []) sought input
-one_dot sought [] h = absurd (takes_some reply_step (at_address 2 sought) h)
-one_dot sought (b ∷ input) h =
-    let e = expected 49 (at_address 3 sought) b input (takes_one reply_step (at_address 2 sought) b input h) in
-    one_more sought (46 ∷ []) b 49 input e.0 (last_dot sought input e.1)
+one_dot : (role : NumberRole) (input : List ℕ) → takes reply_step (at_address 2 role) input → TakesAddress (49 ∷ 46 ∷ []) role input
+one_dot role [] h = absurd (takes_some reply_step (at_address 2 role) h)
+one_dot role (b ∷ input) h =
+    let e = expected 49 (at_address 3 role) b input (takes_one reply_step (at_address 2 role) b input h) in
+    one_more role (46 ∷ []) b 49 input e.0 (last_dot role input e.1)
 
-first_dot : (sought : Sought) (input : List ℕ) → takes reply_step (at_address 1 sought) input → TakesAddress (46 ∷ 49 ∷ 46 ∷ []) sought input
-first_dot sought [] h = absurd (takes_some reply_step (at_address 1 sought) h)
-first_dot sought (b ∷ input) h =
-    let e = expected 46 (at_address 2 sought) b input (takes_one reply_step (at_address 1 sought) b input h) in
-    one_more sought (49 ∷ 46 ∷ []) b 46 input e.0 (one_dot sought input e.1)
+first_dot : (role : NumberRole) (input : List ℕ) → takes reply_step (at_address 1 role) input → TakesAddress (46 ∷ 49 ∷ 46 ∷ []) role input
+first_dot role [] h = absurd (takes_some reply_step (at_address 1 role) h)
+first_dot role (b ∷ input) h =
+    let e = expected 46 (at_address 2 role) b input (takes_one reply_step (at_address 1 role) b input h) in
+    one_more role (49 ∷ 46 ∷ []) b 46 input e.0 (one_dot role input e.1)
 
-address_takes : (sought : Sought) (input : List ℕ) → takes reply_step (at_address 0 sought) input → TakesAddress (48 ∷ 46 ∷ 49 ∷ 46 ∷ []) sought input
-address_takes sought [] h = absurd (takes_some reply_step (at_address 0 sought) h)
-address_takes sought (b ∷ input) h =
-    let e = expected 48 (at_address 1 sought) b input (takes_one reply_step (at_address 0 sought) b input h) in
-    one_more sought (46 ∷ 49 ∷ 46 ∷ []) b 48 input e.0 (first_dot sought input e.1)
+address_takes : (role : NumberRole) (input : List ℕ) → takes reply_step (at_address 0 role) input → TakesAddress (48 ∷ 46 ∷ 49 ∷ 46 ∷ []) role input
+address_takes role [] h = absurd (takes_some reply_step (at_address 0 role) h)
+address_takes role (b ∷ input) h =
+    let e = expected 48 (at_address 1 role) b input (takes_one reply_step (at_address 0 role) b input h) in
+    one_more role (46 ∷ 49 ∷ 46 ∷ []) b 48 input e.0 (first_dot role input e.1)
 
-pub dot_again : (sought : Sought) (input : List ℕ) → takes reply_step (at_number sought) input → takes reply_step (at_address 3 sought) (46 ∷ input)
-dot_again sought input h = one_taken reply_step (at_address 3 sought) 46 input h
+pub dot_again : (role : NumberRole) (input : List ℕ) → takes reply_step (at_number role) input → takes reply_step (at_address 3 role) (46 ∷ input)
+dot_again role input h = one_taken reply_step (at_address 3 role) 46 input h
 
-pub one_again : (sought : Sought) (input : List ℕ) → takes reply_step (at_number sought) input → takes reply_step (at_address 2 sought) (49 ∷ 46 ∷ input)
-one_again sought input h = one_taken reply_step (at_address 2 sought) 49 (46 ∷ input) (dot_again sought input h)
+pub one_again : (role : NumberRole) (input : List ℕ) → takes reply_step (at_number role) input → takes reply_step (at_address 2 role) (49 ∷ 46 ∷ input)
+one_again role input h = one_taken reply_step (at_address 2 role) 49 (46 ∷ input) (dot_again role input h)
 
-pub point_again : (sought : Sought) (input : List ℕ) → takes reply_step (at_number sought) input → takes reply_step (at_address 1 sought) (46 ∷ 49 ∷ 46 ∷ input)
-point_again sought input h = one_taken reply_step (at_address 1 sought) 46 (49 ∷ 46 ∷ input) (one_again sought input h)
+pub point_again : (role : NumberRole) (input : List ℕ) → takes reply_step (at_number role) input → takes reply_step (at_address 1 role) (46 ∷ 49 ∷ 46 ∷ input)
+point_again role input h = one_taken reply_step (at_address 1 role) 46 (49 ∷ 46 ∷ input) (one_again role input h)
 
-pub address_again : (sought : Sought) (input : List ℕ) → takes reply_step (at_number sought) input → takes reply_step (at_address 0 sought) (48 ∷ 46 ∷ 49 ∷ 46 ∷ input)
-address_again sought input h = one_taken reply_step (at_address 0 sought) 48 (46 ∷ 49 ∷ 46 ∷ input) (point_again sought input h)
+pub address_again : (role : NumberRole) (input : List ℕ) → takes reply_step (at_number role) input → takes reply_step (at_address 0 role) (48 ∷ 46 ∷ 49 ∷ 46 ∷ input)
+address_again role input h = one_taken reply_step (at_address 0 role) 48 (46 ∷ 49 ∷ 46 ∷ input) (point_again role input h)
 
 -- the spelling of a text position, byte by byte
 address_spelled : (position : ℕ) (behind : List ℕ) → spell_text_address position ++ behind ≡ 48 ∷ 46 ∷ 49 ∷ 46 ∷ (decimal position ++ 126 ∷ behind)

@@ -17,36 +17,36 @@ use Rattle.febe_fields.specs.Machine.{State, opened, field_step}
 use Rattle.febe_fields.proofs.Scans.{takes_some, takes_one, one_taken}
 use Rattle.febe_fields.proofs.FieldsTaken.{fields_take}
 use Rattle.febe_fields.proofs.FieldsAgain.{field_again}
-use Rattle.febe_reply.specs.declared.scan.Sought.TheVariants.{Items}
+use Rattle.febe_reply.specs.declared.scan.NumberRole.TheVariants.{Items}
 use Rattle.febe_reply.specs.ReplyGrammar.{HoldsBytes}
-use Rattle.febe_reply.specs.ReplyMachine.{at_item, in_item, at_number, items_next, item_goes, item_opened, reply_step}
+use Rattle.febe_reply.specs.inside.ReplyMachine.{at_item, in_item, at_number, items_next, item_goes, item_opened, reply_step}
 use Rattle.febe_reply.proofs.CountScans.{count_takes, count_again}
 
 -- ---- an item's fields within the reply
 
 -- an item's own bytes, in front of what comes behind
-record TakesFront (s : State) (more : ℕ) (input : List ℕ) : Type 0 where
-  front : List ℕ
+record TakesPrefix (s : State) (more : ℕ) (input : List ℕ) : Type 0 where
+  prefix : List ℕ
   behind : List ℕ
-  taken : takes field_step s front
-  spelled : input ≡ front ++ behind
+  taken : takes field_step s prefix
+  spelled : input ≡ prefix ++ behind
   ended : follows reply_step (items_next more) behind
 
-front_takes : (s : State) (more : ℕ) (input : List ℕ) → takes reply_step (in_item s more) input → TakesFront s more input
-front_takes s more [] h = absurd (takes_some reply_step (in_item s more) h)
-front_takes s more (b ∷ input) h = by_outcome (λ t. front_takes t more input) (field_step s b) refl (takes_one reply_step (in_item s more) b input h) where
-  by_outcome : ((t : State) → takes reply_step (in_item t more) input → TakesFront t more input) → (o : Outcome State) → field_step s b ≡ o → follows reply_step (item_goes more o) input → TakesFront s more (b ∷ input)
+prefix_takes : (s : State) (more : ℕ) (input : List ℕ) → takes reply_step (in_item s more) input → TakesPrefix s more input
+prefix_takes s more [] h = absurd (takes_some reply_step (in_item s more) h)
+prefix_takes s more (b ∷ input) h = by_outcome (λ t. prefix_takes t more input) (field_step s b) refl (takes_one reply_step (in_item s more) b input h) where
+  by_outcome : ((t : State) → takes reply_step (in_item t more) input → TakesPrefix t more input) → (o : Outcome State) → field_step s b ≡ o → follows reply_step (item_goes more o) input → TakesPrefix s more (b ∷ input)
   by_outcome on (goes t) e h =
       let r = on t h in
       record {
-        front = b ∷ r.front;
+        prefix = b ∷ r.prefix;
         behind = r.behind;
-        taken = one_taken field_step s b r.front (subst (λ (o : Outcome State). follows field_step o r.front) (sym e) r.taken);
+        taken = one_taken field_step s b r.prefix (subst (λ (o : Outcome State). follows field_step o r.prefix) (sym e) r.taken);
         spelled = ap (λ (ds : List ℕ). b ∷ ds) r.spelled;
         ended = r.ended;
       }
   by_outcome on done e h = record {
-    front = b ∷ [];
+    prefix = b ∷ [];
     behind = input;
     taken = one_taken field_step s b [] (subst (λ (o : Outcome State). follows field_step o []) (sym e) refl);
     spelled = refl;
@@ -54,10 +54,10 @@ front_takes s more (b ∷ input) h = by_outcome (λ t. front_takes t more input)
   }
   by_outcome on fails e h = absurd h
 
-pub front_again : (s : State) (more : ℕ) (front behind : List ℕ) → takes field_step s front → follows reply_step (items_next more) behind → takes reply_step (in_item s more) (front ++ behind)
-front_again s more [] behind h ended = absurd (takes_some field_step s h)
-front_again s more (b ∷ front) behind h ended = one_taken reply_step (in_item s more) b (front ++ behind) (by_outcome (λ t g. front_again t more front behind g ended) (field_step s b) (takes_one field_step s b front h)) where
-  by_outcome : ((t : State) → takes field_step t front → takes reply_step (in_item t more) (front ++ behind)) → (o : Outcome State) → follows field_step o front → follows reply_step (item_goes more o) (front ++ behind)
+pub prefix_again : (s : State) (more : ℕ) (prefix behind : List ℕ) → takes field_step s prefix → follows reply_step (items_next more) behind → takes reply_step (in_item s more) (prefix ++ behind)
+prefix_again s more [] behind h ended = absurd (takes_some field_step s h)
+prefix_again s more (b ∷ prefix) behind h ended = one_taken reply_step (in_item s more) b (prefix ++ behind) (by_outcome (λ t g. prefix_again t more prefix behind g ended) (field_step s b) (takes_one field_step s b prefix h)) where
+  by_outcome : ((t : State) → takes field_step t prefix → takes reply_step (in_item t more) (prefix ++ behind)) → (o : Outcome State) → follows field_step o prefix → follows reply_step (item_goes more o) (prefix ++ behind)
   by_outcome on (goes t) h = on t h
   by_outcome on done h = subst (λ (ds : List ℕ). follows reply_step (items_next more) (ds ++ behind)) (sym h) ended
   by_outcome on fails h = absurd h
@@ -73,32 +73,32 @@ pub record TakesItem (more : ℕ) (input : List ℕ) : Type 0 where
   pub spelled : input ≡ spell_item item ++ behind
   pub ended : follows reply_step (items_next more) behind
 
-joined : (input front spelling behind : List ℕ) → input ≡ front ++ behind → front ≡ spelling ++ [] → input ≡ spelling ++ behind
-joined input front spelling behind e f = e ∙ ap (λ (ds : List ℕ). ds ++ behind) (f ∙ append-nil spelling)
+joined : (input prefix spelling behind : List ℕ) → input ≡ prefix ++ behind → prefix ≡ spelling ++ [] → input ≡ spelling ++ behind
+joined input prefix spelling behind e f = e ∙ ap (λ (ds : List ℕ). ds ++ behind) (f ∙ append-nil spelling)
 
 text_takes : (more : ℕ) (input : List ℕ) → takes reply_step (in_item (opened fields.Text []) more) input → TakesItem more input
 text_takes more input h =
-    let t = front_takes (opened fields.Text []) more input h in
-    let s = fields_take (fields.Text ∷ []) t.front t.taken in
+    let t = prefix_takes (opened fields.Text []) more input h in
+    let s = fields_take (fields.Text ∷ []) t.prefix t.taken in
     record {
       item = bytes s.values.0;
       behind = t.behind;
       is = s.valid.0.short;
       holds = s.valid.0.bytes;
-      spelled = joined input t.front (spell_text s.values.0) t.behind t.spelled s.spelled;
+      spelled = joined input t.prefix (spell_text s.values.0) t.behind t.spelled s.spelled;
       ended = t.ended;
     }
 
 link_takes : (more : ℕ) (input : List ℕ) → takes reply_step (in_item (opened fields.Tumbler []) more) input → TakesItem more input
 link_takes more input h =
-    let t = front_takes (opened fields.Tumbler []) more input h in
-    let s = fields_take (fields.Tumbler ∷ []) t.front t.taken in
+    let t = prefix_takes (opened fields.Tumbler []) more input h in
+    let s = fields_take (fields.Tumbler ∷ []) t.prefix t.taken in
     record {
       item = link s.values.0;
       behind = t.behind;
       is = s.valid.0;
       holds = tt;
-      spelled = joined input t.front (spell_tumbler s.values.0) t.behind t.spelled s.spelled;
+      spelled = joined input t.prefix (spell_tumbler s.values.0) t.behind t.spelled s.spelled;
       ended = t.ended;
     }
 
@@ -128,10 +128,10 @@ pub item_again : (item : PlainItem) (more : ℕ) (behind : List ℕ) → IsItem 
 item_again (bytes text) more behind is holds ended =
     let valid : IsText text = record { short = is; bytes = holds } in
     let alone : takes field_step (opened fields.Text []) (spell_text text) = subst (takes field_step (opened fields.Text [])) (append-nil (spell_text text)) (field_again fields.Text [] [] refl text valid) in
-    text_begins more (((decimal (length text) ++ 58 ∷ []) ++ text) ++ behind) (front_again (opened fields.Text []) more (spell_text text) behind alone ended)
+    text_begins more (((decimal (length text) ++ 58 ∷ []) ++ text) ++ behind) (prefix_again (opened fields.Text []) more (spell_text text) behind alone ended)
 item_again (link id) more behind is holds ended =
     let alone : takes field_step (opened fields.Tumbler []) (spell_tumbler id) = subst (takes field_step (opened fields.Tumbler [])) (append-nil (spell_tumbler id)) (field_again fields.Tumbler [] [] refl id is) in
-    link_begins more (spell_tumbler id ++ behind) (front_again (opened fields.Tumbler []) more (spell_tumbler id) behind alone ended)
+    link_begins more (spell_tumbler id ++ behind) (prefix_again (opened fields.Tumbler []) more (spell_tumbler id) behind alone ended)
 
 -- ---- so many items
 

@@ -13,15 +13,15 @@ use Rattle.febe_data.specs.declared.refusal.Refusal.TheVariants.{NoAccount, NoSu
 use Rattle.febe_data.specs.declared.run.Diagonal.{Diagonal}
 use Rattle.febe_data.specs.Refusal.{refusal_number}
 use Rattle.febe_data.specs.Plain.{PlainSpec, PlainItem, bytes, link, PlainReply, inserted, copied, rearranged, deleted, has_quit, account_set, closed, gave_span_set, gave_whole_span, retrieved, related, created, versioned, linked, opened, followed, found_documents, gave_end_sets, counted_links, found_links, gave_next_links, refused}
-use Rattle.febe_data.specs.Parts.{reply_parts}
-use Rattle.febe_data.specs.Spelling.{spell_number, spell_tumbler, spell_text, spell_span, spell_list, spell_spec, spell_item, spell_text_address, spell_diagonal, spell_part}
+use Rattle.febe_data.specs.FieldValues.{reply_values}
+use Rattle.febe_data.specs.Spelling.{spell_number, spell_tumbler, spell_text, spell_span, spell_list, spell_spec, spell_item, spell_text_address, spell_diagonal, spell_value}
 use Rattle.febe_data.specs.Validity.{IsList, IsItem, IsDiagonal, IsReply}
 use Rattle.febe_fields.specs.Reading.{digits_at, number_at, all_places_at, tumbler_at}
 use Rattle.febe_fields.proofs.FieldLaws.{number_again, tumbler_again, text_again}
 use Rattle.febe_fields.proofs.ListLaws.{tumblers_again, span_again, spans_again, specs_again, list_again}
 use Rattle.febe_reply.specs.ReplyGrammar.{spell_reply}
 use Rattle.febe_reply.specs.ReplyLaw.{OneReply}
-use Rattle.febe_reply.specs.Reading.{refusal_of, refused_at, text_item_at, link_item_at, item_at, retrieved_at, text_address_at, diagonal_at, related_at, reply_with_tumbler, with_tumbler_at, reply_with_tumblers, with_tumblers_at, with_nothing_at, span_set_at, whole_span_at, followed_at, end_sets_at, link_count_at, reply_of, numbered_at, reply_at}
+use Rattle.febe_reply.specs.inside.Reading.{refusal_of, refused_at, text_item_at, link_item_at, item_at, retrieved_at, text_address_at, diagonal_at, related_at, reply_with_tumbler, with_tumbler_at, reply_with_tumblers, with_tumblers_at, with_nothing_at, span_set_at, whole_span_at, followed_at, end_sets_at, link_count_at, reply_of, numbered_at, reply_at}
 
 -- ---- parts one behind the other, and what stands behind them
 
@@ -128,7 +128,7 @@ diagonal_again d rest h =
 
 -- what a reply of this number gives is read again
 abbrev PartsAgain : ℕ → PlainReply → List ℕ → Type 0
-PartsAgain n r rest = reply_of n (flat_map spell_part (reply_parts r) ++ rest) ≡ Some (r, rest)
+PartsAgain n r rest = reply_of n (flat_map spell_value (reply_values r) ++ rest) ≡ Some (r, rest)
 
 tumbler_alone : (n : ℕ) (places rest : List ℕ) (r : PlainReply) → IsTumbler places → reply_with_tumbler n places ≡ Some r → with_tumbler_at n ((spell_tumbler places ++ []) ++ rest) ≡ Some (r, rest)
 unfolding with_tumbler_at
@@ -217,7 +217,7 @@ reply_again (linked id) rest h = behind_number 27 (spell_tumbler id ++ []) rest 
 reply_again (opened document) rest h = behind_number 35 (spell_tumbler document ++ []) rest (opened document, rest) (omega arith) (tumbler_alone 35 document rest (opened document) h.0 refl)
 reply_again (followed specs) rest h = behind_number 18 (spell_list spell_spec specs ++ []) rest (followed specs, rest) (omega arith) (followed_again specs rest h)
 reply_again (found_documents documents) rest h = behind_number 22 (spell_list spell_tumbler documents ++ []) rest (found_documents documents, rest) (omega arith) (tumblers_alone 22 documents rest (found_documents documents) h.0 refl)
-reply_again (gave_end_sets from to three) rest h = behind_number 28 (flat_map spell_part (reply_parts (gave_end_sets from to three))) rest (gave_end_sets from to three, rest) (omega arith) (end_sets_again from to three rest h)
+reply_again (gave_end_sets from to three) rest h = behind_number 28 (flat_map spell_value (reply_values (gave_end_sets from to three))) rest (gave_end_sets from to three, rest) (omega arith) (end_sets_again from to three rest h)
 reply_again (counted_links count) rest h = behind_number 29 (spell_number count ++ []) rest (counted_links count, rest) (omega arith) (link_count_again count rest h)
 reply_again (found_links ids) rest h = behind_number 30 (spell_list spell_tumbler ids ++ []) rest (found_links ids, rest) (omega arith) (tumblers_alone 30 ids rest (found_links ids) h.0 refl)
 reply_again (gave_next_links ids) rest h = behind_number 31 (spell_list spell_tumbler ids ++ []) rest (gave_next_links ids, rest) (omega arith) (tumblers_alone 31 ids rest (gave_next_links ids) h.0 refl)

@@ -11,12 +11,12 @@ use Rattle.febe_data.specs.declared.refusal.Refusal.{Refusal}
 use Rattle.febe_data.specs.declared.refusal.Refusal.TheVariants as refusals
 use Rattle.febe_data.specs.Refusal.{refusal_number}
 use Rattle.febe_data.specs.Plain.{PlainReply, inserted, copied, rearranged, deleted, has_quit, account_set, closed, gave_span_set, gave_whole_span, retrieved, related, created, versioned, linked, opened, followed, found_documents, gave_end_sets, counted_links, found_links, gave_next_links, refused}
-use Rattle.febe_data.specs.Parts.{reply_parts}
-use Rattle.febe_data.specs.Spelling.{spell_number, spell_item, spell_diagonal, spell_list, spell_part}
+use Rattle.febe_data.specs.FieldValues.{reply_values}
+use Rattle.febe_data.specs.Spelling.{spell_number, spell_item, spell_diagonal, spell_list, spell_value}
 use Rattle.febe_data.specs.Validity.{IsReply}
 use Rattle.febe_fields.specs.declared.scanner.Field.TheVariants as fields
 use Rattle.febe_fields.specs.declared.scanned.Scanned.{Scanned}
-use Rattle.febe_fields.specs.Prefixes.{IsScanned, BeginsWith}
+use Rattle.febe_fields.specs.Prefixes.{IsScanned, HasSpelledPrefix}
 use Rattle.febe_fields.specs.Scanning.{Outcome, goes, done, fails, behind, scan}
 use Rattle.febe_fields.specs.Machine.{State, fields_next, field_step}
 use Rattle.febe_fields.specs.Fields.{SpellsFields, takes, follows}
@@ -28,15 +28,15 @@ use Rattle.febe_fields.proofs.FieldsTaken.{fields_take}
 use Rattle.febe_fields.proofs.FieldsAgain.{fields_again}
 use Rattle.febe_fields.proofs.Live.{fields_go_on, never_stuck}
 use Rattle.febe_fields.proofs.Passing.{behind_more, rest_goes}
-use Rattle.febe_reply.specs.declared.scan.Sought.{Sought}
-use Rattle.febe_reply.specs.declared.scan.Sought.TheVariants as soughts
+use Rattle.febe_reply.specs.declared.scan.NumberRole.{NumberRole}
+use Rattle.febe_reply.specs.declared.scan.NumberRole.TheVariants as soughts
 use Rattle.febe_reply.specs.ReplyGrammar.{reply_head, spell_reply, HasBytes, SpellsReply, IsSpelledReply}
-use Rattle.febe_reply.specs.Reading.{reply_at}
+use Rattle.febe_reply.specs.inside.Reading.{reply_at}
 use Rattle.febe_reply.specs.Reads.{IsReadReply}
-use Rattle.febe_reply.specs.ReplyMachine.{Behind, these, some_items, some_diagonals, ReplyState, at_start, one_digit, two_digits, in_fields, at_number, at_zero, in_number, at_item, in_item, at_address, payload_of, number_ended, begun, behind_next, named, reply_step}
+use Rattle.febe_reply.specs.inside.ReplyMachine.{Behind, these, some_items, some_diagonals, ReplyState, at_start, one_digit, two_digits, in_fields, at_number, at_zero, in_number, at_item, in_item, at_address, payload_of, number_ended, begun, behind_next, named, reply_step}
 use Rattle.febe_reply.proofs.CountScans.{most_some, count_takes, count_again}
 use Rattle.febe_reply.proofs.ItemScans as item_scans
-use Rattle.febe_reply.proofs.ItemScans.{SpellsItems, front_again, one_item_goes_on, items_go_on}
+use Rattle.febe_reply.proofs.ItemScans.{SpellsItems, prefix_again, one_item_goes_on, items_go_on}
 use Rattle.febe_reply.proofs.DiagonalScans as diagonal_scans
 use Rattle.febe_reply.proofs.DiagonalScans.{SpellsDiagonals, dot_again, one_again, point_again, address_again, diagonals_go_on}
 use Rattle.febe_reply.proofs.ReplyLaws.{refusal_bounds, reply_again}
@@ -88,9 +88,9 @@ behind_takes some_diagonals input h = diagonal_scans.list_takes input h
 record NamedReply (n : ℕ) (input : List ℕ) : Type 0 where
   reply : PlainReply
   valid : IsReply reply
-  texts : AllByRecursion HasBytes (reply_parts reply)
+  texts : AllByRecursion HasBytes (reply_values reply)
   head : reply_head reply ≡ spell_number n
-  parts : input ≡ flat_map spell_part (reply_parts reply)
+  parts : input ≡ flat_map spell_value (reply_values reply)
 
 named_0 : (input : List ℕ) → SpellsBehind (these []) input → NamedReply 0 input
 named_0 input h = record { reply = inserted; valid = h.valid; texts = tt; head = refl; parts = h.spelled }
@@ -341,28 +341,28 @@ refused_taken r =
     one_taken reply_step at_start 63 (spell_number (refusal_number r) ++ []) (subst (takes reply_step (at_number soughts.Refusal)) (sym (append-nil (spell_number (refusal_number r)))) number)
 
 -- a valid reply is taken
-spelled_taken : (r : PlainReply) → IsReply r → AllByRecursion HasBytes (reply_parts r) → takes reply_step at_start (spell_reply r)
-spelled_taken inserted h texts = name_0 (flat_map spell_part (reply_parts inserted)) (begun_in (fields_next []) (flat_map spell_part (reply_parts inserted)) (fields_again [] tt h))
-spelled_taken (gave_span_set spans) h texts = name_1 (flat_map spell_part (reply_parts (gave_span_set spans))) (begun_in (fields_next (fields.Spans ∷ [])) (flat_map spell_part (reply_parts (gave_span_set spans))) (fields_again (fields.Spans ∷ []) (spans, tt) h))
-spelled_taken copied h texts = name_2 (flat_map spell_part (reply_parts copied)) (begun_in (fields_next []) (flat_map spell_part (reply_parts copied)) (fields_again [] tt h))
-spelled_taken rearranged h texts = name_3 (flat_map spell_part (reply_parts rearranged)) (begun_in (fields_next []) (flat_map spell_part (reply_parts rearranged)) (fields_again [] tt h))
+spelled_taken : (r : PlainReply) → IsReply r → AllByRecursion HasBytes (reply_values r) → takes reply_step at_start (spell_reply r)
+spelled_taken inserted h texts = name_0 (flat_map spell_value (reply_values inserted)) (begun_in (fields_next []) (flat_map spell_value (reply_values inserted)) (fields_again [] tt h))
+spelled_taken (gave_span_set spans) h texts = name_1 (flat_map spell_value (reply_values (gave_span_set spans))) (begun_in (fields_next (fields.Spans ∷ [])) (flat_map spell_value (reply_values (gave_span_set spans))) (fields_again (fields.Spans ∷ []) (spans, tt) h))
+spelled_taken copied h texts = name_2 (flat_map spell_value (reply_values copied)) (begun_in (fields_next []) (flat_map spell_value (reply_values copied)) (fields_again [] tt h))
+spelled_taken rearranged h texts = name_3 (flat_map spell_value (reply_values rearranged)) (begun_in (fields_next []) (flat_map spell_value (reply_values rearranged)) (fields_again [] tt h))
 spelled_taken (retrieved items) h texts = name_5 (spell_list spell_item items ++ []) (subst (takes reply_step (at_number soughts.Items)) (sym (append-nil (spell_list spell_item items))) (item_scans.list_again items h.0 texts.0))
 spelled_taken (related diagonals) h texts = name_10 (spell_list spell_diagonal diagonals ++ []) (subst (takes reply_step (at_number soughts.Diagonals)) (sym (append-nil (spell_list spell_diagonal diagonals))) (diagonal_scans.list_again diagonals h.0))
-spelled_taken (created document) h texts = name_11 (flat_map spell_part (reply_parts (created document))) (begun_in (fields_next (fields.Tumbler ∷ [])) (flat_map spell_part (reply_parts (created document))) (fields_again (fields.Tumbler ∷ []) (document, tt) h))
-spelled_taken deleted h texts = name_12 (flat_map spell_part (reply_parts deleted)) (begun_in (fields_next []) (flat_map spell_part (reply_parts deleted)) (fields_again [] tt h))
-spelled_taken (versioned document) h texts = name_13 (flat_map spell_part (reply_parts (versioned document))) (begun_in (fields_next (fields.Tumbler ∷ [])) (flat_map spell_part (reply_parts (versioned document))) (fields_again (fields.Tumbler ∷ []) (document, tt) h))
-spelled_taken (gave_whole_span span) h texts = name_14 (flat_map spell_part (reply_parts (gave_whole_span span))) (begun_in (fields_next (fields.Span ∷ [])) (flat_map spell_part (reply_parts (gave_whole_span span))) (fields_again (fields.Span ∷ []) (span, tt) h))
-spelled_taken has_quit h texts = name_16 (flat_map spell_part (reply_parts has_quit)) (begun_in (fields_next []) (flat_map spell_part (reply_parts has_quit)) (fields_again [] tt h))
-spelled_taken (followed specs) h texts = name_18 (flat_map spell_part (reply_parts (followed specs))) (begun_in (fields_next (fields.Specs ∷ [])) (flat_map spell_part (reply_parts (followed specs))) (fields_again (fields.Specs ∷ []) (specs, tt) h))
-spelled_taken (found_documents documents) h texts = name_22 (flat_map spell_part (reply_parts (found_documents documents))) (begun_in (fields_next (fields.Tumblers ∷ [])) (flat_map spell_part (reply_parts (found_documents documents))) (fields_again (fields.Tumblers ∷ []) (documents, tt) h))
-spelled_taken (linked id) h texts = name_27 (flat_map spell_part (reply_parts (linked id))) (begun_in (fields_next (fields.Tumbler ∷ [])) (flat_map spell_part (reply_parts (linked id))) (fields_again (fields.Tumbler ∷ []) (id, tt) h))
-spelled_taken (gave_end_sets from to three) h texts = name_28 (flat_map spell_part (reply_parts (gave_end_sets from to three))) (begun_in (fields_next (fields.Specs ∷ fields.Specs ∷ fields.Specs ∷ [])) (flat_map spell_part (reply_parts (gave_end_sets from to three))) (fields_again (fields.Specs ∷ fields.Specs ∷ fields.Specs ∷ []) (from, (to, (three, tt))) h))
-spelled_taken (counted_links count) h texts = name_29 (flat_map spell_part (reply_parts (counted_links count))) (begun_in (fields_next (fields.Number ∷ [])) (flat_map spell_part (reply_parts (counted_links count))) (fields_again (fields.Number ∷ []) (count, tt) h))
-spelled_taken (found_links ids) h texts = name_30 (flat_map spell_part (reply_parts (found_links ids))) (begun_in (fields_next (fields.Tumblers ∷ [])) (flat_map spell_part (reply_parts (found_links ids))) (fields_again (fields.Tumblers ∷ []) (ids, tt) h))
-spelled_taken (gave_next_links ids) h texts = name_31 (flat_map spell_part (reply_parts (gave_next_links ids))) (begun_in (fields_next (fields.Tumblers ∷ [])) (flat_map spell_part (reply_parts (gave_next_links ids))) (fields_again (fields.Tumblers ∷ []) (ids, tt) h))
-spelled_taken account_set h texts = name_34 (flat_map spell_part (reply_parts account_set)) (begun_in (fields_next []) (flat_map spell_part (reply_parts account_set)) (fields_again [] tt h))
-spelled_taken (opened document) h texts = name_35 (flat_map spell_part (reply_parts (opened document))) (begun_in (fields_next (fields.Tumbler ∷ [])) (flat_map spell_part (reply_parts (opened document))) (fields_again (fields.Tumbler ∷ []) (document, tt) h))
-spelled_taken closed h texts = name_36 (flat_map spell_part (reply_parts closed)) (begun_in (fields_next []) (flat_map spell_part (reply_parts closed)) (fields_again [] tt h))
+spelled_taken (created document) h texts = name_11 (flat_map spell_value (reply_values (created document))) (begun_in (fields_next (fields.Tumbler ∷ [])) (flat_map spell_value (reply_values (created document))) (fields_again (fields.Tumbler ∷ []) (document, tt) h))
+spelled_taken deleted h texts = name_12 (flat_map spell_value (reply_values deleted)) (begun_in (fields_next []) (flat_map spell_value (reply_values deleted)) (fields_again [] tt h))
+spelled_taken (versioned document) h texts = name_13 (flat_map spell_value (reply_values (versioned document))) (begun_in (fields_next (fields.Tumbler ∷ [])) (flat_map spell_value (reply_values (versioned document))) (fields_again (fields.Tumbler ∷ []) (document, tt) h))
+spelled_taken (gave_whole_span span) h texts = name_14 (flat_map spell_value (reply_values (gave_whole_span span))) (begun_in (fields_next (fields.Span ∷ [])) (flat_map spell_value (reply_values (gave_whole_span span))) (fields_again (fields.Span ∷ []) (span, tt) h))
+spelled_taken has_quit h texts = name_16 (flat_map spell_value (reply_values has_quit)) (begun_in (fields_next []) (flat_map spell_value (reply_values has_quit)) (fields_again [] tt h))
+spelled_taken (followed specs) h texts = name_18 (flat_map spell_value (reply_values (followed specs))) (begun_in (fields_next (fields.Specs ∷ [])) (flat_map spell_value (reply_values (followed specs))) (fields_again (fields.Specs ∷ []) (specs, tt) h))
+spelled_taken (found_documents documents) h texts = name_22 (flat_map spell_value (reply_values (found_documents documents))) (begun_in (fields_next (fields.Tumblers ∷ [])) (flat_map spell_value (reply_values (found_documents documents))) (fields_again (fields.Tumblers ∷ []) (documents, tt) h))
+spelled_taken (linked id) h texts = name_27 (flat_map spell_value (reply_values (linked id))) (begun_in (fields_next (fields.Tumbler ∷ [])) (flat_map spell_value (reply_values (linked id))) (fields_again (fields.Tumbler ∷ []) (id, tt) h))
+spelled_taken (gave_end_sets from to three) h texts = name_28 (flat_map spell_value (reply_values (gave_end_sets from to three))) (begun_in (fields_next (fields.Specs ∷ fields.Specs ∷ fields.Specs ∷ [])) (flat_map spell_value (reply_values (gave_end_sets from to three))) (fields_again (fields.Specs ∷ fields.Specs ∷ fields.Specs ∷ []) (from, (to, (three, tt))) h))
+spelled_taken (counted_links count) h texts = name_29 (flat_map spell_value (reply_values (counted_links count))) (begun_in (fields_next (fields.Number ∷ [])) (flat_map spell_value (reply_values (counted_links count))) (fields_again (fields.Number ∷ []) (count, tt) h))
+spelled_taken (found_links ids) h texts = name_30 (flat_map spell_value (reply_values (found_links ids))) (begun_in (fields_next (fields.Tumblers ∷ [])) (flat_map spell_value (reply_values (found_links ids))) (fields_again (fields.Tumblers ∷ []) (ids, tt) h))
+spelled_taken (gave_next_links ids) h texts = name_31 (flat_map spell_value (reply_values (gave_next_links ids))) (begun_in (fields_next (fields.Tumblers ∷ [])) (flat_map spell_value (reply_values (gave_next_links ids))) (fields_again (fields.Tumblers ∷ []) (ids, tt) h))
+spelled_taken account_set h texts = name_34 (flat_map spell_value (reply_values account_set)) (begun_in (fields_next []) (flat_map spell_value (reply_values account_set)) (fields_again [] tt h))
+spelled_taken (opened document) h texts = name_35 (flat_map spell_value (reply_values (opened document))) (begun_in (fields_next (fields.Tumbler ∷ [])) (flat_map spell_value (reply_values (opened document))) (fields_again (fields.Tumbler ∷ []) (document, tt) h))
+spelled_taken closed h texts = name_36 (flat_map spell_value (reply_values closed)) (begun_in (fields_next []) (flat_map spell_value (reply_values closed)) (fields_again [] tt h))
 spelled_taken (refused r) h texts = refused_taken r
 
 reply_taken : (input : List ℕ) → IsSpelledReply input → takes reply_step at_start input
@@ -480,7 +480,7 @@ reply_takes (b ∷ input) h =
 
 -- ---- each state goes on
 
-ended_goes_on : (sought : Sought) (n : ℕ) → (input : List ℕ) × follows reply_step (number_ended sought n) input
+ended_goes_on : (role : NumberRole) (n : ℕ) → (input : List ℕ) × follows reply_step (number_ended role n) input
 ended_goes_on soughts.Refusal n = ([], refl)
 ended_goes_on soughts.Items n = items_go_on n
 ended_goes_on soughts.Diagonals n = diagonals_go_on n
@@ -494,10 +494,10 @@ ended_goes_on (soughts.Left more) n =
     let right = count_again (soughts.Right more) 1 len (omega arith) (λ e. omega arith) (count_again (soughts.Length more) 1 on.0 (omega arith) (λ e. omega arith) on.1) in
     (48 ∷ 46 ∷ 49 ∷ 46 ∷ (decimal 1 ++ 126 ∷ len), address_again (soughts.Right more) (decimal 1 ++ 126 ∷ len) right)
 
-number_goes_on : (sought : Sought) → (input : List ℕ) × takes reply_step (at_number sought) input
-number_goes_on sought =
-    let on = ended_goes_on sought 1 in
-    (decimal 1 ++ 126 ∷ on.0, count_again sought 1 on.0 (most_some sought) (λ e. omega arith) on.1)
+number_goes_on : (role : NumberRole) → (input : List ℕ) × takes reply_step (at_number role) input
+number_goes_on role =
+    let on = ended_goes_on role 1 in
+    (decimal 1 ++ 126 ∷ on.0, count_again role 1 on.0 (most_some role) (λ e. omega arith) on.1)
 
 behind_goes_on : (b : Behind) → (input : List ℕ) × follows reply_step (behind_next b) input
 behind_goes_on (these fields) =
@@ -506,22 +506,22 @@ behind_goes_on (these fields) =
 behind_goes_on some_items = number_goes_on soughts.Items
 behind_goes_on some_diagonals = number_goes_on soughts.Diagonals
 
-address_goes_on : (read : ℕ) (sought : Sought) → (input : List ℕ) × takes reply_step (at_address read sought) input
-address_goes_on zero sought =
-    let on = number_goes_on sought in
-    (48 ∷ 46 ∷ 49 ∷ 46 ∷ on.0, address_again sought on.0 on.1)
-address_goes_on (suc zero) sought =
-    let on = number_goes_on sought in
-    (46 ∷ 49 ∷ 46 ∷ on.0, point_again sought on.0 on.1)
-address_goes_on (suc (suc zero)) sought =
-    let on = number_goes_on sought in
-    (49 ∷ 46 ∷ on.0, one_again sought on.0 on.1)
-address_goes_on (suc (suc (suc n))) sought =
-    let on = number_goes_on sought in
+address_goes_on : (read : ℕ) (role : NumberRole) → (input : List ℕ) × takes reply_step (at_address read role) input
+address_goes_on zero role =
+    let on = number_goes_on role in
+    (48 ∷ 46 ∷ 49 ∷ 46 ∷ on.0, address_again role on.0 on.1)
+address_goes_on (suc zero) role =
+    let on = number_goes_on role in
+    (46 ∷ 49 ∷ 46 ∷ on.0, point_again role on.0 on.1)
+address_goes_on (suc (suc zero)) role =
+    let on = number_goes_on role in
+    (49 ∷ 46 ∷ on.0, one_again role on.0 on.1)
+address_goes_on (suc (suc (suc n))) role =
+    let on = number_goes_on role in
     let not0 : (suc (suc (suc n)) == 0) ≡ false = ne_eqb _ _ (λ e. omega arith) in
     let not1 : (suc (suc (suc n)) == 1) ≡ false = ne_eqb _ _ (λ e. omega arith) in
     let not2 : (suc (suc (suc n)) == 2) ≡ false = ne_eqb _ _ (λ e. omega arith) in
-    (46 ∷ on.0, one_taken reply_step (at_address (suc (suc (suc n))) sought) 46 on.0 (rw (not0, not1, not2) on.1))
+    (46 ∷ on.0, one_taken reply_step (at_address (suc (suc (suc n))) role) 46 on.0 (rw (not0, not1, not2) on.1))
 
 reply_goes_on : (s : ReplyState) → (input : List ℕ) × takes reply_step s input
 reply_goes_on at_start =
@@ -536,19 +536,19 @@ reply_goes_on (two_digits b) =
 reply_goes_on (in_fields s) =
     let on = never_stuck s in
     (on.0, fields_in s on.0 on.1)
-reply_goes_on (at_number sought) = number_goes_on sought
-reply_goes_on (at_zero sought) =
-    let on = ended_goes_on sought 0 in
-    (126 ∷ on.0, one_taken reply_step (at_zero sought) 126 on.0 on.1)
-reply_goes_on (in_number n sought) =
-    let on = ended_goes_on sought n in
-    (126 ∷ on.0, one_taken reply_step (in_number n sought) 126 on.0 on.1)
+reply_goes_on (at_number role) = number_goes_on role
+reply_goes_on (at_zero role) =
+    let on = ended_goes_on role 0 in
+    (126 ∷ on.0, one_taken reply_step (at_zero role) 126 on.0 on.1)
+reply_goes_on (in_number n role) =
+    let on = ended_goes_on role n in
+    (126 ∷ on.0, one_taken reply_step (in_number n role) 126 on.0 on.1)
 reply_goes_on (at_item more) = one_item_goes_on more
 reply_goes_on (in_item s more) =
-    let front = never_stuck s in
+    let prefix = never_stuck s in
     let on = items_go_on more in
-    (front.0 ++ on.0, front_again s more front.0 on.0 front.1 on.1)
-reply_goes_on (at_address read sought) = address_goes_on read sought
+    (prefix.0 ++ on.0, prefix_again s more prefix.0 on.0 prefix.1 on.1)
+reply_goes_on (at_address read role) = address_goes_on read role
 
 -- ---- what a scan of replies says
 
@@ -566,15 +566,15 @@ one_on s t total rest n some within e so_far =
 -- ---- reading what was scanned
 
 -- a reply that was scanned is the one that is read
-read_again : (input : List ℕ) (used : ℕ) (h : BeginsWith IsSpelledReply input used) → reply_at input ≡ Some (h.front.reply, drop used input)
+read_again : (input : List ℕ) (used : ℕ) (h : HasSpelledPrefix IsSpelledReply input used) → reply_at input ≡ Some (h.prefix.reply, drop used input)
 read_again input used h =
-    let whole : input ≡ spell_reply h.front.reply ++ drop used input = sym (take-append-drop used input) ∙ ap (λ (ds : List ℕ). ds ++ drop used input) h.front.spells.spelled in
-    ap reply_at whole ∙ reply_again h.front.reply (drop used input) h.front.spells.valid
+    let whole : input ≡ spell_reply h.prefix.reply ++ drop used input = sym (take-append-drop used input) ∙ ap (λ (ds : List ℕ). ds ++ drop used input) h.prefix.spells.spelled in
+    ap reply_at whole ∙ reply_again h.prefix.reply (drop used input) h.prefix.spells.valid
 
-pub is_read : (input : List ℕ) (used : ℕ) (reply : PlainReply) (rest : List ℕ) → BeginsWith IsSpelledReply input used → reply_at input ≡ Some (reply, rest) → IsReadReply input reply used
+pub is_read : (input : List ℕ) (used : ℕ) (reply : PlainReply) (rest : List ℕ) → HasSpelledPrefix IsSpelledReply input used → reply_at input ≡ Some (reply, rest) → IsReadReply input reply used
 is_read input used reply rest h e =
-    let p = some_pair_parts h.front.reply reply (drop used input) rest (sym (read_again input used h) ∙ e) in
-    record { within = h.within; spells = subst (SpellsReply (take used input)) p.0 h.front.spells }
+    let p = some_pair_parts h.prefix.reply reply (drop used input) rest (sym (read_again input used h) ∙ e) in
+    record { within = h.within; spells = subst (SpellsReply (take used input)) p.0 h.prefix.spells }
 
-pub not_none : (input : List ℕ) (used : ℕ) → BeginsWith IsSpelledReply input used → reply_at input ≡ None → ⊥
+pub not_none : (input : List ℕ) (used : ℕ) → HasSpelledPrefix IsSpelledReply input used → reply_at input ≡ None → ⊥
 not_none input used h e = cc (sym (read_again input used h) ∙ e)

@@ -1,10 +1,9 @@
 pub use Rattle.febe_data.specs.Plain
-pub use Rattle.febe_data.specs.Parts
+pub use Rattle.febe_data.specs.FieldValues
 pub use Rattle.febe_data.specs.Spelling
 pub use Rattle.febe_data.specs.Validity
 pub use Rattle.febe_fields.specs.Prefixes
 pub mod ReplyGrammar
 pub mod ReplyLaw
-pub mod Reading
-pub mod ReplyMachine
 pub mod Reads
+pub mod inside

@@ -2,9 +2,9 @@
 use Rattle.std.specs.Prelude.{◌≡◌, ◌<◌, ℕ, List, ◌++◌, codes, All}
 use Rattle.std.specs.List.{flat_map, AllByRecursion}
 use Rattle.febe_data.specs.Refusal.{refusal_number}
-use Rattle.febe_data.specs.Parts.{Part, tumbler_part, number_part, text_part, span_part, spans_part, tumblers_part, spec_part, specs_part, mode_part, rule_part, items_part, diagonals_part, reply_parts}
+use Rattle.febe_data.specs.FieldValues.{FieldValue, tumbler_value, number_value, text_value, span_value, spans_value, tumblers_value, spec_value, specs_value, mode_value, rule_value, items_value, diagonals_value, reply_values}
 use Rattle.febe_data.specs.Plain.{PlainItem, bytes, link, PlainReply, inserted, copied, rearranged, deleted, has_quit, account_set, closed, gave_span_set, gave_whole_span, retrieved, related, created, versioned, linked, opened, followed, found_documents, gave_end_sets, counted_links, found_links, gave_next_links, refused}
-use Rattle.febe_data.specs.Spelling.{spell_number, spell_part}
+use Rattle.febe_data.specs.Spelling.{spell_number, spell_value}
 use Rattle.febe_data.specs.Validity.{IsReply}
 
 -- the number of the request that a reply answers, or a question mark and the number of the refusal
@@ -34,32 +34,32 @@ reply_head (refused refusal) = codes "?" ++ spell_number (refusal_number refusal
 
 -- the one spelling of a reply: its head, then what it gives
 abbrev pub spell_reply : PlainReply → List ℕ
-spell_reply reply = reply_head reply ++ flat_map spell_part (reply_parts reply)
+spell_reply reply = reply_head reply ++ flat_map spell_value (reply_values reply)
 
 -- an item's text is made of bytes
 abbrev pub HoldsBytes : PlainItem → Type 0
 HoldsBytes (bytes text) = All (λ b. b < 256) text
 HoldsBytes (link id) = Unit {0}
 
--- the texts of the items in a part are made of bytes
-abbrev pub HasBytes : Part → Type 0
-HasBytes (tumbler_part places) = Unit {0}
-HasBytes (number_part n) = Unit {0}
-HasBytes (text_part text) = Unit {0}
-HasBytes (span_part span) = Unit {0}
-HasBytes (spans_part spans) = Unit {0}
-HasBytes (tumblers_part tumblers) = Unit {0}
-HasBytes (spec_part spec) = Unit {0}
-HasBytes (specs_part specs) = Unit {0}
-HasBytes (mode_part mode) = Unit {0}
-HasBytes (rule_part rule) = Unit {0}
-HasBytes (items_part items) = All HoldsBytes items
-HasBytes (diagonals_part diagonals) = Unit {0}
+-- the texts of the items in a field value are made of bytes
+abbrev pub HasBytes : FieldValue → Type 0
+HasBytes (tumbler_value places) = Unit {0}
+HasBytes (number_value n) = Unit {0}
+HasBytes (text_value text) = Unit {0}
+HasBytes (span_value span) = Unit {0}
+HasBytes (spans_value spans) = Unit {0}
+HasBytes (tumblers_value tumblers) = Unit {0}
+HasBytes (spec_value spec) = Unit {0}
+HasBytes (specs_value specs) = Unit {0}
+HasBytes (mode_value mode) = Unit {0}
+HasBytes (rule_value rule) = Unit {0}
+HasBytes (items_value items) = All HoldsBytes items
+HasBytes (diagonals_value diagonals) = Unit {0}
 
 -- these bytes spell this reply
 pub record SpellsReply (bytes : List ℕ) (reply : PlainReply) : Type 0 where
   pub valid : IsReply reply
-  pub texts : AllByRecursion HasBytes (reply_parts reply)
+  pub texts : AllByRecursion HasBytes (reply_values reply)
   pub spelled : bytes ≡ spell_reply reply
 
 -- these bytes spell some reply

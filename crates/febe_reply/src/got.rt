@@ -1,4 +1,4 @@
-//! Reading a reply from the front of bytes.
+//! Reading a reply from the start of bytes.
 ghost use Rattle.std.specs.Prelude.{IfOk};
 ghost use Rattle.febe_reply.specs.Reads.{IsGotReply};
 
@@ -8,14 +8,14 @@ use febe_data::{Memory, Reply};
 use febe_fields::Scanned;
 use std::alloc::Global;
 
-/// What stands at the front of bytes.
+/// What stands at the start of bytes.
 #[derive(Debug, Drop)]
 pub enum GotReply {
     /// A reply, which so many bytes spell. What stands behind them was not looked at.
     Reply { reply: Reply, used: usize },
-    /// The bytes are the front of a reply, and more of it has to come.
+    /// The bytes are a proper prefix of a reply, and more of it has to come.
     More,
-    /// The first bytes, so many, are the front of a reply, and the byte behind them can't stand there.
+    /// The first bytes, so many, are a prefix of a reply, and the byte behind them can't stand there.
     Bad { at: usize },
 }
 

@@ -1,11 +1,8 @@
 //! What comes behind the number of a reply.
 ghost use Rattle.std.specs.Prelude.{◌≡◌};
-ghost use Rattle.febe_reply.specs.ReplyMachine.{payload_seen, payload_of};
+ghost use Rattle.febe_reply.specs.inside.ReplyMachine.{payload_seen, payload_of};
 
 use febe_fields::Field;
-
-/// The most items or diagonals of a list.
-pub(crate) const MOST_ITEMS: u32 = 65_536;
 
 /// What comes behind the number of a reply.
 #[derive(Clone, Copy, Debug, PartialEq, Eq)]

@@ -1,8 +1,8 @@
-//! Replies, each read from the front of the bytes: the reply and the bytes after it.
+//! Replies, each read from the start of the bytes: the reply and the bytes after it.
 ghost use Rattle.std.specs.Prelude.{◌≡◌};
 ghost use Rattle.febe_data.specs.Plain.{plain_reply};
-ghost use Rattle.febe_fields.specs.Reading.{Reads, Gives};
-ghost use Rattle.febe_reply.specs.Reading.{refusal_of, refused_at, reply_with_nothing, with_nothing_at, with_tumbler_at, with_tumblers_at, span_set_at, whole_span_at, followed_at, end_sets_at, link_count_at, reply_of, numbered_at, reply_at};
+ghost use Rattle.febe_fields.specs.Reading.{Reads, ReadsIfOk};
+ghost use Rattle.febe_reply.specs.inside.Reading.{refusal_of, refused_at, reply_with_nothing, with_nothing_at, with_tumbler_at, with_tumblers_at, span_set_at, whole_span_at, followed_at, end_sets_at, link_count_at, reply_of, numbered_at, reply_at};
 
 use crate::items::{related_at, retrieved_at};
 use febe_data::{Memory, Refusal, Reply};
@@ -33,7 +33,7 @@ fn refusal_of(number: u32) -> Option<Refusal>
 }
 
 /// A refusal, from behind its question mark.
-#[tactic(auto, unfolding(crate::specs::Reading::refused_at))]
+#[tactic(auto, unfolding(crate::specs::inside::Reading::refused_at))]
 fn refused_at(bytes: &[u8]) -> Option<(Reply, &[u8])>
     ensures { Reads (λ x. (plain_reply x.0, x.1.now)) result (refused_at bytes.now) }
 {
@@ -43,7 +43,7 @@ fn refused_at(bytes: &[u8]) -> Option<(Reply, &[u8])>
 }
 
 /// The reply of this number, where it is one that gives nothing.
-#[tactic(auto, unfolding(crate::specs::Reading::with_nothing_at))]
+#[tactic(auto, unfolding(crate::specs::inside::Reading::with_nothing_at))]
 fn with_nothing_at(number: u32, bytes: &[u8]) -> Option<(Reply, &[u8])>
     ensures { Reads (λ x. (plain_reply x.0, x.1.now)) result (with_nothing_at number bytes.now) }
 {
@@ -60,7 +60,7 @@ fn with_nothing_at(number: u32, bytes: &[u8]) -> Option<(Reply, &[u8])>
 }
 
 /// The reply of this number, where it is one that gives one tumbler.
-#[tactic(auto, unfolding(crate::specs::Reading::with_tumbler_at))]
+#[tactic(auto, unfolding(crate::specs::inside::Reading::with_tumbler_at))]
 fn with_tumbler_at(alloc: Global, number: u32, bytes: &[u8]) -> Option<(Reply, &[u8])>
     ensures { Reads (λ x. (plain_reply x.0, x.1.now)) result (with_tumbler_at number bytes.now) }
 {
@@ -75,13 +75,13 @@ fn with_tumbler_at(alloc: Global, number: u32, bytes: &[u8]) -> Option<(Reply, &
 }
 
 /// The reply of this number, where it is one that gives a list of tumblers.
-#[tactic(auto, unfolding(crate::specs::Reading::with_tumblers_at))]
+#[tactic(auto, unfolding(crate::specs::inside::Reading::with_tumblers_at))]
 fn with_tumblers_at(
     alloc: Global,
     number: u32,
     bytes: &[u8],
 ) -> Result<Option<(Reply, &[u8])>, Memory>
-    ensures { Gives (λ x. (plain_reply x.0, x.1.now)) result (with_tumblers_at number bytes.now) }
+    ensures { ReadsIfOk (λ x. (plain_reply x.0, x.1.now)) result (with_tumblers_at number bytes.now) }
 {
     let Some((places, rest)) = tumblers_at(alloc, bytes)? else {
         return Ok(None);
@@ -94,9 +94,9 @@ fn with_tumblers_at(
     }
 }
 
-#[tactic(auto, unfolding(crate::specs::Reading::span_set_at))]
+#[tactic(auto, unfolding(crate::specs::inside::Reading::span_set_at))]
 fn span_set_at(alloc: Global, bytes: &[u8]) -> Result<Option<(Reply, &[u8])>, Memory>
-    ensures { Gives (λ x. (plain_reply x.0, x.1.now)) result (span_set_at bytes.now) }
+    ensures { ReadsIfOk (λ x. (plain_reply x.0, x.1.now)) result (span_set_at bytes.now) }
 {
     let Some((spans, rest)) = spans_at(alloc, bytes)? else {
         return Ok(None);
@@ -104,7 +104,7 @@ fn span_set_at(alloc: Global, bytes: &[u8]) -> Result<Option<(Reply, &[u8])>, Me
     Ok(Some((Reply::SpanSet(spans), rest)))
 }
 
-#[tactic(auto, unfolding(crate::specs::Reading::whole_span_at))]
+#[tactic(auto, unfolding(crate::specs::inside::Reading::whole_span_at))]
 fn whole_span_at(alloc: Global, bytes: &[u8]) -> Option<(Reply, &[u8])>
     ensures { Reads (λ x. (plain_reply x.0, x.1.now)) result (whole_span_at bytes.now) }
 {
@@ -112,9 +112,9 @@ fn whole_span_at(alloc: Global, bytes: &[u8]) -> Option<(Reply, &[u8])>
     Some((Reply::WholeSpan(span), rest))
 }
 
-#[tactic(auto, unfolding(crate::specs::Reading::followed_at))]
+#[tactic(auto, unfolding(crate::specs::inside::Reading::followed_at))]
 fn followed_at(alloc: Global, bytes: &[u8]) -> Result<Option<(Reply, &[u8])>, Memory>
-    ensures { Gives (λ x. (plain_reply x.0, x.1.now)) result (followed_at bytes.now) }
+    ensures { ReadsIfOk (λ x. (plain_reply x.0, x.1.now)) result (followed_at bytes.now) }
 {
     let Some((specs, rest)) = specs_at(alloc, bytes)? else {
         return Ok(None);
@@ -122,9 +122,9 @@ fn followed_at(alloc: Global, bytes: &[u8]) -> Result<Option<(Reply, &[u8])>, Me
     Ok(Some((Reply::Followed(specs), rest)))
 }
 
-#[tactic(auto, unfolding(crate::specs::Reading::end_sets_at))]
+#[tactic(auto, unfolding(crate::specs::inside::Reading::end_sets_at))]
 fn end_sets_at(alloc: Global, bytes: &[u8]) -> Result<Option<(Reply, &[u8])>, Memory>
-    ensures { Gives (λ x. (plain_reply x.0, x.1.now)) result (end_sets_at bytes.now) }
+    ensures { ReadsIfOk (λ x. (plain_reply x.0, x.1.now)) result (end_sets_at bytes.now) }
 {
     let Some((from, rest)) = specs_at(alloc, bytes)? else {
         return Ok(None);
@@ -138,7 +138,7 @@ fn end_sets_at(alloc: Global, bytes: &[u8]) -> Result<Option<(Reply, &[u8])>, Me
     Ok(Some((Reply::EndSets { from, to, three }, rest)))
 }
 
-#[tactic(auto, unfolding(crate::specs::Reading::link_count_at))]
+#[tactic(auto, unfolding(crate::specs::inside::Reading::link_count_at))]
 fn link_count_at(bytes: &[u8]) -> Option<(Reply, &[u8])>
     ensures { Reads (λ x. (plain_reply x.0, x.1.now)) result (link_count_at bytes.now) }
 {
@@ -147,9 +147,9 @@ fn link_count_at(bytes: &[u8]) -> Option<(Reply, &[u8])>
 }
 
 /// The reply of this number, from what stands behind the number.
-#[tactic(auto, unfolding(crate::specs::Reading::reply_of))]
+#[tactic(auto, unfolding(crate::specs::inside::Reading::reply_of))]
 fn reply_of(alloc: Global, number: u32, bytes: &[u8]) -> Result<Option<(Reply, &[u8])>, Memory>
-    ensures { Gives (λ x. (plain_reply x.0, x.1.now)) result (reply_of number bytes.now) }
+    ensures { ReadsIfOk (λ x. (plain_reply x.0, x.1.now)) result (reply_of number bytes.now) }
 {
     match number {
         1 => span_set_at(alloc, bytes),
@@ -165,9 +165,9 @@ fn reply_of(alloc: Global, number: u32, bytes: &[u8]) -> Result<Option<(Reply, &
     }
 }
 
-#[tactic(auto, unfolding(crate::specs::Reading::numbered_at))]
+#[tactic(auto, unfolding(crate::specs::inside::Reading::numbered_at))]
 fn numbered_at(alloc: Global, bytes: &[u8]) -> Result<Option<(Reply, &[u8])>, Memory>
-    ensures { Gives (λ x. (plain_reply x.0, x.1.now)) result (numbered_at bytes.now) }
+    ensures { ReadsIfOk (λ x. (plain_reply x.0, x.1.now)) result (numbered_at bytes.now) }
 {
     match number_at(bytes) {
         Some((number, rest)) => reply_of(alloc, number, rest),
@@ -176,9 +176,9 @@ fn numbered_at(alloc: Global, bytes: &[u8]) -> Result<Option<(Reply, &[u8])>, Me
 }
 
 /// The reply in which the bytes begin, and the bytes behind it.
-#[tactic(auto, unfolding(crate::specs::Reading::reply_at))]
+#[tactic(auto, unfolding(crate::specs::inside::Reading::reply_at))]
 pub(crate) fn reply_at(alloc: Global, bytes: &[u8]) -> Result<Option<(Reply, &[u8])>, Memory>
-    ensures { Gives (λ x. (plain_reply x.0, x.1.now)) result (reply_at bytes.now) }
+    ensures { ReadsIfOk (λ x. (plain_reply x.0, x.1.now)) result (reply_at bytes.now) }
 {
     match bytes {
         [b'?', rest @ ..] => Ok(refused_at(rest)),

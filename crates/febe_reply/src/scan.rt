@@ -4,14 +4,15 @@ ghost use Rattle.febe_fields.specs.Leaves.{number_step};
 ghost use Rattle.febe_fields.specs.Machine.{outcome_of as fields_outcome, state_of as fields_state};
 ghost use Rattle.febe_fields.specs.Scanning.{scan};
 ghost use Rattle.febe_reply.specs.declared.scan.ReplyScanner.TheVariants as scanners;
-ghost use Rattle.febe_reply.specs.ReplyMachine.{behind_of, state_of, outcome_of, most_of, may_be_zero, items_next, diagonals_next, number_ended, number_goes, number_begins, number_goes_on, item_goes, item_opened, address_step, begun, behind_next, first_digit, second_digit, at_start, reply_step};
+ghost use Rattle.febe_reply.specs.inside.ReplyMachine.{behind_of, state_of, outcome_of, most_of, may_be_zero, items_next, diagonals_next, number_ended, number_goes, number_begins, number_goes_on, item_goes, item_opened, address_step, begun, behind_next, first_digit, second_digit, at_start, reply_step};
 
-use crate::payload::{MOST_ITEMS, Payload, payload_of};
+use crate::payload::{Payload, payload_of};
+use febe_data::bounds::MOST_ITEMS;
 use febe_fields::{Field, Progress, Scanned, Scanner, start};
 
 /// What a number is read for.
 #[derive(Clone, Copy, Debug, PartialEq, Eq)]
-pub enum Sought {
+pub enum NumberRole {
     /// It says why a request was refused, from 1 to 14.
     Refusal,
     /// So many items come.
@@ -36,17 +37,17 @@ pub enum ReplyScanner {
     TwoDigits { payload: Payload },
     Fields { scanner: Scanner },
     /// A number begins.
-    Number { sought: Sought },
+    Number { role: NumberRole },
     /// The number 0 was read, and its tilde is to come.
-    Zero { sought: Sought },
+    Zero { role: NumberRole },
     /// Digits of a number above 0 were read.
-    Digits { number: u32, sought: Sought },
+    Digits { number: u32, role: NumberRole },
     /// An item begins, behind which so many more come.
     Item { more: u32 },
     /// Within an item.
     InItem { scanner: Scanner, more: u32 },
     /// So many bytes were read of those that stand before a text position.
-    Address { read: u8, sought: Sought },
+    Address { read: u8, role: NumberRole },
 }
 
 /// What a byte makes of a scan.
@@ -90,19 +91,20 @@ fn diagonals_next(count: u32) -> ReplyProgress
     }
     ReplyProgress::Goes(ReplyScanner::Address {
         read: 0,
-        sought: Sought::Left { more: count - 1 },
+        role: NumberRole::Left { more: count - 1 },
     })
 }
 
-impl Sought {
+impl NumberRole {
     /// The greatest number.
     fn most(self) -> u32
         ensures { result ≡ most_of self }
     {
         match self {
-            Sought::Refusal => 14,
-            Sought::Items | Sought::Diagonals => MOST_ITEMS,
-            Sought::Left { .. } | Sought::Right { .. } | Sought::Length { .. } => u32::MAX,
+            NumberRole::Refusal => 14,
+            NumberRole::Items | NumberRole::Diagonals => MOST_ITEMS,
+            NumberRole::Left { .. } | NumberRole::Right { .. } | NumberRole::Length { .. } =>
+                u32::MAX,
         }
     }
 
@@ -111,8 +113,8 @@ impl Sought {
         ensures { result ≡ may_be_zero self }
     {
         match self {
-            Sought::Items | Sought::Diagonals | Sought::Length { .. } => true,
-            Sought::Refusal | Sought::Left { .. } | Sought::Right { .. } => false,
+            NumberRole::Items | NumberRole::Diagonals | NumberRole::Length { .. } => true,
+            NumberRole::Refusal | NumberRole::Left { .. } | NumberRole::Right { .. } => false,
         }
     }
 
@@ -121,17 +123,17 @@ impl Sought {
         ensures { outcome_of result ≡ number_ended self number }
     {
         match self {
-            Sought::Refusal => ReplyProgress::Done,
-            Sought::Items => items_next(number),
-            Sought::Diagonals => diagonals_next(number),
-            Sought::Left { more } => ReplyProgress::Goes(ReplyScanner::Address {
+            NumberRole::Refusal => ReplyProgress::Done,
+            NumberRole::Items => items_next(number),
+            NumberRole::Diagonals => diagonals_next(number),
+            NumberRole::Left { more } => ReplyProgress::Goes(ReplyScanner::Address {
                 read: 0,
-                sought: Sought::Right { more },
+                role: NumberRole::Right { more },
             }),
-            Sought::Right { more } => ReplyProgress::Goes(ReplyScanner::Number {
-                sought: Sought::Length { more },
+            NumberRole::Right { more } => ReplyProgress::Goes(ReplyScanner::Number {
+                role: NumberRole::Length { more },
             }),
-            Sought::Length { more } => diagonals_next(more),
+            NumberRole::Length { more } => diagonals_next(more),
         }
     }
 
@@ -141,10 +143,7 @@ impl Sought {
         ensures { outcome_of result ≡ number_goes self (number_step number (most_of self) byte) }
     {
         match number_step(number, self.most(), byte) {
-            Some(number) => ReplyProgress::Goes(ReplyScanner::Digits {
-                number,
-                sought: self,
-            }),
+            Some(number) => ReplyProgress::Goes(ReplyScanner::Digits { number, role: self }),
             None => ReplyProgress::Fails,
         }
     }
@@ -156,7 +155,7 @@ impl Sought {
         match byte {
             b'0' => {
                 if self.may_be_zero() {
-                    return ReplyProgress::Goes(ReplyScanner::Zero { sought: self });
+                    return ReplyProgress::Goes(ReplyScanner::Zero { role: self });
                 }
                 ReplyProgress::Fails
             }
@@ -184,7 +183,7 @@ impl Sought {
             0 => (b'0', self.behind(1)),
             1 => (b'.', self.behind(2)),
             2 => (b'1', self.behind(3)),
-            _ => (b'.', ReplyScanner::Number { sought: self }),
+            _ => (b'.', ReplyScanner::Number { role: self }),
         };
         if byte == wanted {
             return ReplyProgress::Goes(next);
@@ -196,7 +195,7 @@ impl Sought {
     fn behind(self, read: u8) -> ReplyScanner
         ensures { result ≡ scanners.Address read self }
     {
-        ReplyScanner::Address { read, sought: self }
+        ReplyScanner::Address { read, role: self }
     }
 }
 
@@ -240,10 +239,10 @@ impl Payload {
         match self {
             Payload::Fields { fields } => within(start(fields)),
             Payload::Items => ReplyProgress::Goes(ReplyScanner::Number {
-                sought: Sought::Items,
+                role: NumberRole::Items,
             }),
             Payload::Diagonals => ReplyProgress::Goes(ReplyScanner::Number {
-                sought: Sought::Diagonals,
+                role: NumberRole::Diagonals,
             }),
         }
     }
@@ -285,7 +284,7 @@ fn first_byte(byte: u8) -> ReplyProgress
 {
     match byte {
         b'?' => ReplyProgress::Goes(ReplyScanner::Number {
-            sought: Sought::Refusal,
+            role: NumberRole::Refusal,
         }),
         _ => first_digit(byte),
     }
@@ -307,15 +306,15 @@ impl ReplyScanner {
                 _ => ReplyProgress::Fails,
             },
             ReplyScanner::Fields { scanner } => within(scanner.step(byte)),
-            ReplyScanner::Number { sought } => sought.begin(byte),
-            ReplyScanner::Zero { sought } => match byte {
-                b'~' => sought.after(0),
+            ReplyScanner::Number { role } => role.begin(byte),
+            ReplyScanner::Zero { role } => match byte {
+                b'~' => role.after(0),
                 _ => ReplyProgress::Fails,
             },
-            ReplyScanner::Digits { number, sought } => sought.go_on(number, byte),
+            ReplyScanner::Digits { number, role } => role.go_on(number, byte),
             ReplyScanner::Item { more } => within_item(more, item_opened(byte).step(byte)),
             ReplyScanner::InItem { scanner, more } => within_item(more, scanner.step(byte)),
-            ReplyScanner::Address { read, sought } => sought.address(read, byte),
+            ReplyScanner::Address { read, role } => role.address(read, byte),
         }
     }
 

@@ -24,7 +24,7 @@ fn tumbler_of(alloc: Global, places: &[u32]) -> Result<Tumbler, BadTumbler>
     ensures { IfOk result IsTumbler }
 {
     let tumbler = Tumbler::from_places(alloc, places)?;
-    let _ = tumbler.places();
+    let _places = tumbler.places();
     Ok(tumbler)
 }
 
@@ -34,7 +34,7 @@ fn made(alloc: Global, n: u32) -> Tumbler
     ensures { IsTumbler result }
 {
     let tumbler = Tumbler::zero(alloc).child(n);
-    let _ = tumbler.places();
+    let _places = tumbler.places();
     tumbler
 }
 

@@ -2,8 +2,8 @@
 ghost use Rattle.std.specs.Prelude.{◌≡◌, ◌++◌, OnOk, IfOk};
 ghost use Rattle.std.specs.List.{flat_map};
 ghost use Rattle.febe_data.specs.Plain.{plain_reply};
-ghost use Rattle.febe_data.specs.Parts.{reply_parts};
-ghost use Rattle.febe_data.specs.Spelling.{spell_part};
+ghost use Rattle.febe_data.specs.FieldValues.{reply_values};
+ghost use Rattle.febe_data.specs.Spelling.{spell_value};
 ghost use Rattle.febe_data.specs.Validity.{IsReply};
 ghost use Rattle.febe_reply.specs.ReplyGrammar.{reply_head, spell_reply};
 
@@ -47,7 +47,7 @@ fn append_head(out: &mut Text, reply: &Reply) -> Result<(), Memory>
 
 fn append_payload(out: &mut Text, reply: &Reply) -> Result<(), Memory>
     requires { IsReply (plain_reply reply.now) }
-    ensures { OnOk result (out.new.items ≡ out.old.items ++ flat_map spell_part (reply_parts (plain_reply reply.now))) }
+    ensures { OnOk result (out.new.items ≡ out.old.items ++ flat_map spell_value (reply_values (plain_reply reply.now))) }
 {
     match reply {
         Reply::Inserted

@@ -6,12 +6,12 @@ use Rattle.std.proofs.lemmas.List.{append-nil, take-append-drop}
 use Rattle.tumbler.specs.declared.span.Span.{Span}
 use Rattle.febe_data.specs.Spelling.{spell_number, spell_span, spell_list}
 use Rattle.febe_data.specs.Validity.{IsSpan, IsList}
-use Rattle.febe_fields.specs.declared.leaf.End.TheVariants.{Tilde}
+use Rattle.febe_fields.specs.declared.leaf.Terminator.TheVariants.{Tilde}
 use Rattle.febe_fields.specs.declared.leaf.Leaf.TheVariants.{First}
 use Rattle.febe_fields.specs.declared.scanned.Scanned.{Scanned}
 use Rattle.febe_fields.specs.declared.scanner.Field.TheVariants as fields
 use Rattle.febe_fields.specs.declared.scanner.Role.TheVariants as roles
-use Rattle.febe_fields.specs.Prefixes.{IsScanned, BeginsWith}
+use Rattle.febe_fields.specs.Prefixes.{IsScanned, HasSpelledPrefix}
 use Rattle.febe_fields.specs.Scanning.{scan}
 use Rattle.febe_fields.specs.Machine.{State, field_step, opened}
 use Rattle.febe_fields.specs.Fields.{takes}
@@ -43,17 +43,17 @@ pub number_scanned : (most : ℕ) (bytes : List ℕ) (r : Scanned) → most < 42
 number_scanned most bytes r word e =
     subst (IsScanned (SpellsNumber most) bytes) (sym e) (scanned_too (takes field_step (number_state most)) (SpellsNumber most) (number_spelled most word) (number_taken most word) bytes (scan field_step (number_state most) bytes) (scan_says field_step never_stuck (number_state most) bytes))
 
-number_read_again : (most : ℕ) (bytes : List ℕ) (used : ℕ) → most < 4294967296 → (h : BeginsWith (SpellsNumber most) bytes used) → number_at bytes ≡ Some (h.front.number, drop used bytes)
+number_read_again : (most : ℕ) (bytes : List ℕ) (used : ℕ) → most < 4294967296 → (h : HasSpelledPrefix (SpellsNumber most) bytes used) → number_at bytes ≡ Some (h.prefix.number, drop used bytes)
 number_read_again most bytes used word h =
-    let whole : bytes ≡ spell_number h.front.number ++ drop used bytes = sym (take-append-drop used bytes) ∙ ap (λ (ds : List ℕ). ds ++ drop used bytes) h.front.spelled in
-    ap number_at whole ∙ laws.number_again h.front.number (drop used bytes) (omega (arith, h.front.bound))
+    let whole : bytes ≡ spell_number h.prefix.number ++ drop used bytes = sym (take-append-drop used bytes) ∙ ap (λ (ds : List ℕ). ds ++ drop used bytes) h.prefix.spelled in
+    ap number_at whole ∙ laws.number_again h.prefix.number (drop used bytes) (omega (arith, h.prefix.bound))
 
-pub is_read_number : (most : ℕ) (bytes : List ℕ) (used number : ℕ) (rest : List ℕ) → most < 4294967296 → BeginsWith (SpellsNumber most) bytes used → number_at bytes ≡ Some (number, rest) → IsReadNumber most bytes number used
+pub is_read_number : (most : ℕ) (bytes : List ℕ) (used number : ℕ) (rest : List ℕ) → most < 4294967296 → HasSpelledPrefix (SpellsNumber most) bytes used → number_at bytes ≡ Some (number, rest) → IsReadNumber most bytes number used
 is_read_number most bytes used number rest word h e =
-    let p = some_pair_parts h.front.number number (drop used bytes) rest (sym (number_read_again most bytes used word h) ∙ e) in
-    record { within = h.within; bound = subst (λ (n : ℕ). n ≤ most) p.0 h.front.bound; spelled = h.front.spelled ∙ ap spell_number p.0 }
+    let p = some_pair_parts h.prefix.number number (drop used bytes) rest (sym (number_read_again most bytes used word h) ∙ e) in
+    record { within = h.within; bound = subst (λ (n : ℕ). n ≤ most) p.0 h.prefix.bound; spelled = h.prefix.spelled ∙ ap spell_number p.0 }
 
-pub some_number : (most : ℕ) (bytes : List ℕ) (used : ℕ) → most < 4294967296 → BeginsWith (SpellsNumber most) bytes used → number_at bytes ≡ None → ⊥
+pub some_number : (most : ℕ) (bytes : List ℕ) (used : ℕ) → most < 4294967296 → HasSpelledPrefix (SpellsNumber most) bytes used → number_at bytes ≡ None → ⊥
 some_number most bytes used word h e = cc (sym (number_read_again most bytes used word h) ∙ e)
 
 -- ---- lists of spans
@@ -70,17 +70,17 @@ pub spans_scanned : (bytes : List ℕ) (r : Scanned) → r ≡ scan field_step (
 spans_scanned bytes r e =
     subst (IsScanned SpellsSpans bytes) (sym e) (scanned_too (takes field_step (opened fields.Spans [])) SpellsSpans spans_spelled spans_taken bytes (scan field_step (opened fields.Spans []) bytes) (scan_says field_step never_stuck (opened fields.Spans []) bytes))
 
-spans_read_again : (bytes : List ℕ) (used : ℕ) (h : BeginsWith SpellsSpans bytes used) → spans_at bytes ≡ Some (h.front.spans, drop used bytes)
+spans_read_again : (bytes : List ℕ) (used : ℕ) (h : HasSpelledPrefix SpellsSpans bytes used) → spans_at bytes ≡ Some (h.prefix.spans, drop used bytes)
 spans_read_again bytes used h =
-    let whole : bytes ≡ spell_list spell_span h.front.spans ++ drop used bytes = sym (take-append-drop used bytes) ∙ ap (λ (ds : List ℕ). ds ++ drop used bytes) h.front.spelled in
-    ap spans_at whole ∙ lists.spans_again h.front.spans (drop used bytes) h.front.valid
+    let whole : bytes ≡ spell_list spell_span h.prefix.spans ++ drop used bytes = sym (take-append-drop used bytes) ∙ ap (λ (ds : List ℕ). ds ++ drop used bytes) h.prefix.spelled in
+    ap spans_at whole ∙ lists.spans_again h.prefix.spans (drop used bytes) h.prefix.valid
 
-pub are_read_spans : (bytes : List ℕ) (used : ℕ) (spans : List Span) (rest : List ℕ) → BeginsWith SpellsSpans bytes used → spans_at bytes ≡ Some (spans, rest) → AreReadSpans bytes spans used
+pub are_read_spans : (bytes : List ℕ) (used : ℕ) (spans : List Span) (rest : List ℕ) → HasSpelledPrefix SpellsSpans bytes used → spans_at bytes ≡ Some (spans, rest) → AreReadSpans bytes spans used
 are_read_spans bytes used spans rest h e =
-    let p = some_pair_parts h.front.spans spans (drop used bytes) rest (sym (spans_read_again bytes used h) ∙ e) in
-    record { within = h.within; valid = subst (IsList IsSpan) p.0 h.front.valid; spelled = h.front.spelled ∙ ap (spell_list spell_span) p.0 }
+    let p = some_pair_parts h.prefix.spans spans (drop used bytes) rest (sym (spans_read_again bytes used h) ∙ e) in
+    record { within = h.within; valid = subst (IsList IsSpan) p.0 h.prefix.valid; spelled = h.prefix.spelled ∙ ap (spell_list spell_span) p.0 }
 
-pub some_spans : (bytes : List ℕ) (used : ℕ) → BeginsWith SpellsSpans bytes used → spans_at bytes ≡ None → ⊥
+pub some_spans : (bytes : List ℕ) (used : ℕ) → HasSpelledPrefix SpellsSpans bytes used → spans_at bytes ≡ None → ⊥
 some_spans bytes used h e = cc (sym (spans_read_again bytes used h) ∙ e)
 
 -- ---- one spelling for each part

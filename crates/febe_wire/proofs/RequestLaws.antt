@@ -10,14 +10,14 @@ use Rattle.febe_data.specs.declared.access.Mode.{Mode}
 use Rattle.febe_data.specs.declared.access.Rule.{Rule}
 use Rattle.febe_data.specs.Access.{mode_number, rule_number}
 use Rattle.febe_data.specs.Plain.{PlainSpec, PlainWant, PlainRequest, insert, span_set, copy, rearrange, retrieve, relate, create, delete, version, whole_span, quit, follow, find_documents, create_link, end_sets, count_links, find_links, next_links, set_account, opens, closes}
-use Rattle.febe_data.specs.Parts.{request_number, request_parts}
-use Rattle.febe_data.specs.Spelling.{spell_number, spell_tumbler, spell_text, spell_span, spell_list, spell_spec, spell_part}
+use Rattle.febe_data.specs.FieldValues.{request_number, request_values}
+use Rattle.febe_data.specs.Spelling.{spell_number, spell_tumbler, spell_text, spell_span, spell_list, spell_spec, spell_value}
 use Rattle.febe_data.specs.Validity.{IsSpan, IsList, IsSpec, IsRequest}
 use Rattle.febe_fields.proofs.FieldLaws.{number_again, tumbler_again, text_again}
 use Rattle.febe_fields.proofs.ListLaws.{mode_again, rule_again, tumblers_again, span_again, spans_again, spec_again, specs_again}
 use Rattle.febe_wire.specs.Grammar.{spell_request}
 use Rattle.febe_wire.specs.Laws.{OneForm}
-use Rattle.febe_wire.specs.Reading.{insert_at, copy_at, rearrange_at, delete_at, open_at, request_with_tumbler, with_tumbler_at, request_with_specs, with_specs_at, relate_at, create_link_at, follow_at, want_at, request_with_want, with_want_at, next_links_at, request_of, request_at}
+use Rattle.febe_wire.specs.inside.Reading.{insert_at, copy_at, rearrange_at, delete_at, open_at, request_with_tumbler, with_tumbler_at, request_with_specs, with_specs_at, relate_at, create_link_at, follow_at, want_at, request_with_want, with_want_at, next_links_at, request_of, request_at}
 
 -- ---- parts one behind the other, and what stands behind them
 
@@ -40,7 +40,7 @@ six_parts a b c d e f rest = simp (append_assoc, append-nil)
 
 -- the parts of a request are read again
 abbrev pub PartsAgain : PlainRequest → List ℕ → Type 0
-PartsAgain r rest = request_of (request_number r) (flat_map spell_part (request_parts r) ++ rest) ≡ Some (r, rest)
+PartsAgain r rest = request_of (request_number r) (flat_map spell_value (request_values r) ++ rest) ≡ Some (r, rest)
 
 insert_again : (document at text rest : List ℕ) → IsRequest (insert document at text) → PartsAgain (insert document at text) rest
 unfolding request_of insert_at
@@ -199,7 +199,7 @@ behind_number n parts rest x small e =
 -- a valid request is read from its spelling, whatever stands behind it
 pub request_again : (r : PlainRequest) (rest : List ℕ) → IsRequest r → request_at (spell_request r ++ rest) ≡ Some (r, rest)
 request_again r rest h =
-    behind_number (request_number r) (flat_map spell_part (request_parts r)) rest (r, rest) (number_small r) (parts_again r rest h)
+    behind_number (request_number r) (flat_map spell_value (request_values r)) rest (r, rest) (number_small r) (parts_again r rest h)
 
 -- ---- no spelling begins another
 
@@ -222,5 +222,5 @@ one_form a b x y r s h g e =
 pub spelling_filled : (r : PlainRequest) → 0 < length (spell_request r)
 spelling_filled r =
     let number = decimal (request_number r) in
-    let parts = flat_map spell_part (request_parts r) in
+    let parts = flat_map spell_value (request_values r) in
     omega (arith, length-append (number ++ codes "~") parts, length-append number (codes "~"))

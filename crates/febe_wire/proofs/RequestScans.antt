@@ -7,13 +7,13 @@ use Rattle.std.proofs.lemmas.Bool.{cases_Bool, eqb-true, eqb-false, le-ltb}
 use Rattle.std.proofs.lemmas.Option.{same_Some, some_pair_parts}
 use Rattle.std.proofs.lemmas.List.{take-append-drop}
 use Rattle.febe_data.specs.Plain.{PlainRequest, insert, span_set, copy, rearrange, retrieve, relate, create, delete, version, whole_span, quit, follow, find_documents, create_link, end_sets, count_links, find_links, next_links, set_account, opens, closes}
-use Rattle.febe_data.specs.Parts.{request_number}
+use Rattle.febe_data.specs.FieldValues.{request_number}
 use Rattle.febe_data.specs.Spelling.{spell_number}
 use Rattle.febe_data.specs.Validity.{IsRequest}
 use Rattle.febe_fields.specs.declared.scanner.Field.{Field}
 use Rattle.febe_fields.specs.declared.scanner.Field.TheVariants as fields
 use Rattle.febe_fields.specs.declared.scanned.Scanned.{Scanned}
-use Rattle.febe_fields.specs.Prefixes.{IsScanned, BeginsWith}
+use Rattle.febe_fields.specs.Prefixes.{IsScanned, HasSpelledPrefix}
 use Rattle.febe_fields.specs.Scanning.{Outcome, goes, done, fails, behind_one, scan_on, scan}
 use Rattle.febe_fields.specs.Machine.{State, fields_next, field_step}
 use Rattle.febe_fields.specs.Fields.{SpellsFields, takes, follows}
@@ -24,8 +24,8 @@ use Rattle.febe_fields.proofs.TumblerScans.{is_digit, one_digit_is}
 use Rattle.febe_fields.proofs.FieldsTaken.{fields_take}
 use Rattle.febe_fields.proofs.FieldsAgain.{fields_again}
 use Rattle.febe_fields.proofs.Live.{fields_go_on, never_stuck}
-use Rattle.febe_wire.specs.Grammar.{spell_parts, spell_request, Spells, IsSpelled}
-use Rattle.febe_wire.specs.Reading.{request_at}
+use Rattle.febe_wire.specs.Grammar.{spell_values, spell_request, Spells, IsSpelled}
+use Rattle.febe_wire.specs.inside.Reading.{request_at}
 use Rattle.febe_wire.specs.Reads.{IsRead}
 use Rattle.febe_wire.proofs.RequestLaws.{request_again}
 use Rattle.febe_wire.specs.RequestMachine.{RequestState, at_start, one_digit, two_digits, in_fields, fields_of, begun, named, request_step}
@@ -65,7 +65,7 @@ pub record NamedRequest (n : ℕ) (bytes : List ℕ) : Type 0 where
   pub request : PlainRequest
   pub valid : IsRequest request
   pub number : request_number request ≡ n
-  pub parts : bytes ≡ spell_parts request
+  pub parts : bytes ≡ spell_values request
 
 named_0 : (bytes : List ℕ) → SpellsFields (fields.Tumbler ∷ fields.Tumbler ∷ fields.Text ∷ []) bytes → NamedRequest 0 bytes
 named_0 bytes h = record { request = insert h.values.0 h.values.1.0 h.values.1.1.0; valid = h.valid; number = refl; parts = h.spelled }
@@ -310,27 +310,27 @@ name_36 parts h = one_taken request_step at_start 51 (54 ∷ 126 ∷ parts) (one
 
 -- a valid request is taken
 spelled_taken : (r : PlainRequest) → IsRequest r → takes request_step at_start (spell_request r)
-spelled_taken (insert document at text) h = name_0 (spell_parts (insert document at text)) (begun_in (fields_next (fields.Tumbler ∷ fields.Tumbler ∷ fields.Text ∷ [])) (spell_parts (insert document at text)) (fields_again (fields.Tumbler ∷ fields.Tumbler ∷ fields.Text ∷ []) (document, (at, (text, tt))) h))
-spelled_taken (span_set document) h = name_1 (spell_parts (span_set document)) (begun_in (fields_next (fields.Tumbler ∷ [])) (spell_parts (span_set document)) (fields_again (fields.Tumbler ∷ []) (document, tt) h))
-spelled_taken (copy document at specs) h = name_2 (spell_parts (copy document at specs)) (begun_in (fields_next (fields.Tumbler ∷ fields.Tumbler ∷ fields.Specs ∷ [])) (spell_parts (copy document at specs)) (fields_again (fields.Tumbler ∷ fields.Tumbler ∷ fields.Specs ∷ []) (document, (at, (specs, tt))) h))
-spelled_taken (rearrange document cuts) h = name_3 (spell_parts (rearrange document cuts)) (begun_in (fields_next (fields.Tumbler ∷ fields.Tumblers ∷ [])) (spell_parts (rearrange document cuts)) (fields_again (fields.Tumbler ∷ fields.Tumblers ∷ []) (document, (cuts, tt)) h))
-spelled_taken (retrieve specs) h = name_5 (spell_parts (retrieve specs)) (begun_in (fields_next (fields.Specs ∷ [])) (spell_parts (retrieve specs)) (fields_again (fields.Specs ∷ []) (specs, tt) h))
-spelled_taken (relate left right) h = name_10 (spell_parts (relate left right)) (begun_in (fields_next (fields.Spec ∷ fields.Spec ∷ [])) (spell_parts (relate left right)) (fields_again (fields.Spec ∷ fields.Spec ∷ []) (left, (right, tt)) h))
-spelled_taken create h = name_11 (spell_parts create) (begun_in (fields_next []) (spell_parts create) (fields_again [] tt h))
-spelled_taken (delete document span) h = name_12 (spell_parts (delete document span)) (begun_in (fields_next (fields.Tumbler ∷ fields.Span ∷ [])) (spell_parts (delete document span)) (fields_again (fields.Tumbler ∷ fields.Span ∷ []) (document, (span, tt)) h))
-spelled_taken (version document) h = name_13 (spell_parts (version document)) (begun_in (fields_next (fields.Tumbler ∷ [])) (spell_parts (version document)) (fields_again (fields.Tumbler ∷ []) (document, tt) h))
-spelled_taken (whole_span document) h = name_14 (spell_parts (whole_span document)) (begun_in (fields_next (fields.Tumbler ∷ [])) (spell_parts (whole_span document)) (fields_again (fields.Tumbler ∷ []) (document, tt) h))
-spelled_taken quit h = name_16 (spell_parts quit) (begun_in (fields_next []) (spell_parts quit) (fields_again [] tt h))
-spelled_taken (follow link end) h = name_18 (spell_parts (follow link end)) (begun_in (fields_next (fields.Tumbler ∷ fields.Number ∷ [])) (spell_parts (follow link end)) (fields_again (fields.Tumbler ∷ fields.Number ∷ []) (link, (end, tt)) h))
-spelled_taken (find_documents specs) h = name_22 (spell_parts (find_documents specs)) (begun_in (fields_next (fields.Specs ∷ [])) (spell_parts (find_documents specs)) (fields_again (fields.Specs ∷ []) (specs, tt) h))
-spelled_taken (create_link home from to three) h = name_27 (spell_parts (create_link home from to three)) (begun_in (fields_next (fields.Tumbler ∷ fields.Specs ∷ fields.Specs ∷ fields.Specs ∷ [])) (spell_parts (create_link home from to three)) (fields_again (fields.Tumbler ∷ fields.Specs ∷ fields.Specs ∷ fields.Specs ∷ []) (home, (from, (to, (three, tt)))) h))
-spelled_taken (end_sets specs) h = name_28 (spell_parts (end_sets specs)) (begun_in (fields_next (fields.Specs ∷ [])) (spell_parts (end_sets specs)) (fields_again (fields.Specs ∷ []) (specs, tt) h))
-spelled_taken (count_links want) h = name_29 (spell_parts (count_links want)) (begun_in (fields_next (fields.Spans ∷ fields.Specs ∷ fields.Specs ∷ fields.Specs ∷ [])) (spell_parts (count_links want)) (fields_again (fields.Spans ∷ fields.Specs ∷ fields.Specs ∷ fields.Specs ∷ []) (want.homes, (want.from, (want.to, (want.three, tt)))) h))
-spelled_taken (find_links want) h = name_30 (spell_parts (find_links want)) (begun_in (fields_next (fields.Spans ∷ fields.Specs ∷ fields.Specs ∷ fields.Specs ∷ [])) (spell_parts (find_links want)) (fields_again (fields.Spans ∷ fields.Specs ∷ fields.Specs ∷ fields.Specs ∷ []) (want.homes, (want.from, (want.to, (want.three, tt)))) h))
-spelled_taken (next_links want after limit) h = name_31 (spell_parts (next_links want after limit)) (begun_in (fields_next (fields.Spans ∷ fields.Specs ∷ fields.Specs ∷ fields.Specs ∷ fields.Tumbler ∷ fields.Number ∷ [])) (spell_parts (next_links want after limit)) (fields_again (fields.Spans ∷ fields.Specs ∷ fields.Specs ∷ fields.Specs ∷ fields.Tumbler ∷ fields.Number ∷ []) (want.homes, (want.from, (want.to, (want.three, (after, (limit, tt)))))) h))
-spelled_taken (set_account account) h = name_34 (spell_parts (set_account account)) (begun_in (fields_next (fields.Tumbler ∷ [])) (spell_parts (set_account account)) (fields_again (fields.Tumbler ∷ []) (account, tt) h))
-spelled_taken (opens document mode rule) h = name_35 (spell_parts (opens document mode rule)) (begun_in (fields_next (fields.Tumbler ∷ fields.Mode ∷ fields.Rule ∷ [])) (spell_parts (opens document mode rule)) (fields_again (fields.Tumbler ∷ fields.Mode ∷ fields.Rule ∷ []) (document, (mode, (rule, tt))) h))
-spelled_taken (closes document) h = name_36 (spell_parts (closes document)) (begun_in (fields_next (fields.Tumbler ∷ [])) (spell_parts (closes document)) (fields_again (fields.Tumbler ∷ []) (document, tt) h))
+spelled_taken (insert document at text) h = name_0 (spell_values (insert document at text)) (begun_in (fields_next (fields.Tumbler ∷ fields.Tumbler ∷ fields.Text ∷ [])) (spell_values (insert document at text)) (fields_again (fields.Tumbler ∷ fields.Tumbler ∷ fields.Text ∷ []) (document, (at, (text, tt))) h))
+spelled_taken (span_set document) h = name_1 (spell_values (span_set document)) (begun_in (fields_next (fields.Tumbler ∷ [])) (spell_values (span_set document)) (fields_again (fields.Tumbler ∷ []) (document, tt) h))
+spelled_taken (copy document at specs) h = name_2 (spell_values (copy document at specs)) (begun_in (fields_next (fields.Tumbler ∷ fields.Tumbler ∷ fields.Specs ∷ [])) (spell_values (copy document at specs)) (fields_again (fields.Tumbler ∷ fields.Tumbler ∷ fields.Specs ∷ []) (document, (at, (specs, tt))) h))
+spelled_taken (rearrange document cuts) h = name_3 (spell_values (rearrange document cuts)) (begun_in (fields_next (fields.Tumbler ∷ fields.Tumblers ∷ [])) (spell_values (rearrange document cuts)) (fields_again (fields.Tumbler ∷ fields.Tumblers ∷ []) (document, (cuts, tt)) h))
+spelled_taken (retrieve specs) h = name_5 (spell_values (retrieve specs)) (begun_in (fields_next (fields.Specs ∷ [])) (spell_values (retrieve specs)) (fields_again (fields.Specs ∷ []) (specs, tt) h))
+spelled_taken (relate left right) h = name_10 (spell_values (relate left right)) (begun_in (fields_next (fields.Spec ∷ fields.Spec ∷ [])) (spell_values (relate left right)) (fields_again (fields.Spec ∷ fields.Spec ∷ []) (left, (right, tt)) h))
+spelled_taken create h = name_11 (spell_values create) (begun_in (fields_next []) (spell_values create) (fields_again [] tt h))
+spelled_taken (delete document span) h = name_12 (spell_values (delete document span)) (begun_in (fields_next (fields.Tumbler ∷ fields.Span ∷ [])) (spell_values (delete document span)) (fields_again (fields.Tumbler ∷ fields.Span ∷ []) (document, (span, tt)) h))
+spelled_taken (version document) h = name_13 (spell_values (version document)) (begun_in (fields_next (fields.Tumbler ∷ [])) (spell_values (version document)) (fields_again (fields.Tumbler ∷ []) (document, tt) h))
+spelled_taken (whole_span document) h = name_14 (spell_values (whole_span document)) (begun_in (fields_next (fields.Tumbler ∷ [])) (spell_values (whole_span document)) (fields_again (fields.Tumbler ∷ []) (document, tt) h))
+spelled_taken quit h = name_16 (spell_values quit) (begun_in (fields_next []) (spell_values quit) (fields_again [] tt h))
+spelled_taken (follow link end) h = name_18 (spell_values (follow link end)) (begun_in (fields_next (fields.Tumbler ∷ fields.Number ∷ [])) (spell_values (follow link end)) (fields_again (fields.Tumbler ∷ fields.Number ∷ []) (link, (end, tt)) h))
+spelled_taken (find_documents specs) h = name_22 (spell_values (find_documents specs)) (begun_in (fields_next (fields.Specs ∷ [])) (spell_values (find_documents specs)) (fields_again (fields.Specs ∷ []) (specs, tt) h))
+spelled_taken (create_link home from to three) h = name_27 (spell_values (create_link home from to three)) (begun_in (fields_next (fields.Tumbler ∷ fields.Specs ∷ fields.Specs ∷ fields.Specs ∷ [])) (spell_values (create_link home from to three)) (fields_again (fields.Tumbler ∷ fields.Specs ∷ fields.Specs ∷ fields.Specs ∷ []) (home, (from, (to, (three, tt)))) h))
+spelled_taken (end_sets specs) h = name_28 (spell_values (end_sets specs)) (begun_in (fields_next (fields.Specs ∷ [])) (spell_values (end_sets specs)) (fields_again (fields.Specs ∷ []) (specs, tt) h))
+spelled_taken (count_links want) h = name_29 (spell_values (count_links want)) (begun_in (fields_next (fields.Spans ∷ fields.Specs ∷ fields.Specs ∷ fields.Specs ∷ [])) (spell_values (count_links want)) (fields_again (fields.Spans ∷ fields.Specs ∷ fields.Specs ∷ fields.Specs ∷ []) (want.homes, (want.from, (want.to, (want.three, tt)))) h))
+spelled_taken (find_links want) h = name_30 (spell_values (find_links want)) (begun_in (fields_next (fields.Spans ∷ fields.Specs ∷ fields.Specs ∷ fields.Specs ∷ [])) (spell_values (find_links want)) (fields_again (fields.Spans ∷ fields.Specs ∷ fields.Specs ∷ fields.Specs ∷ []) (want.homes, (want.from, (want.to, (want.three, tt)))) h))
+spelled_taken (next_links want after limit) h = name_31 (spell_values (next_links want after limit)) (begun_in (fields_next (fields.Spans ∷ fields.Specs ∷ fields.Specs ∷ fields.Specs ∷ fields.Tumbler ∷ fields.Number ∷ [])) (spell_values (next_links want after limit)) (fields_again (fields.Spans ∷ fields.Specs ∷ fields.Specs ∷ fields.Specs ∷ fields.Tumbler ∷ fields.Number ∷ []) (want.homes, (want.from, (want.to, (want.three, (after, (limit, tt)))))) h))
+spelled_taken (set_account account) h = name_34 (spell_values (set_account account)) (begun_in (fields_next (fields.Tumbler ∷ [])) (spell_values (set_account account)) (fields_again (fields.Tumbler ∷ []) (account, tt) h))
+spelled_taken (opens document mode rule) h = name_35 (spell_values (opens document mode rule)) (begun_in (fields_next (fields.Tumbler ∷ fields.Mode ∷ fields.Rule ∷ [])) (spell_values (opens document mode rule)) (fields_again (fields.Tumbler ∷ fields.Mode ∷ fields.Rule ∷ []) (document, (mode, (rule, tt))) h))
+spelled_taken (closes document) h = name_36 (spell_values (closes document)) (begun_in (fields_next (fields.Tumbler ∷ [])) (spell_values (closes document)) (fields_again (fields.Tumbler ∷ []) (document, tt) h))
 
 pub request_taken : (bytes : List ℕ) → IsSpelled bytes → takes request_step at_start bytes
 request_taken bytes h = subst (takes request_step at_start) (sym h.spells.spelled) (spelled_taken h.request h.spells.valid)
@@ -441,15 +441,15 @@ request_scanned bytes r e = subst (IsScanned IsSpelled bytes) (sym e) (scanned_t
 -- ---- reading what was scanned
 
 -- a request that was scanned is the one that is read
-pub read_again : (bytes : List ℕ) (used : ℕ) (h : BeginsWith IsSpelled bytes used) → request_at bytes ≡ Some (h.front.request, drop used bytes)
+pub read_again : (bytes : List ℕ) (used : ℕ) (h : HasSpelledPrefix IsSpelled bytes used) → request_at bytes ≡ Some (h.prefix.request, drop used bytes)
 read_again bytes used h =
-    let whole : bytes ≡ spell_request h.front.request ++ drop used bytes = sym (take-append-drop used bytes) ∙ ap (λ (ds : List ℕ). ds ++ drop used bytes) h.front.spells.spelled in
-    ap request_at whole ∙ request_again h.front.request (drop used bytes) h.front.spells.valid
+    let whole : bytes ≡ spell_request h.prefix.request ++ drop used bytes = sym (take-append-drop used bytes) ∙ ap (λ (ds : List ℕ). ds ++ drop used bytes) h.prefix.spells.spelled in
+    ap request_at whole ∙ request_again h.prefix.request (drop used bytes) h.prefix.spells.valid
 
-pub is_read : (bytes : List ℕ) (used : ℕ) (request : PlainRequest) (rest : List ℕ) → BeginsWith IsSpelled bytes used → request_at bytes ≡ Some (request, rest) → IsRead bytes request used
+pub is_read : (bytes : List ℕ) (used : ℕ) (request : PlainRequest) (rest : List ℕ) → HasSpelledPrefix IsSpelled bytes used → request_at bytes ≡ Some (request, rest) → IsRead bytes request used
 is_read bytes used request rest h e =
-    let p = some_pair_parts h.front.request request (drop used bytes) rest (sym (read_again bytes used h) ∙ e) in
-    record { within = h.within; spells = subst (Spells (take used bytes)) p.0 h.front.spells }
+    let p = some_pair_parts h.prefix.request request (drop used bytes) rest (sym (read_again bytes used h) ∙ e) in
+    record { within = h.within; spells = subst (Spells (take used bytes)) p.0 h.prefix.spells }
 
-pub not_none : (bytes : List ℕ) (used : ℕ) → BeginsWith IsSpelled bytes used → request_at bytes ≡ None → ⊥
+pub not_none : (bytes : List ℕ) (used : ℕ) → HasSpelledPrefix IsSpelled bytes used → request_at bytes ≡ None → ⊥
 not_none bytes used h e = cc (sym (read_again bytes used h) ∙ e)

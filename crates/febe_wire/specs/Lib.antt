@@ -1,12 +1,12 @@
 pub use Rattle.febe_data.specs.Plain
-pub use Rattle.febe_data.specs.Parts
+pub use Rattle.febe_data.specs.FieldValues
 pub use Rattle.febe_data.specs.Spelling
 pub use Rattle.febe_data.specs.Validity
 pub use Rattle.febe_fields.specs.Prefixes
 pub mod Grammar
 pub mod Laws
-pub mod Reading
 pub mod RequestMachine
 pub mod Reads
 pub mod PartReads
 pub mod Sessions
+pub mod inside

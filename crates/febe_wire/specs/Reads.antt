@@ -6,7 +6,7 @@ use Rattle.febe_fields.specs.declared.scanned.Scanned.TheVariants.{Incomplete, C
 use Rattle.febe_fields.specs.declared.scanned.Scanned.TheVariants as scanned
 use Rattle.febe_fields.specs.Prefixes.{IsUnfinished, IsBadAt}
 use Rattle.febe_wire.specs.declared.got.Got.{Got}
-use Rattle.febe_wire.specs.declared.got.Got.TheVariants as gots
+use Rattle.febe_wire.specs.declared.got.Got.TheVariants as got_answers
 use Rattle.febe_wire.specs.Grammar.{Spells, IsSpelled}
 
 -- a fact that holds where a scan did not come to an end
@@ -23,6 +23,6 @@ pub record IsRead (bytes : List ℕ) (request : PlainRequest) (used : ℕ) : Typ
 -- What was got is so: a request is spelled by the bytes that it used; more is wanted where the bytes are
 -- a proper prefix of a request; they are bad where they are no prefix of one and begin with none.
 abbrev pub IsGot : List ℕ → Got → Type 0
-IsGot bytes (gots.Request request used) = IsRead bytes (plain_request request) used
-IsGot bytes gots.More = IsUnfinished IsSpelled bytes
-IsGot bytes (gots.Bad at) = IsBadAt IsSpelled bytes at
+IsGot bytes (got_answers.Request request used) = IsRead bytes (plain_request request) used
+IsGot bytes got_answers.More = IsUnfinished IsSpelled bytes
+IsGot bytes (got_answers.Bad at) = IsBadAt IsSpelled bytes at

@@ -6,7 +6,7 @@ use Rattle.febe_data.specs.Validity.{IsRequest}
 use Rattle.febe_fields.specs.Prefixes.{IsPrefix}
 use Rattle.febe_wire.specs.Grammar.{spell_request}
 
--- what a session begins with
+-- the prefix of each session's input
 abbrev pub greeting : List ℕ
 greeting = codes "P0~"
 
@@ -39,16 +39,16 @@ pub record IsQuitInput (bytes : List ℕ) : Type 0 where
   pub input : IsInputOf requests bytes
   pub quits : EndsInQuit requests
 
--- The bytes are malformed at k: their first k begin some session's input, which no quit has ended, and
--- with one byte more they begin none.
+-- The bytes are malformed at k: their first k are a prefix of some session's input, which no quit has ended,
+-- and with one byte more they are a prefix of none.
 pub record IsMalformedAt (bytes : List ℕ) (k : ℕ) : Type 0 where
   pub within : k < length bytes
-  pub front : IsPrefix IsInput (take k bytes)
+  pub prefix : IsPrefix IsInput (take k bytes)
   pub goes_on : ¬ IsQuitInput (take k bytes)
   pub longest : ¬ IsPrefix IsInput (take (k + 1) bytes)
 
--- The bytes are truncated: they begin some session's input, and end within its greeting or a request.
+-- The bytes are truncated: they are a prefix of some session's input, and end within its greeting or a request.
 pub record IsTruncated (bytes : List ℕ) : Type 0 where
   pub some : bytes ≢ []
-  pub front : IsPrefix IsInput bytes
+  pub prefix : IsPrefix IsInput bytes
   pub inside : ¬ IsInput bytes

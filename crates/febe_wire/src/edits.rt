@@ -1,16 +1,16 @@
 //! Requests that edit a document, each read from behind its number: the request and the bytes after it.
 ghost use Rattle.febe_data.specs.Plain.{plain_request};
-ghost use Rattle.febe_fields.specs.Reading.{Reads, Gives};
-ghost use Rattle.febe_wire.specs.Reading.{insert_at, copy_at, rearrange_at, delete_at};
+ghost use Rattle.febe_fields.specs.Reading.{Reads, ReadsIfOk};
+ghost use Rattle.febe_wire.specs.inside.Reading.{insert_at, copy_at, rearrange_at, delete_at};
 
 use febe_data::Request;
 use febe_fields::{span_at, specs_at, text_at, tumbler_at, tumblers_at};
 use std::alloc::Global;
 use tumbler::{List, Memory};
 
-#[tactic(auto, unfolding(crate::specs::Reading::insert_at))]
+#[tactic(auto, unfolding(crate::specs::inside::Reading::insert_at))]
 pub(crate) fn insert_at(alloc: Global, bytes: &[u8]) -> Result<Option<(Request, &[u8])>, Memory>
-    ensures { Gives (λ x. (plain_request x.0, x.1.now)) result (insert_at bytes.now) }
+    ensures { ReadsIfOk (λ x. (plain_request x.0, x.1.now)) result (insert_at bytes.now) }
 {
     let Some((document, rest)) = tumbler_at(alloc, bytes) else {
         return Ok(None);
@@ -25,9 +25,9 @@ pub(crate) fn insert_at(alloc: Global, bytes: &[u8]) -> Result<Option<(Request, 
     Ok(Some((Request::Insert { document, at, text }, rest)))
 }
 
-#[tactic(auto, unfolding(crate::specs::Reading::copy_at))]
+#[tactic(auto, unfolding(crate::specs::inside::Reading::copy_at))]
 pub(crate) fn copy_at(alloc: Global, bytes: &[u8]) -> Result<Option<(Request, &[u8])>, Memory>
-    ensures { Gives (λ x. (plain_request x.0, x.1.now)) result (copy_at bytes.now) }
+    ensures { ReadsIfOk (λ x. (plain_request x.0, x.1.now)) result (copy_at bytes.now) }
 {
     let Some((document, rest)) = tumbler_at(alloc, bytes) else {
         return Ok(None);
@@ -48,9 +48,9 @@ pub(crate) fn copy_at(alloc: Global, bytes: &[u8]) -> Result<Option<(Request, &[
     )))
 }
 
-#[tactic(auto, unfolding(crate::specs::Reading::rearrange_at))]
+#[tactic(auto, unfolding(crate::specs::inside::Reading::rearrange_at))]
 pub(crate) fn rearrange_at(alloc: Global, bytes: &[u8]) -> Result<Option<(Request, &[u8])>, Memory>
-    ensures { Gives (λ x. (plain_request x.0, x.1.now)) result (rearrange_at bytes.now) }
+    ensures { ReadsIfOk (λ x. (plain_request x.0, x.1.now)) result (rearrange_at bytes.now) }
 {
     let Some((document, rest)) = tumbler_at(alloc, bytes) else {
         return Ok(None);
@@ -61,7 +61,7 @@ pub(crate) fn rearrange_at(alloc: Global, bytes: &[u8]) -> Result<Option<(Reques
     Ok(Some((Request::Rearrange { document, cuts }, rest)))
 }
 
-#[tactic(auto, unfolding(crate::specs::Reading::delete_at))]
+#[tactic(auto, unfolding(crate::specs::inside::Reading::delete_at))]
 pub(crate) fn delete_at(alloc: Global, bytes: &[u8]) -> Option<(Request, &[u8])>
     ensures { Reads (λ x. (plain_request x.0, x.1.now)) result (delete_at bytes.now) }
 {

@@ -1,20 +1,20 @@
 //! Requests that make links and look for them, each read from behind its number: the request and the bytes after
 //! it.
 ghost use Rattle.febe_data.specs.Plain.{plain_want, plain_request};
-ghost use Rattle.febe_fields.specs.Reading.{Reads, Gives};
-ghost use Rattle.febe_wire.specs.Reading.{create_link_at, follow_at, want_at, with_want_at, next_links_at};
+ghost use Rattle.febe_fields.specs.Reading.{Reads, ReadsIfOk};
+ghost use Rattle.febe_wire.specs.inside.Reading.{create_link_at, follow_at, want_at, with_want_at, next_links_at};
 
 use febe_data::{Request, Want};
 use febe_fields::{number_at, spans_at, specs_at, tumbler_at};
 use std::alloc::Global;
 use tumbler::Memory;
 
-#[tactic(auto, unfolding(crate::specs::Reading::create_link_at))]
+#[tactic(auto, unfolding(crate::specs::inside::Reading::create_link_at))]
 pub(crate) fn create_link_at(
     alloc: Global,
     bytes: &[u8],
 ) -> Result<Option<(Request, &[u8])>, Memory>
-    ensures { Gives (λ x. (plain_request x.0, x.1.now)) result (create_link_at bytes.now) }
+    ensures { ReadsIfOk (λ x. (plain_request x.0, x.1.now)) result (create_link_at bytes.now) }
 {
     let Some((home, rest)) = tumbler_at(alloc, bytes) else {
         return Ok(None);
@@ -39,7 +39,7 @@ pub(crate) fn create_link_at(
     )))
 }
 
-#[tactic(auto, unfolding(crate::specs::Reading::follow_at))]
+#[tactic(auto, unfolding(crate::specs::inside::Reading::follow_at))]
 pub(crate) fn follow_at(alloc: Global, bytes: &[u8]) -> Option<(Request, &[u8])>
     ensures { Reads (λ x. (plain_request x.0, x.1.now)) result (follow_at bytes.now) }
 {
@@ -49,9 +49,9 @@ pub(crate) fn follow_at(alloc: Global, bytes: &[u8]) -> Option<(Request, &[u8])>
 }
 
 /// What links are looked for.
-#[tactic(auto, unfolding(crate::specs::Reading::want_at))]
+#[tactic(auto, unfolding(crate::specs::inside::Reading::want_at))]
 fn want_at(alloc: Global, bytes: &[u8]) -> Result<Option<(Want, &[u8])>, Memory>
-    ensures { Gives (λ x. (plain_want x.0, x.1.now)) result (want_at bytes.now) }
+    ensures { ReadsIfOk (λ x. (plain_want x.0, x.1.now)) result (want_at bytes.now) }
 {
     let Some((homes, rest)) = spans_at(alloc, bytes)? else {
         return Ok(None);
@@ -77,13 +77,13 @@ fn want_at(alloc: Global, bytes: &[u8]) -> Result<Option<(Want, &[u8])>, Memory>
 }
 
 /// The request of this number, where it is one that gives alone what links are looked for.
-#[tactic(auto, unfolding(crate::specs::Reading::with_want_at))]
+#[tactic(auto, unfolding(crate::specs::inside::Reading::with_want_at))]
 pub(crate) fn with_want_at(
     alloc: Global,
     number: u32,
     bytes: &[u8],
 ) -> Result<Option<(Request, &[u8])>, Memory>
-    ensures { Gives (λ x. (plain_request x.0, x.1.now)) result (with_want_at number bytes.now) }
+    ensures { ReadsIfOk (λ x. (plain_request x.0, x.1.now)) result (with_want_at number bytes.now) }
 {
     let Some((want, rest)) = want_at(alloc, bytes)? else {
         return Ok(None);
@@ -95,9 +95,9 @@ pub(crate) fn with_want_at(
     }
 }
 
-#[tactic(auto, unfolding(crate::specs::Reading::next_links_at))]
+#[tactic(auto, unfolding(crate::specs::inside::Reading::next_links_at))]
 pub(crate) fn next_links_at(alloc: Global, bytes: &[u8]) -> Result<Option<(Request, &[u8])>, Memory>
-    ensures { Gives (λ x. (plain_request x.0, x.1.now)) result (next_links_at bytes.now) }
+    ensures { ReadsIfOk (λ x. (plain_request x.0, x.1.now)) result (next_links_at bytes.now) }
 {
     let Some((want, rest)) = want_at(alloc, bytes)? else {
         return Ok(None);

@@ -6,25 +6,25 @@ use febe_data::{List, Memory, Span};
 use febe_fields::{Field, Scanned, Scanner, number_at, spans_at};
 use std::alloc::Global;
 
-/// What stands at the front of bytes, where a number is looked for.
+/// What stands at the start of bytes, where a number is looked for.
 #[derive(Clone, Copy, Debug, PartialEq, Eq)]
 pub enum GotNumber {
     /// A number, which so many bytes spell.
     Number { number: u32, used: usize },
-    /// The bytes are the front of a number.
+    /// The bytes are a proper prefix of a number.
     More,
-    /// The first bytes, so many, are the front of a number, and the byte behind them can't stand there.
+    /// The first bytes, so many, are a prefix of a number, and the byte behind them can't stand there.
     Bad { at: usize },
 }
 
-/// What stands at the front of bytes, where a list of spans is looked for.
+/// What stands at the start of bytes, where a list of spans is looked for.
 #[derive(Debug, Drop)]
 pub enum GotSpans {
     /// A list of spans, which so many bytes spell.
     Spans { spans: List<Span>, used: usize },
-    /// The bytes are the front of a list of spans.
+    /// The bytes are a proper prefix of a list of spans.
     More,
-    /// The first bytes, so many, are the front of such a list, and the byte behind them can't stand there.
+    /// The first bytes, so many, are a prefix of such a list, and the byte behind them can't stand there.
     Bad { at: usize },
 }
 

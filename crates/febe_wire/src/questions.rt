@@ -1,15 +1,15 @@
 //! Requests that open documents and ask what is in them, each read from behind its number: the request and the
 //! bytes after it.
 ghost use Rattle.febe_data.specs.Plain.{plain_request};
-ghost use Rattle.febe_fields.specs.Reading.{Reads, Gives};
-ghost use Rattle.febe_wire.specs.Reading.{open_at, with_tumbler_at, with_specs_at, relate_at};
+ghost use Rattle.febe_fields.specs.Reading.{Reads, ReadsIfOk};
+ghost use Rattle.febe_wire.specs.inside.Reading.{open_at, with_tumbler_at, with_specs_at, relate_at};
 
 use febe_data::Request;
 use febe_fields::{mode_at, rule_at, spec_at, specs_at, tumbler_at};
 use std::alloc::Global;
 use tumbler::Memory;
 
-#[tactic(auto, unfolding(crate::specs::Reading::open_at))]
+#[tactic(auto, unfolding(crate::specs::inside::Reading::open_at))]
 pub(crate) fn open_at(alloc: Global, bytes: &[u8]) -> Option<(Request, &[u8])>
     ensures { Reads (λ x. (plain_request x.0, x.1.now)) result (open_at bytes.now) }
 {
@@ -27,7 +27,7 @@ pub(crate) fn open_at(alloc: Global, bytes: &[u8]) -> Option<(Request, &[u8])>
 }
 
 /// The request of this number, where it is one that gives a tumbler alone.
-#[tactic(auto, unfolding(crate::specs::Reading::with_tumbler_at))]
+#[tactic(auto, unfolding(crate::specs::inside::Reading::with_tumbler_at))]
 pub(crate) fn with_tumbler_at(alloc: Global, number: u32, bytes: &[u8]) -> Option<(Request, &[u8])>
     ensures { Reads (λ x. (plain_request x.0, x.1.now)) result (with_tumbler_at number bytes.now) }
 {
@@ -43,13 +43,13 @@ pub(crate) fn with_tumbler_at(alloc: Global, number: u32, bytes: &[u8]) -> Optio
 }
 
 /// The request of this number, where it is one that gives specs alone.
-#[tactic(auto, unfolding(crate::specs::Reading::with_specs_at))]
+#[tactic(auto, unfolding(crate::specs::inside::Reading::with_specs_at))]
 pub(crate) fn with_specs_at(
     alloc: Global,
     number: u32,
     bytes: &[u8],
 ) -> Result<Option<(Request, &[u8])>, Memory>
-    ensures { Gives (λ x. (plain_request x.0, x.1.now)) result (with_specs_at number bytes.now) }
+    ensures { ReadsIfOk (λ x. (plain_request x.0, x.1.now)) result (with_specs_at number bytes.now) }
 {
     let Some((specs, rest)) = specs_at(alloc, bytes)? else {
         return Ok(None);
@@ -62,9 +62,9 @@ pub(crate) fn with_specs_at(
     }
 }
 
-#[tactic(auto, unfolding(crate::specs::Reading::relate_at))]
+#[tactic(auto, unfolding(crate::specs::inside::Reading::relate_at))]
 pub(crate) fn relate_at(alloc: Global, bytes: &[u8]) -> Result<Option<(Request, &[u8])>, Memory>
-    ensures { Gives (λ x. (plain_request x.0, x.1.now)) result (relate_at bytes.now) }
+    ensures { ReadsIfOk (λ x. (plain_request x.0, x.1.now)) result (relate_at bytes.now) }
 {
     let Some((left, rest)) = spec_at(alloc, bytes)? else {
         return Ok(None);

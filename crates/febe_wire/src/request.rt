@@ -1,7 +1,7 @@
-//! Requests, each read from the front of the bytes: the request and the bytes after it.
+//! Requests, each read from the start of the bytes: the request and the bytes after it.
 ghost use Rattle.febe_data.specs.Plain.{plain_request};
-ghost use Rattle.febe_fields.specs.Reading.{Gives};
-ghost use Rattle.febe_wire.specs.Reading.{request_of, request_at};
+ghost use Rattle.febe_fields.specs.Reading.{ReadsIfOk};
+ghost use Rattle.febe_wire.specs.inside.Reading.{request_of, request_at};
 
 use crate::edits::{copy_at, delete_at, insert_at, rearrange_at};
 use crate::links::{create_link_at, follow_at, next_links_at, with_want_at};
@@ -12,9 +12,9 @@ use std::alloc::Global;
 use tumbler::Memory;
 
 /// The request of this number, from what stands behind the number.
-#[tactic(auto, unfolding(crate::specs::Reading::request_of))]
+#[tactic(auto, unfolding(crate::specs::inside::Reading::request_of))]
 fn request_of(alloc: Global, number: u32, bytes: &[u8]) -> Result<Option<(Request, &[u8])>, Memory>
-    ensures { Gives (λ x. (plain_request x.0, x.1.now)) result (request_of number bytes.now) }
+    ensures { ReadsIfOk (λ x. (plain_request x.0, x.1.now)) result (request_of number bytes.now) }
 {
     match number {
         0 => insert_at(alloc, bytes),
@@ -35,9 +35,9 @@ fn request_of(alloc: Global, number: u32, bytes: &[u8]) -> Result<Option<(Reques
 }
 
 /// The request in which the bytes begin, and the bytes behind it.
-#[tactic(auto, unfolding(crate::specs::Reading::request_at))]
+#[tactic(auto, unfolding(crate::specs::inside::Reading::request_at))]
 pub(crate) fn request_at(alloc: Global, bytes: &[u8]) -> Result<Option<(Request, &[u8])>, Memory>
-    ensures { Gives (λ x. (plain_request x.0, x.1.now)) result (request_at bytes.now) }
+    ensures { ReadsIfOk (λ x. (plain_request x.0, x.1.now)) result (request_at bytes.now) }
 {
     match number_at(bytes) {
         Some((number, rest)) => request_of(alloc, number, rest),

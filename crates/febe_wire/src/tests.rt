@@ -94,7 +94,7 @@ fn each_request_is_read_and_written(rt: HostRuntime) -> Result<(), Fail> {
     Ok(())
 }
 
-fn check_fronts(rt: &impl Abort, alloc: Global, spelling: &str) -> Result<(), Fail> {
+fn check_prefixes(rt: &impl Abort, alloc: Global, spelling: &str) -> Result<(), Fail> {
     let bytes = spelling.as_bytes();
     for cut in 0..bytes.len() {
         let got = read_request(alloc, &bytes[..cut])?;
@@ -104,12 +104,12 @@ fn check_fronts(rt: &impl Abort, alloc: Global, spelling: &str) -> Result<(), Fa
 }
 
 #[test]
-fn each_front_wants_more(rt: HostRuntime) -> Result<(), Fail> {
+fn each_prefix_wants_more(rt: HostRuntime) -> Result<(), Fail> {
     for (_, spelling, _) in REQUESTS {
-        check_fronts(&rt, rt.alloc(), spelling)?;
+        check_prefixes(&rt, rt.alloc(), spelling)?;
     }
     for (_, spelling) in FURTHER {
-        check_fronts(&rt, rt.alloc(), spelling)?;
+        check_prefixes(&rt, rt.alloc(), spelling)?;
     }
     for bytes in MORE {
         let got = read_request(rt.alloc(), bytes.as_bytes())?;
@@ -399,13 +399,13 @@ fn filled(alloc: Global, bytes: &str, item: &str, times: usize) -> Result<Text, 
 }
 
 /// Reads a list of 65,536 items, and one that lacks an item yet.
-fn check_items(rt: &impl Abort, alloc: Global, front: &str, item: &str) -> Result<(), Fail> {
-    let bytes = filled(alloc, front, item, 65_535)?;
+fn check_items(rt: &impl Abort, alloc: Global, prefix: &str, item: &str) -> Result<(), Fail> {
+    let bytes = filled(alloc, prefix, item, 65_535)?;
     let got = read_request(alloc, bytes.as_slice())?;
-    assert!(rt; wants_more(&got), "at {front}");
-    let bytes = filled(alloc, front, item, 65_536)?;
+    assert!(rt; wants_more(&got), "at {prefix}");
+    let bytes = filled(alloc, prefix, item, 65_536)?;
     let got = read_request(alloc, bytes.as_slice())?;
-    assert_eq!(rt; used_of(&got), Some(bytes.len()), "at {front}");
+    assert_eq!(rt; used_of(&got), Some(bytes.len()), "at {prefix}");
     Ok(())
 }
 

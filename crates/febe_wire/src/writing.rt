@@ -2,10 +2,10 @@
 ghost use Rattle.std.specs.Prelude.{◌≡◌, ◌++◌, OnOk, OnErr, IfOk};
 ghost use Rattle.std.specs.Io.{StartsWith};
 ghost use Rattle.febe_data.specs.Plain.{plain_spec, plain_specs, plain_want, plain_request, insert, copy, rearrange, delete, follow, create_link, count_links, next_links, relate, opens};
-ghost use Rattle.febe_data.specs.Parts.{request_number};
+ghost use Rattle.febe_data.specs.FieldValues.{request_number};
 ghost use Rattle.febe_data.specs.Spelling.{spell_number, spell_tumbler};
 ghost use Rattle.febe_data.specs.Validity.{IsRequest};
-ghost use Rattle.febe_wire.specs.Grammar.{spell_parts, spell_request};
+ghost use Rattle.febe_wire.specs.Grammar.{spell_values, spell_request};
 
 use febe_data::{
     List, Memory, Mode, Request, Rule, Span, Spec, Text, Tumbler, Want, append_number, append_span,
@@ -13,7 +13,7 @@ use febe_data::{
 };
 use std::alloc::Global;
 
-/// Adds a number. Where memory is short, some front of it may have been added.
+/// Adds a number. Where memory is short, some prefix of it may have been added.
 pub fn write_number(out: &mut Text, number: u32) -> Result<(), Memory>
     ensures ok { OnOk result (out.new.items ≡ out.old.items ++ spell_number number) }
     ensures err { OnErr result (StartsWith out.new.items out.old.items) }
@@ -21,7 +21,7 @@ pub fn write_number(out: &mut Text, number: u32) -> Result<(), Memory>
     append_number(out, number)
 }
 
-/// Adds a tumbler. Where memory is short, some front of it may have been added.
+/// Adds a tumbler. Where memory is short, some prefix of it may have been added.
 pub fn write_tumbler(out: &mut Text, tumbler: &Tumbler) -> Result<(), Memory>
     ensures ok { OnOk result (out.new.items ≡ out.old.items ++ spell_tumbler tumbler.now) }
     ensures err { OnErr result (StartsWith out.new.items out.old.items) }
@@ -65,7 +65,7 @@ fn append_insert(
     text: &Text,
 ) -> Result<(), Memory>
     requires { IsRequest (insert document.now at.now text.now.items) }
-    ensures { OnOk result (out.new.items ≡ out.old.items ++ spell_parts (insert document.now at.now text.now.items)) }
+    ensures { OnOk result (out.new.items ≡ out.old.items ++ spell_values (insert document.now at.now text.now.items)) }
 {
     append_tumbler(out, document)?;
     append_tumbler(out, at)?;
@@ -79,7 +79,7 @@ fn append_copy(
     specs: &List<Spec>,
 ) -> Result<(), Memory>
     requires { IsRequest (copy document.now at.now (plain_specs specs.now.items)) }
-    ensures { OnOk result (out.new.items ≡ out.old.items ++ spell_parts (copy document.now at.now (plain_specs specs.now.items))) }
+    ensures { OnOk result (out.new.items ≡ out.old.items ++ spell_values (copy document.now at.now (plain_specs specs.now.items))) }
 {
     append_tumbler(out, document)?;
     append_tumbler(out, at)?;
@@ -88,7 +88,7 @@ fn append_copy(
 
 fn append_rearrange(out: &mut Text, document: &Tumbler, cuts: &List<Tumbler>) -> Result<(), Memory>
     requires { IsRequest (rearrange document.now cuts.now.items) }
-    ensures { OnOk result (out.new.items ≡ out.old.items ++ spell_parts (rearrange document.now cuts.now.items)) }
+    ensures { OnOk result (out.new.items ≡ out.old.items ++ spell_values (rearrange document.now cuts.now.items)) }
 {
     append_tumbler(out, document)?;
     append_tumblers(out, cuts.as_slice())
@@ -96,21 +96,21 @@ fn append_rearrange(out: &mut Text, document: &Tumbler, cuts: &List<Tumbler>) ->
 
 fn append_relate(out: &mut Text, left: &Spec, right: &Spec) -> Result<(), Memory>
     requires { IsRequest (relate (plain_spec left.now) (plain_spec right.now)) }
-    ensures { OnOk result (out.new.items ≡ out.old.items ++ spell_parts (relate (plain_spec left.now) (plain_spec right.now))) }
+    ensures { OnOk result (out.new.items ≡ out.old.items ++ spell_values (relate (plain_spec left.now) (plain_spec right.now))) }
 {
     append_spec(out, left)?;
     append_spec(out, right)
 }
 
 fn append_delete(out: &mut Text, document: &Tumbler, span: &Span) -> Result<(), Memory>
-    ensures { OnOk result (out.new.items ≡ out.old.items ++ spell_parts (delete document.now span.now)) }
+    ensures { OnOk result (out.new.items ≡ out.old.items ++ spell_values (delete document.now span.now)) }
 {
     append_tumbler(out, document)?;
     append_span(out, span)
 }
 
 fn append_follow(out: &mut Text, link: &Tumbler, end: u32) -> Result<(), Memory>
-    ensures { OnOk result (out.new.items ≡ out.old.items ++ spell_parts (follow link.now end)) }
+    ensures { OnOk result (out.new.items ≡ out.old.items ++ spell_values (follow link.now end)) }
 {
     append_tumbler(out, link)?;
     append_number(out, end)
@@ -124,7 +124,7 @@ fn append_create_link(
     three: &List<Spec>,
 ) -> Result<(), Memory>
     requires { IsRequest (create_link home.now (plain_specs from.now.items) (plain_specs to.now.items) (plain_specs three.now.items)) }
-    ensures { OnOk result (out.new.items ≡ out.old.items ++ spell_parts (create_link home.now (plain_specs from.now.items) (plain_specs to.now.items) (plain_specs three.now.items))) }
+    ensures { OnOk result (out.new.items ≡ out.old.items ++ spell_values (create_link home.now (plain_specs from.now.items) (plain_specs to.now.items) (plain_specs three.now.items))) }
 {
     append_tumbler(out, home)?;
     append_specs(out, from.as_slice())?;
@@ -134,7 +134,7 @@ fn append_create_link(
 
 fn append_want(out: &mut Text, want: &Want) -> Result<(), Memory>
     requires { IsRequest (count_links (plain_want want.now)) }
-    ensures { OnOk result (out.new.items ≡ out.old.items ++ spell_parts (count_links (plain_want want.now))) }
+    ensures { OnOk result (out.new.items ≡ out.old.items ++ spell_values (count_links (plain_want want.now))) }
 {
     append_spans(out, want.homes.as_slice())?;
     append_specs(out, want.from.as_slice())?;
@@ -144,7 +144,7 @@ fn append_want(out: &mut Text, want: &Want) -> Result<(), Memory>
 
 fn append_next_links(out: &mut Text, want: &Want, after: &Tumbler, limit: u32) -> Result<(), Memory>
     requires { IsRequest (next_links (plain_want want.now) after.now limit) }
-    ensures { OnOk result (out.new.items ≡ out.old.items ++ spell_parts (next_links (plain_want want.now) after.now limit)) }
+    ensures { OnOk result (out.new.items ≡ out.old.items ++ spell_values (next_links (plain_want want.now) after.now limit)) }
 {
     append_want(out, want)?;
     append_tumbler(out, after)?;
@@ -152,7 +152,7 @@ fn append_next_links(out: &mut Text, want: &Want, after: &Tumbler, limit: u32) -
 }
 
 fn append_open(out: &mut Text, document: &Tumbler, mode: &Mode, rule: &Rule) -> Result<(), Memory>
-    ensures { OnOk result (out.new.items ≡ out.old.items ++ spell_parts (opens document.now mode.now rule.now)) }
+    ensures { OnOk result (out.new.items ≡ out.old.items ++ spell_values (opens document.now mode.now rule.now)) }
 {
     append_tumbler(out, document)?;
     append_number(out, mode.number())?;
@@ -161,7 +161,7 @@ fn append_open(out: &mut Text, document: &Tumbler, mode: &Mode, rule: &Rule) -> 
 
 fn append_parts(out: &mut Text, request: &Request) -> Result<(), Memory>
     requires { IsRequest (plain_request request.now) }
-    ensures { OnOk result (out.new.items ≡ out.old.items ++ spell_parts (plain_request request.now)) }
+    ensures { OnOk result (out.new.items ≡ out.old.items ++ spell_values (plain_request request.now)) }
 {
     match request {
         Request::Create | Request::Quit => Ok(()),

@@ -11,11 +11,11 @@ use Rattle.std.proofs.lemmas.List.Folds.{flat_map-map}
 use Rattle.std.proofs.lemmas.List.Elements.{All-nil, All-cons, All-head, All-tail, All-same, All-append, All-weaker}
 use Rattle.febe_data.specs.declared.spec.Spec.{Spec}
 use Rattle.febe_data.specs.Plain.{PlainSpec, plain_spec}
-use Rattle.flat_world.specs.declared.rows.ByteRow.{ByteRow}
-use Rattle.flat_world.specs.declared.rows.Row.{Row}
-use Rattle.flat_world.specs.World.{is_same}
-use Rattle.flat_world.specs.ByteIndex.{ByteIndex, entry_at, IsWanted, WantsMore, TakesByte}
-use Rattle.flat_world.specs.Picking.{addresses_of}
+use Rattle.world_rules.specs.declared.rows.ByteRow.{ByteRow}
+use Rattle.world_rules.specs.declared.rows.Row.{Row}
+use Rattle.world_rules.specs.World.{is_same}
+use Rattle.flat_world.specs.inside.ByteIndex.{ByteIndex, entry_at, IsWanted, WantsMore, TakesByte}
+use Rattle.world_rules.specs.Picking.{addresses_of}
 use Rattle.flat_world.proofs.Picked.{flat_map_at, flat_map_spec, filter_more_yes, filter_more_no}
 
 -- ---- addresses come in

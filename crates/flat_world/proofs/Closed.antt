@@ -7,13 +7,13 @@ use Rattle.std.proofs.lemmas.Bool.{and_parts}
 use Rattle.std.proofs.lemmas.Bool.Decides.{nat_tests}
 use Rattle.tumbler.specs.declared.span.Span.{Span}
 use Rattle.tumbler.specs.Span.{end_of}
-use Rattle.flat_world.specs.declared.rows.Part.{Part}
-use Rattle.flat_world.specs.declared.rows.Part.TheVariants.{Text, Links}
-use Rattle.flat_world.specs.declared.rows.Row.{Row}
-use Rattle.flat_world.specs.World.{is_same, part_number}
-use Rattle.flat_world.specs.Picking.{is_within}
-use Rattle.flat_world.specs.Edits.{goes, is_same_part, gone_below, down_by, closed_up, rows_without}
-use Rattle.flat_world.specs.Closing.{going_within, is_before, of_part, closed_after, rows_left}
+use Rattle.world_rules.specs.declared.rows.Part.{Part}
+use Rattle.world_rules.specs.declared.rows.Part.TheVariants.{Text, Links}
+use Rattle.world_rules.specs.declared.rows.Row.{Row}
+use Rattle.world_rules.specs.World.{is_same, part_number}
+use Rattle.world_rules.specs.Picking.{is_within}
+use Rattle.world_rules.specs.Edits.{goes, is_same_part, gone_below, down_by, closed_up, rows_without}
+use Rattle.flat_world.specs.inside.Closing.{going_within, is_before, of_part, closed_after, rows_left}
 
 -- ---- the order of two places of one part, seen from a bound
 

@@ -4,10 +4,10 @@ use Rattle.std.specs.Prelude.{nat_lt}
 use Rattle.std.specs.List.{position, position_or_len, list_any}
 use Rattle.std.proofs.lemmas.Bool.Decides.{nat_tests}
 use Rattle.std.proofs.lemmas.List.Quantifiers.{position-Some}
-use Rattle.flat_world.specs.declared.rows.SessionRow.{SessionRow}
+use Rattle.world_rules.specs.declared.rows.SessionRow.{SessionRow}
 use Rattle.std.proofs.lemmas.Bool.{true≢false}
-use Rattle.flat_world.specs.FlatView.{entries_in, with_entry}
-use Rattle.flat_world.specs.InPlace.{HasRoom}
+use Rattle.world_rules.specs.FlatView.{entries_in, with_entry}
+use Rattle.world_rules.specs.InPlace.{HasRoom}
 
 abbrev is_of : ℕ → SessionRow → Bool
 is_of session row = row.session == session

@@ -1,7 +1,7 @@
 -- Edits of the world's lists, one item after the other.
 use Rattle.std.proofs.Common.{◌≡◌, ℕ, suc, ◌+◌, ◌-◌, ◌<◌, ◌∙◌, List, [], ◌∷◌, ◌++◌, arith, refl, append_assoc}
-use Rattle.flat_world.specs.World.{content_address}
-use Rattle.flat_world.specs.Edits.{content_addresses}
+use Rattle.world_rules.specs.World.{content_address}
+use Rattle.world_rules.specs.Edits.{content_addresses}
 
 -- where there is one more address to come, it is the next
 pub addresses_more : (document : List ℕ) (first count k : ℕ) (made all : List (List ℕ)) → k < count → made ++ content_addresses document first (count - k) ≡ all

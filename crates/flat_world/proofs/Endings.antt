@@ -14,24 +14,19 @@ use Rattle.febe_data.specs.ListView.{ListView}
 use Rattle.febe_data.specs.declared.spec.Spec.{Spec}
 use Rattle.febe_data.specs.Plain.{PlainSpec, plain_spec}
 use Rattle.febe_data.specs.Validity.{IsList, IsSpecSet, spans_in_all}
-use Rattle.flat_world.specs.declared.rows.LinkRow.{LinkRow}
-use Rattle.flat_world.specs.World as world
-use Rattle.flat_world.specs.World.{is_same, is_text_of}
-use Rattle.flat_world.specs.declared.ends.End.{End}
+use Rattle.flat_world.specs.declared.links.LinkRow.{LinkRow}
+use Rattle.world_rules.specs.World as world
+use Rattle.world_rules.specs.World.{is_same, is_text_of}
+use Rattle.world_rules.specs.declared.ends.End.{End}
 use Rattle.flat_world.specs.declared.ends.Extent.{Extent}
-use Rattle.flat_world.specs.declared.rows.Row.{Row}
-use Rattle.flat_world.specs.Picking.{picks, is_within, is_in_runs, picked_once, places_of, intervals}
+use Rattle.world_rules.specs.declared.rows.Row.{Row}
+use Rattle.world_rules.specs.Picking.{picks, is_within, is_in_runs, picked_once, places_of, intervals}
 use Rattle.flat_world.specs.PlainLink.{plain_link}
-use Rattle.flat_world.specs.Ends.{NamesSpans, runs_of_end, is_in_end, end_set}
+use Rattle.world_rules.specs.Ends.{NamesSpans, runs_of_end, is_in_end, end_set}
 use Rattle.flat_world.specs.declared.end_index.Piece.{Piece}
-use Rattle.flat_world.specs.EndIndex.{is_indexed, indexed_of, Indexes}
-use Rattle.flat_world.specs.Refusals.{is_too_long}
-use Rattle.flat_world.proofs.Specs.{list_any-map}
-
--- one more in a list that has room for it
-pub list_push : {X : Type 0} (IsRight : X → Type 0) (xs more : List X) (x : X) → more ≡ xs ++ x ∷ [] → IsRight x → IsList IsRight xs → length xs + 1 ≤ 65536 → IsList IsRight more
-list_push IsRight xs more x e right before room =
-    rw e (record { few = rw length-append (omega (arith, room)); each = All-push IsRight xs x before.each right })
+use Rattle.flat_world.specs.inside.EndIndex.{is_indexed, indexed_of, Indexes}
+use Rattle.world_rules.specs.Refusals.{is_too_long}
+use Rattle.world_rules.proofs.Specs.{list_any-map}
 
 -- the first of the plain links, as of those of the code
 pub find_link : (id : List ℕ) (links : List LinkRow) → option_map plain_link (find (λ (l : LinkRow). is_same l.id id) links) ≡ find (λ (l : world.LinkRow). is_same l.id id) (map plain_link links)
@@ -50,19 +45,6 @@ specs_more f xs i d old new spec lt pushed is before = rw (pushed, map-append, b
 
 pub specs_valid : (old new : List Spec) (spec : Spec) → new ≡ old ++ spec ∷ [] → NamesSpans (plain_spec spec) → All NamesSpans (map plain_spec old) → All NamesSpans (map plain_spec new)
 specs_valid old new spec pushed named before = rw (pushed, map-append) (All-push NamesSpans (map plain_spec old) (plain_spec spec) before named)
-
--- specs that are no more than a list may have, and no more of whose spans
-pub are_specs : (specs : List PlainSpec) → All NamesSpans specs → length specs ≤ 65536 → spans_in_all specs ≤ 65536 → IsSpecSet specs
-are_specs specs named few few_spans = record {
-  list = record {
-    few = few;
-    each = λ k d lt. record {
-      document = (named k d lt).document;
-      spans = record { few = omega (arith, few_spans, get_or-le-sum_by (λ (spec : PlainSpec). length spec.spans) specs k d lt); each = (named k d lt).spans };
-    };
-  };
-  few_spans = few_spans;
-}
 
 -- ---- positions
 
@@ -108,10 +90,3 @@ end_set_indexed w end index links specs of_links indexed =
     let here : (address : List ℕ) → is_indexed index address ≡ is_in_end w end address =
     λ address. indexed address ∙ sym (list_any-map plain_link (λ (link : world.LinkRow). is_in_runs (runs_of_end end link) address) links) ∙ ap (list_any (λ (link : world.LinkRow). is_in_runs (runs_of_end end link) address)) of_links in
     λ i. map (λ (spec : PlainSpec). record { document = spec.document; spans = intervals (places_of (filter (λ (row : Row). here row.address i) (picked_once w spec))) }) specs
-
--- as many specs as were asked for, with no more spans than a list may have
-pub end_set_valid : (w : world.World) (end : End) (specs made : List Spec) → map plain_spec made ≡ end_set w end (map plain_spec specs) → All NamesSpans (map plain_spec made)
-    → is_too_long (length specs) ≡ false → is_too_long (spans_in_all (map plain_spec made)) ≡ false → IsSpecSet (map plain_spec made)
-end_set_valid w end specs made value named few few_spans =
-    let same : length (map plain_spec made) ≡ length specs = rw (value, length-map, length-map) refl in
-    are_specs (map plain_spec made) named (rw same (ltb-false 65536 (length specs) few)) (ltb-false 65536 (spans_in_all (map plain_spec made)) few_spans)

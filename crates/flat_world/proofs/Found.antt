@@ -13,18 +13,18 @@ use Rattle.std.proofs.lemmas.List.Elements.{All-push, filter-append}
 use Rattle.tumbler.specs.Places.{IsTumbler}
 use Rattle.febe_data.specs.Validity.{IsList}
 use Rattle.febe_data.specs.Plain.{PlainSpec, PlainWant}
-use Rattle.flat_world.specs.declared.rows.Row.{Row}
-use Rattle.flat_world.specs.declared.finding.Sought.{Sought}
-use Rattle.flat_world.specs.World.{World, LinkRow, is_same, ascending}
-use Rattle.flat_world.specs.World as plain
-use Rattle.flat_world.specs.declared.rows.LinkRow as rows
+use Rattle.world_rules.specs.declared.rows.Row.{Row}
+use Rattle.world_rules.specs.declared.lookups.WantedRuns.{WantedRuns}
+use Rattle.world_rules.specs.World.{World, LinkRow, is_same, ascending}
+use Rattle.world_rules.specs.World as plain
+use Rattle.flat_world.specs.declared.links.LinkRow as rows
 use Rattle.flat_world.specs.PlainLink.{plain_link}
-use Rattle.flat_world.specs.Meeting.{is_met, IsSought}
-use Rattle.flat_world.specs.Sets.{is_in_set, IsSetOf, IsSetShowing}
-use Rattle.flat_world.specs.Picking.{picked_addresses}
-use Rattle.flat_world.specs.Finding.{shows_one_of, documents_found, is_wanted, links_found}
+use Rattle.flat_world.specs.inside.Meeting.{is_met}
+use Rattle.world_rules.specs.Wanted.{AreWantedRuns}
+use Rattle.flat_world.specs.inside.Sets.{is_in_set, IsSetOf, IsSetShowing}
+use Rattle.world_rules.specs.Picking.{picked_addresses}
+use Rattle.world_rules.specs.Finding.{shows_one_of, documents_found, is_wanted, links_found}
 use Rattle.flat_world.proofs.SharedBytes.{end_is_met}
-use Rattle.flat_world.proofs.Checks.{held_first, held_then}
 
 -- ---- lists of tumblers
 
@@ -119,12 +119,12 @@ found_are world specs addresses picked shown found rows documents made are_picke
 -- ---- links
 
 -- where the runs that are looked for are those that the specs pick, links are met exactly if they are wanted
-wanted_is : (world : World) (want : PlainWant) (sought : Sought) (link : LinkRow) → IsSought world want sought → is_met want sought link ≡ is_wanted world want link
-wanted_is world want sought link runs =
+wanted_is : (world : World) (want : PlainWant) (wanted : WantedRuns) (link : LinkRow) → AreWantedRuns world want wanted → is_met want wanted link ≡ is_wanted world want link
+wanted_is world want wanted link runs =
     rw (runs.from_is, runs.to_is, runs.three_is, end_is_met world want.from link.from, end_is_met world want.to link.to, end_is_met world want.three link.three) refl
 
-pub links_are : (world : World) (want : PlainWant) (sought : Sought) → IsSought world want sought → filter (is_met want sought) world.links ≡ links_found world want
-links_are world want sought runs = λ i. filter (λ (link : LinkRow). wanted_is world want sought link runs i) world.links
+pub links_are : (world : World) (want : PlainWant) (wanted : WantedRuns) → AreWantedRuns world want wanted → filter (is_met want wanted) world.links ≡ links_found world want
+links_are world want wanted runs = λ i. filter (λ (link : LinkRow). wanted_is world want wanted link runs i) world.links
 
 -- a link more
 filter_map_more : {X Y : Type 0} (f : X → Y) (p : Y → Bool) (xs : List X) (i : ℕ) (d : X) → i < length xs
@@ -142,19 +142,3 @@ met_no p links i d lt fails =
     ∙ ap (λ (b : Bool). filter p (map plain_link (take i links)) ++ cond b (plain_link (get_or links i d) ∷ []) []) fails ∙ append-nil (filter p (map plain_link (take i links)))
 
 pub ruleset met_steps = (met_yes, met_no)
-
--- ---- refusals
-
--- numbers that are counted up to a greatest one
-pub too_many : (a b c : ℕ) → nat_lt 65536 (min (min (a + b) (2 ^ 64 - 1) + c) (2 ^ 64 - 1)) ≡ nat_lt 65536 (a + b + c)
-too_many a b c = grind (arith, nat_tests)
-
--- ---- replies
-
-few_from : (n : ℕ) → nat_lt 65536 n ≡ false → n ≤ 65536
-few_from n e = grind (arith, nat_tests)
-
-pub are_listed : (tumblers : List (List ℕ)) → nat_lt 65536 (length tumblers) ≡ false → All IsTumbler tumblers → IsList IsTumbler tumblers
-are_listed tumblers short each = record { few = few_from (length tumblers) short; each = each }
-
-pub ruleset served = (held_first, held_then, are_listed)

@@ -13,9 +13,9 @@ use Rattle.std.proofs.lemmas.Slice.Eq.{bytes_eq-Decides}
 use Rattle.febe_data.specs.ListView.{ListView}
 use Rattle.febe_data.specs.declared.run.Run.{Run}
 use Rattle.flat_world.specs.declared.end_index.Piece.{Piece}
-use Rattle.flat_world.specs.World.{is_same}
-use Rattle.flat_world.specs.Picking.{content_of, number_of, is_in_run, is_in_runs}
-use Rattle.flat_world.specs.EndIndex.{is_in_piece, items_of_pieces, pieces_of, is_indexed, IndexesMore}
+use Rattle.world_rules.specs.World.{is_same}
+use Rattle.world_rules.specs.Picking.{content_of, number_of, is_in_run, is_in_runs}
+use Rattle.flat_world.specs.inside.EndIndex.{is_in_piece, items_of_pieces, pieces_of, is_indexed, IndexesMore}
 
 -- two addresses are the same, from either side
 same_back : (a b : List ℕ) → is_same a b ≡ is_same b a

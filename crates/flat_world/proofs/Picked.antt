@@ -8,7 +8,7 @@ use Rattle.std.proofs.lemmas.List.Folds.{flat_map-map}
 use Rattle.std.proofs.lemmas.List.Elements.{filter_more}
 use Rattle.febe_data.specs.declared.spec.Spec.{Spec}
 use Rattle.febe_data.specs.Plain.{PlainSpec, plain_spec}
-use Rattle.flat_world.specs.declared.rows.Row.{Row}
+use Rattle.world_rules.specs.declared.rows.Row.{Row}
 
 -- one more of a list of lists
 pub flat_map_at : {X Y : Type 0} (f : X → List Y) (xs : List X) (i : ℕ) (d : X) → i < length xs → flat_map f (take (i + 1) xs) ≡ flat_map f (take i xs) ++ f (get_or xs i d)

@@ -3,7 +3,7 @@ use Rattle.std.proofs.Common.{◌≡◌, ℕ, ◌+◌, ◌==◌, ◌++◌, ◌�
 use Rattle.std.proofs.Math.Seq.{drop-cons}
 use Rattle.std.proofs.Math.ListN.{drop_of_length-le}
 use Rattle.tumbler.specs.declared.span.Span.{Span}
-use Rattle.flat_world.specs.Picking.{stretches_on, interval}
+use Rattle.world_rules.specs.Picking.{stretches_on, interval}
 
 -- the intervals of an open stretch and of what is behind it
 abbrev intervals_on : (first last count : ℕ) → List ℕ → List Span

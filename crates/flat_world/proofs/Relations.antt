@@ -17,18 +17,18 @@ use Rattle.std.proofs.lemmas.List.Folds.{list_any_more}
 use Rattle.std.proofs.lemmas.Simd.{map-map}
 use Rattle.std.proofs.lemmas.List.Concat.{flat_map-append}
 use Rattle.std.proofs.lemmas.List.Elements.{filter_more, filter-append}
-use Rattle.flat_world.specs.declared.rows.Row.{Row}
+use Rattle.world_rules.specs.declared.rows.Row.{Row}
 use Rattle.febe_data.specs.declared.refusal.Refusal.{Refusal}
 use Rattle.febe_data.specs.declared.refusal.Refusal.TheVariants.{NoSuchDocument, NotOpen, BadAddress, TooLong}
 use Rattle.febe_data.specs.LimitsView.{LimitsView}
 use Rattle.febe_data.specs.Plain.{PlainSpec, relate}
-use Rattle.flat_world.specs.declared.relation.Pair.{Pair}
-use Rattle.flat_world.specs.World.{World, is_same}
-use Rattle.flat_world.specs.Relation.{pairs_of_row, is_pair, has_pair, diagonals}
-use Rattle.flat_world.specs.Refusals.{first_holding, lacks_document, lacks_opening, is_bad_span, is_too_long, picking, wanted}
-use Rattle.flat_world.specs.PairIndex.{pairs_with, places_at, places_in, pair_cmp, set_has, AddsPlace, IsPlaceIndex, IsPairSet}
+use Rattle.world_rules.specs.declared.pairs.Pair.{Pair}
+use Rattle.world_rules.specs.World.{World, is_same}
+use Rattle.world_rules.specs.Relation.{pairs_of_row, is_pair, has_pair, diagonals}
+use Rattle.world_rules.specs.Refusals.{first_holding, lacks_document, lacks_opening, is_bad_span, is_too_long, picking, wanted}
+use Rattle.flat_world.specs.inside.PairIndex.{pairs_with, places_at, places_in, pair_cmp, set_has, AddsPlace, IsPlaceIndex, IsPairSet}
 use Rattle.flat_world.proofs.Sizes.{span_fits_at}
-use Rattle.flat_world.proofs.Checks.{held_first, held_then}
+use Rattle.world_rules.proofs.Checks.{held_first, held_then}
 
 pub ruleset picked_steps = (span_fits_at)
 
@@ -130,33 +130,3 @@ set_more pairs i d old new lt before updates left right =
     either false false = refl
 
 pub ruleset set_steps = (set_more)
-
--- ---- refusals
-
--- where what is read is not refused, no span is bad
-pub spans_fit : (world : World) (session : ℕ) (left right : PlainSpec) → first_holding (picking world session (left ∷ right ∷ [])) ≡ None
-    → (list_any is_bad_span left.spans ≡ false) × (list_any is_bad_span right.spans ≡ false)
-spans_fit world session left right none = go (lacks_document world (left ∷ right ∷ [])) (lacks_opening world session (left ∷ right ∷ [])) (list_any is_bad_span left.spans) (list_any is_bad_span right.spans) none
-  where
-    go : (a b l r : Bool) → first_holding ((a, NoSuchDocument) ∷ (b, NotOpen) ∷ (l || (r || false), BadAddress) ∷ []) ≡ None → (l ≡ false) × (r ≡ false)
-    go true b l r e = absurd cc
-    go false true l r e = absurd cc
-    go false false true r e = absurd cc
-    go false false false true e = absurd cc
-    go false false false false e = (refl, refl)
-
-pub too_many : (limits : LimitsView) (counted : ℕ) (world : World) (session : ℕ) (left right : PlainSpec) → first_holding (picking world session (left ∷ right ∷ [])) ≡ None → is_too_long (length (diagonals world left right)) ≡ true
-    → wanted limits counted world session (relate left right) ≡ Some TooLong
-too_many limits counted world session left right none long =
-    held_then (picking world session (left ∷ right ∷ [])) ((is_too_long (length (diagonals world left right)), TooLong) ∷ []) none ∙ ap (λ (b : Bool). if b then Some TooLong else None) long
-
-pub few_enough : (limits : LimitsView) (counted : ℕ) (world : World) (session : ℕ) (left right : PlainSpec) → first_holding (picking world session (left ∷ right ∷ [])) ≡ None → is_too_long (length (diagonals world left right)) ≡ false
-    → wanted limits counted world session (relate left right) ≡ None
-few_enough limits counted world session left right none short =
-    held_then (picking world session (left ∷ right ∷ [])) ((is_too_long (length (diagonals world left right)), TooLong) ∷ []) none ∙ ap (λ (b : Bool). if b then Some TooLong else None) short
-
-pub refused_at_once : (limits : LimitsView) (counted : ℕ) (world : World) (session : ℕ) (left right : PlainSpec) (refusal : Refusal) → first_holding (picking world session (left ∷ right ∷ [])) ≡ Some refusal
-    → wanted limits counted world session (relate left right) ≡ Some refusal
-refused_at_once limits counted world session left right refusal e = held_first (picking world session (left ∷ right ∷ [])) ((is_too_long (length (diagonals world left right)), TooLong) ∷ []) refusal e
-
-pub ruleset serve_steps = (spans_fit, refused_at_once, too_many, few_enough)

@@ -13,11 +13,11 @@ use Rattle.tumbler.specs.Span.{end_of}
 use Rattle.febe_data.specs.declared.reply.Item.{Item}
 use Rattle.febe_data.specs.declared.spec.Spec.{Spec}
 use Rattle.febe_data.specs.Plain.{PlainItem, PlainSpec, plain_item, plain_spec, bytes, link}
-use Rattle.flat_world.specs.declared.rows.Row.{Row}
-use Rattle.flat_world.specs.World.{World, byte_at, is_text_of, is_link_of}
-use Rattle.flat_world.specs.Picking.{is_within, picked_text, picked_links, addresses_of}
-use Rattle.flat_world.specs.Answers.{items_of_span, items_of, text_of, text_item}
-use Rattle.flat_world.specs.ByteIndex.{ByteIndex, HasByteAt, HasBytesOf, byte_of, bytes_of, item_of}
+use Rattle.world_rules.specs.declared.rows.Row.{Row}
+use Rattle.world_rules.specs.World.{World, byte_at, is_text_of, is_link_of}
+use Rattle.world_rules.specs.Picking.{is_within, picked_text, picked_links, addresses_of}
+use Rattle.world_rules.specs.Answers.{items_of_span, items_of, text_of, text_item}
+use Rattle.flat_world.specs.inside.ByteIndex.{ByteIndex, HasByteAt, HasBytesOf, byte_of, bytes_of, item_of}
 use Rattle.flat_world.proofs.Picked.{filter_more_yes, filter_more_no}
 use Rattle.flat_world.proofs.Sizes.{span_fits_at, spec_fits_at}
 

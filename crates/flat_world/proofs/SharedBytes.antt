@@ -10,10 +10,10 @@ use Rattle.std.proofs.lemmas.List.Folds.{list_any-append}
 use Rattle.tumbler.specs.declared.span.Span.{Span}
 use Rattle.febe_data.specs.declared.run.Run.{Run}
 use Rattle.febe_data.specs.Plain.{PlainSpec}
-use Rattle.flat_world.specs.World.{World, is_same}
-use Rattle.flat_world.specs.Picking.{Stretch, stretches, stretches_on, is_next_byte, run_of, is_in_run, is_in_runs, content_of, number_of, addresses_of, picked_text, picked_by_spec, picked_addresses, runs_of_span, runs_of_spec, runs_of}
-use Rattle.flat_world.specs.Finding.{is_end_wanted}
-use Rattle.flat_world.specs.Meeting.{shares_byte, share_bytes, is_end_met}
+use Rattle.world_rules.specs.World.{World, is_same}
+use Rattle.world_rules.specs.Picking.{Stretch, stretches, stretches_on, is_next_byte, run_of, is_in_run, is_in_runs, content_of, number_of, addresses_of, picked_text, picked_by_spec, picked_addresses, runs_of_span, runs_of_spec, runs_of}
+use Rattle.world_rules.specs.Finding.{is_end_wanted}
+use Rattle.flat_world.specs.inside.Meeting.{shares_byte, share_bytes, is_end_met}
 
 -- ---- tests of both kinds
 

@@ -9,11 +9,11 @@ use Rattle.tumbler.specs.Places.{fits}
 use Rattle.tumbler.specs.Span.{end_of}
 use Rattle.febe_data.specs.declared.spec.Spec.{Spec}
 use Rattle.febe_data.specs.Plain.{PlainSpec, plain_spec}
-use Rattle.flat_world.specs.declared.rows.Row.{Row}
-use Rattle.flat_world.specs.World.{World, is_text_of, is_link_of}
-use Rattle.flat_world.specs.Picking.{is_within, picks, picked_links}
-use Rattle.flat_world.specs.Refusals.{has_bad_span, total_of, span_bytes}
-use Rattle.flat_world.proofs.Specs.{list_any-map, sum_by-map}
+use Rattle.world_rules.specs.declared.rows.Row.{Row}
+use Rattle.world_rules.specs.World.{World, is_text_of, is_link_of}
+use Rattle.world_rules.specs.Picking.{is_within, picks, picked_links}
+use Rattle.world_rules.specs.Refusals.{has_bad_span, total_of, span_bytes}
+use Rattle.world_rules.proofs.Specs.{list_any-map, sum_by-map}
 
 -- the rows that a span picks, counted up to its end
 pub bytes_counted : (world : World) (document : List ℕ) (span : Span) (rows : List Row) (end : List ℕ) (n : ℕ) → rows ≡ world.rows → end ≡ end_of span

@@ -1,9 +1,9 @@
 -- The five parts of the rows once two blocks have changed places.
 use Rattle.std.proofs.Common.{◌≡◌, ℕ, ◌+◌, ◌-◌, List, [], ◌∷◌, ◌++◌, map, not, ap, refl, arith}
 use Rattle.std.specs.Prelude.{filter}
-use Rattle.flat_world.specs.declared.rows.Row.{Row}
-use Rattle.flat_world.specs.declared.swaps.Cuts.{Cuts}
-use Rattle.flat_world.specs.Edits.{up_by, down_by, moves_up, block, rows_swapped}
+use Rattle.world_rules.specs.declared.rows.Row.{Row}
+use Rattle.world_rules.specs.declared.cuts.Cuts.{Cuts}
+use Rattle.world_rules.specs.Edits.{up_by, down_by, moves_up, block, rows_swapped}
 
 only_down : (k : ℕ) (row : Row) → down_by k (up_by 0 row) ≡ down_by k row
 only_down k row = ap (λ (n : ℕ). record row { n = n }) (let same : (row.n + 0) - k ≡ row.n - k = omega arith in same)

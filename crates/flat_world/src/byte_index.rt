@@ -3,16 +3,16 @@
 ghost use Rattle.std.specs.Prelude.{◌≡◌, None, ◌++◌, ◌&&◌, map, filter, IfOk, OnOk, IsTrue};
 ghost use Rattle.std.specs.Option.{option_to_list};
 ghost use Rattle.febe_data.specs.Plain.{plain_spec};
-ghost use Rattle.flat_world.specs.World.{is_text_of};
-ghost use Rattle.flat_world.specs.Picking.{is_within, picked_text, addresses_of, picked_by_spec, picked_addresses};
-ghost use Rattle.flat_world.specs.ByteIndex.{WantsMore, TakesByte, FindsBytes, HasBytesOf, entry_at, byte_of};
+ghost use Rattle.world_rules.specs.World.{is_text_of};
+ghost use Rattle.world_rules.specs.Picking.{is_within, picked_text, addresses_of, picked_by_spec, picked_addresses};
+ghost use Rattle.flat_world.specs.inside.ByteIndex.{WantsMore, TakesByte, FindsBytes, HasBytesOf, entry_at, byte_of};
 
 use crate::flat::FlatWorld;
 use crate::picks::{end_of, is_picked_text};
-use crate::rows::{ByteRow, Row};
 use febe_data::{Memory, Span, Spec, Text, Tumbler};
 use std::alloc::Global;
 use std::collections::BTreeMap;
+use world_rules::{ByteRow, Row, WorldError};
 
 /// Addresses, each with its byte once that is found.
 pub(crate) type ByteIndex = BTreeMap<Tumbler, Option<u8>>;
@@ -24,7 +24,7 @@ fn want_rows(
     document: &Tumbler,
     start: &Tumbler,
     end: &Tumbler,
-) -> Result<(), Memory>
+) -> Result<(), WorldError>
     ensures { OnOk result (WantsMore (addresses_of (filter (λ row. is_text_of document.now row && is_within start.now end.now row) rows.now)) index.old index.new) }
 {
     for row in rows {
@@ -76,7 +76,7 @@ impl FlatWorld {
         index: &mut ByteIndex,
         document: &Tumbler,
         span: &Span,
-    ) -> Result<(), Memory>
+    ) -> Result<(), WorldError>
         ensures { OnOk result (WantsMore (addresses_of (picked_text self.now.world document.now span.now)) index.old index.new) }
     {
         let end = end_of(span)?;
@@ -84,7 +84,7 @@ impl FlatWorld {
     }
 
     /// Adds the addresses that one spec picks.
-    fn want_spec(&self, index: &mut ByteIndex, spec: &Spec) -> Result<(), Memory>
+    fn want_spec(&self, index: &mut ByteIndex, spec: &Spec) -> Result<(), WorldError>
         ensures { OnOk result (WantsMore (picked_by_spec self.now.world (plain_spec spec.now)) index.old index.new) }
     {
         for span in spec.spans.as_slice() {
@@ -95,7 +95,7 @@ impl FlatWorld {
 
     /// The bytes of what the specs pick.
     #[tactic(auto, using(crate::proofs::ByteIndexes::wants_none))]
-    pub(crate) fn byte_index(&self, alloc: Global, specs: &[Spec]) -> Result<ByteIndex, Memory>
+    pub(crate) fn byte_index(&self, alloc: Global, specs: &[Spec]) -> Result<ByteIndex, WorldError>
         ensures { IfOk result (λ index. HasBytesOf self.now.world.bytes (picked_addresses self.now.world (map plain_spec specs.now)) index) }
     {
         let mut index = BTreeMap::new(alloc);

@@ -1,24 +1,23 @@
 //! What each change does to the world. All memory is taken before anything changes.
 ghost use Rattle.std.specs.Prelude.{◌≡◌, ◌++◌, ◌∷◌, [], IfOk, OnOk, OnErr, IsOk, true, false, is_none, map};
 ghost use Rattle.febe_data.specs.Plain.{plain_change, plain_spec, restarted, ended, account_changed, document_opened, document_closed, document_created, version_made, text_inserted, span_deleted, blocks_swapped, specs_copied};
-ghost use Rattle.flat_world.specs.FlatView.{FlatView};
-ghost use Rattle.flat_world.specs.Apply.{change_world, link_between};
-ghost use Rattle.flat_world.specs.History.{is_counted};
-ghost use Rattle.flat_world.specs.InPlace.{DropsOnly};
-ghost use Rattle.flat_world.specs.Fitting.{IsFitting};
-ghost use Rattle.flat_world.specs.Edits.{cuts_of};
-ghost use Rattle.flat_world.specs.Refusals.{has_bad_span};
+ghost use Rattle.world_rules.specs.FlatView.{FlatView};
+ghost use Rattle.world_rules.specs.Apply.{change_world, link_between};
+ghost use Rattle.world_rules.specs.History.{is_counted};
+ghost use Rattle.world_rules.specs.InPlace.{DropsOnly};
+ghost use Rattle.world_rules.specs.Fitting.{IsFitting};
+ghost use Rattle.world_rules.specs.Edits.{cuts_of};
+ghost use Rattle.world_rules.specs.Refusals.{has_bad_span};
 ghost use Rattle.tumbler.specs.Span.{SpanFits};
 ghost use Rattle.flat_world.specs.PlainLink.{plain_link};
 
 use crate::counts::is_counted;
 use crate::flat::FlatWorld;
-use crate::refusals::has_bad_span;
-use crate::rows::{AccountRow, LinkRow, OpenRow, Part, Row};
-use crate::search::extended;
+use crate::links::LinkRow;
 use crate::{deletions, edits, swaps};
-use febe_data::{Change, Memory, Mode, Span, Spec, Tumbler};
+use febe_data::{Change, Mode, Span, Spec, Tumbler};
 use std::alloc::Global;
+use world_rules::{AccountRow, OpenRow, Part, Row, WorldError, cuts_of, extended, has_bad_span};
 
 impl FlatWorld {
     /// Changes the world, and counts nothing.
@@ -27,7 +26,7 @@ impl FlatWorld {
         alloc: Global,
         session: u64,
         change: &Change,
-    ) -> Result<(), Memory>
+    ) -> Result<(), WorldError>
         ensures ok { OnOk result (self.new ≡ record self.old { world = change_world self.old.world session (plain_change change.now) }) }
         ensures err { OnErr result (self.new ≡ self.old) }
         ensures fitting { OnOk result (IsFitting (plain_change change.now)) }
@@ -41,7 +40,7 @@ impl FlatWorld {
     }
 
     /// The changes that the limits do not count: those of sessions.
-    fn change_session(&mut self, session: u64, change: &Change) -> Result<(), Memory>
+    fn change_session(&mut self, session: u64, change: &Change) -> Result<(), WorldError>
         requires { is_counted (plain_change change.now) ≡ false }
         ensures ok { OnOk result (self.new ≡ record self.old { world = change_world self.old.world session (plain_change change.now) }) }
         ensures err { OnErr result (self.new ≡ self.old) }
@@ -66,7 +65,7 @@ impl FlatWorld {
         alloc: Global,
         session: u64,
         change: &Change,
-    ) -> Result<(), Memory>
+    ) -> Result<(), WorldError>
         requires { is_counted (plain_change change.now) ≡ true }
         ensures ok { OnOk result (self.new ≡ record self.old { world = change_world self.old.world session (plain_change change.now) }) }
         ensures err { OnErr result (self.new ≡ self.old) }
@@ -125,7 +124,7 @@ impl FlatWorld {
     }
 
     /// The account becomes the session's one.
-    fn set_account(&mut self, session: u64, account: &Tumbler) -> Result<(), Memory>
+    fn set_account(&mut self, session: u64, account: &Tumbler) -> Result<(), WorldError>
         ensures ok { OnOk result (self.new ≡ record self.old { world = change_world self.old.world session (account_changed account.now) }) }
         ensures err { OnErr result (self.new ≡ self.old) }
     {
@@ -139,7 +138,7 @@ impl FlatWorld {
     }
 
     /// The document becomes open to the session for this mode only.
-    fn open(&mut self, session: u64, document: &Tumbler, mode: Mode) -> Result<(), Memory>
+    fn open(&mut self, session: u64, document: &Tumbler, mode: Mode) -> Result<(), WorldError>
         ensures ok { OnOk result (self.new ≡ record self.old { world = change_world self.old.world session (document_opened document.now mode) }) }
         ensures err { OnErr result (self.new ≡ self.old) }
     {
@@ -161,7 +160,7 @@ impl FlatWorld {
     }
 
     /// The document comes in, open for writing.
-    fn create(&mut self, session: u64, document: &Tumbler) -> Result<(), Memory>
+    fn create(&mut self, session: u64, document: &Tumbler) -> Result<(), WorldError>
         ensures ok { OnOk result (self.new ≡ record self.old { world = change_world self.old.world session (document_created document.now) }) }
         ensures err { OnErr result (self.new ≡ self.old) }
     {
@@ -183,7 +182,7 @@ impl FlatWorld {
         session: u64,
         source: &Tumbler,
         document: &Tumbler,
-    ) -> Result<(), Memory>
+    ) -> Result<(), WorldError>
         ensures ok { OnOk result (self.new ≡ record self.old { world = change_world self.old.world session (version_made source.now document.now) }) }
         ensures err { OnErr result (self.new ≡ self.old) }
     {
@@ -209,7 +208,7 @@ impl FlatWorld {
         at: u32,
         first: u32,
         text: &[u8],
-    ) -> Result<(), Memory>
+    ) -> Result<(), WorldError>
         ensures ok { OnOk result (self.new ≡ record self.old { world = change_world self.old.world 0 (text_inserted document.now at first text.now) }) }
         ensures err { OnErr result (self.new ≡ self.old) }
     {
@@ -222,50 +221,54 @@ impl FlatWorld {
     }
 
     /// What the span picks shows no more, but stays as content.
-    /// Where the span's end is no address there is no memory for it.
-    fn delete(&mut self, alloc: Global, document: &Tumbler, span: &Span) -> Result<(), Memory>
+    fn delete(&mut self, alloc: Global, document: &Tumbler, span: &Span) -> Result<(), WorldError>
         ensures ok { OnOk result (self.new ≡ record self.old { world = change_world self.old.world 0 (span_deleted document.now span.now) }) }
         ensures err { OnErr result (self.new ≡ self.old) }
         ensures fitting { OnOk result (SpanFits span.now) }
     {
         if !span.fits() {
-            return Err(Memory);
+            return Err(WorldError::NoTumbler);
         }
         self.rows = deletions::rows_without(alloc, self.rows.as_slice(), document, span)?;
         Ok(())
     }
 
-    /// Where the cuts bound no blocks there is no memory for them.
-    fn rearrange(&mut self, alloc: Global, document: &Tumbler, cuts: &[u32]) -> Result<(), Memory>
+    /// The two blocks that the cuts bound change places.
+    fn rearrange(
+        &mut self,
+        alloc: Global,
+        document: &Tumbler,
+        cuts: &[u32],
+    ) -> Result<(), WorldError>
         ensures ok { OnOk result (self.new ≡ record self.old { world = change_world self.old.world 0 (blocks_swapped document.now cuts.now) }) }
         ensures err { OnErr result (self.new ≡ self.old) }
         ensures fitting { OnOk result (is_none (cuts_of cuts.now) ≡ false) }
     {
-        let cuts = swaps::cuts_of(cuts).ok_or(Memory)?;
+        let cuts = cuts_of(cuts).ok_or(WorldError::BadCuts)?;
         self.rows = swaps::rows_swapped(alloc, self.rows.as_slice(), document, &cuts)?;
         Ok(())
     }
 
-    /// What the specs pick shows at `at` too. No content comes in. Where a span's end is no address there is no memory for it.
+    /// What the specs pick shows at `at` too. No content comes in.
     fn quote(
         &mut self,
         alloc: Global,
         document: &Tumbler,
         at: u32,
         specs: &[Spec],
-    ) -> Result<(), Memory>
+    ) -> Result<(), WorldError>
         ensures ok { OnOk result (self.new ≡ record self.old { world = change_world self.old.world 0 (specs_copied document.now at (map plain_spec specs.now)) }) }
         ensures err { OnErr result (self.new ≡ self.old) }
         ensures fitting { OnOk result (has_bad_span (map plain_spec specs.now) ≡ false) }
     {
         if has_bad_span(specs) {
-            return Err(Memory);
+            return Err(WorldError::NoTumbler);
         }
         let addresses = self.picked_addresses(alloc, specs)?;
         edits::put_rows(alloc, &mut self.rows, document, at, addresses.as_slice())
     }
 
-    /// The link whose ends are the runs of these specs. Where a span's end is no address there is no memory for it.
+    /// The link whose ends are the runs of these specs.
     fn link_between(
         &self,
         alloc: Global,
@@ -274,24 +277,24 @@ impl FlatWorld {
         from: &[Spec],
         to: &[Spec],
         three: &[Spec],
-    ) -> Result<LinkRow, Memory>
+    ) -> Result<LinkRow, WorldError>
         ensures link { IfOk result (λ made. plain_link made ≡ link_between self.now.world home.now number (map plain_spec from.now) (map plain_spec to.now) (map plain_spec three.now)) }
         ensures fitting { OnOk result ((has_bad_span (map plain_spec from.now) ≡ false) × (has_bad_span (map plain_spec to.now) ≡ false) × (has_bad_span (map plain_spec three.now) ≡ false)) }
     {
         if has_bad_span(from) || has_bad_span(to) || has_bad_span(three) {
-            return Err(Memory);
+            return Err(WorldError::NoTumbler);
         }
         Ok(LinkRow {
             id: extended(home, &[0, 2, number])?,
             home: home.copy(),
-            from: self.runs_of(alloc, from)?,
-            to: self.runs_of(alloc, to)?,
-            three: self.runs_of(alloc, three)?,
+            from: self.picked_runs(alloc, from)?,
+            to: self.picked_runs(alloc, to)?,
+            three: self.picked_runs(alloc, three)?,
         })
     }
 
     /// The link comes in, and shows at `place` in its home.
-    fn add_link(&mut self, link: LinkRow, place: u32) -> Result<(), Memory>
+    fn add_link(&mut self, link: LinkRow, place: u32) -> Result<(), WorldError>
         ensures ok { OnOk result (self.new ≡ record self.old { world = record self.old.world { links = self.old.world.links ++ plain_link link ∷ []; rows = self.old.world.rows ++ record { document = link.home; part = Part.Links; n = place; address = link.id } ∷ [] } }) }
         ensures err { OnErr result (self.new ≡ self.old) }
     {

@@ -2,12 +2,12 @@
 ghost use Rattle.std.specs.Prelude.{◌≡◌, ◌+◌, ◌==◌, ◌<◌, ◌^◌, IsOk, OnOk, IfOk, None, length, vec_len, vec_capacity, if◌then◌else◌};
 ghost use Rattle.std.specs.List.{position};
 ghost use Rattle.febe_data.specs.Plain.{plain_change};
-ghost use Rattle.flat_world.specs.History.{is_counted};
-ghost use Rattle.flat_world.specs.FlatView.{entries_in, with_entry};
-ghost use Rattle.flat_world.specs.InPlace.{DropsOnly, HasRoom};
+ghost use Rattle.world_rules.specs.History.{is_counted};
+ghost use Rattle.world_rules.specs.FlatView.{entries_in, with_entry};
+ghost use Rattle.world_rules.specs.InPlace.{DropsOnly, HasRoom};
 
-use crate::rows::SessionRow;
-use febe_data::{Change, Memory};
+use febe_data::Change;
+use world_rules::{SessionRow, WorldError};
 
 /// Where the session's row is, if it has one.
 fn place_of(rows: &[SessionRow], session: u64) -> Option<usize>
@@ -18,7 +18,7 @@ fn place_of(rows: &[SessionRow], session: u64) -> Option<usize>
 
 /// Makes sure that one more entry of the session can be counted. Nothing is counted yet.
 #[tactic(auto, using(crate::proofs::Counted::counted))]
-pub(crate) fn reserve_count(sessions: &mut Vec<SessionRow>, session: u64) -> Result<(), Memory>
+pub(crate) fn reserve_count(sessions: &mut Vec<SessionRow>, session: u64) -> Result<(), WorldError>
     ensures rows { sessions.new.items ≡ sessions.old.items }
     ensures countable { OnOk result (entries_in sessions.new.items session + 1 < 2 ^ 64) }
     ensures room { OnOk result (position (λ row. row.session == session) sessions.new.items ≡ None → vec_len sessions.new < vec_capacity sessions.new) }
@@ -28,7 +28,7 @@ pub(crate) fn reserve_count(sessions: &mut Vec<SessionRow>, session: u64) -> Res
         Some(place) => {
             let entries = sessions[place].entries;
             if entries == u64::MAX {
-                return Err(Memory);
+                return Err(WorldError::TooGreat);
             }
         }
         None => sessions.reserve(1)?,
@@ -70,12 +70,12 @@ pub(crate) fn is_counted(change: &Change) -> bool
 }
 
 /// How many entries are counted once the change is made, where the type has the number.
-pub(crate) fn counted_after(counted: u64, change: &Change) -> Result<u64, Memory>
+pub(crate) fn counted_after(counted: u64, change: &Change) -> Result<u64, WorldError>
     ensures number { IfOk result (λ number. number ≡ (if is_counted (plain_change change.now) then counted + 1 else counted)) }
     ensures in_place { DropsOnly change.now → IsOk result }
 {
     if is_counted(change) {
-        return counted.checked_add(1).ok_or(Memory);
+        return counted.checked_add(1).ok_or(WorldError::TooGreat);
     }
     Ok(counted)
 }

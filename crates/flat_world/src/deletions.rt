@@ -3,29 +3,27 @@ ghost use Rattle.std.specs.Prelude.{◌≡◌, ◌==◌, ◌&&◌, IfOk, not, ma
 ghost use Rattle.std.specs.Ordering.{nat_cmp, is_lt};
 ghost use Rattle.std.specs.Cmp.Lexicographic.{slice_cmp};
 ghost use Rattle.tumbler.specs.Span.{end_of};
-ghost use Rattle.flat_world.specs.World.{is_same, v_address};
-ghost use Rattle.flat_world.specs.Edits.{is_same_part, rows_without, down_by};
-ghost use Rattle.flat_world.specs.Closing.{goes_within, going_within, is_before, of_part, closed_after, rows_left};
+ghost use Rattle.world_rules.specs.World.{is_same, v_address};
+ghost use Rattle.world_rules.specs.Edits.{is_same_part, rows_without, down_by};
+ghost use Rattle.flat_world.specs.inside.Closing.{goes_within, going_within, is_before, of_part, closed_after, rows_left};
 
-use crate::rows::{Part, Row};
 use febe_data::{List, Memory, Span, Tumbler};
 use std::alloc::Global;
+use world_rules::{Part, Row, WorldError};
 
-impl Row {
-    /// Whether the row is one of the document's from the start up to the end.
-    fn goes_within(&self, document: &Tumbler, start: &Tumbler, end: &Tumbler) -> bool
-        ensures { result ≡ goes_within document.now start.now end.now self.now }
-    {
-        self.document == *document && self.is_within(start, end)
-    }
+/// Whether the row is one of the document's from the start up to the end.
+fn goes_within(row: &Row, document: &Tumbler, start: &Tumbler, end: &Tumbler) -> bool
+    ensures { result ≡ goes_within document.now start.now end.now row.now }
+{
+    row.document == *document && row.is_within(start, end)
+}
 
-    /// Whether the row's V-address is before the end.
-    fn is_before(&self, end: &Tumbler) -> bool
-        ensures { result ≡ is_before end.now self.now }
-    {
-        let address = [self.part.number(), self.n];
-        address.as_slice().cmp(&end.places()).is_lt()
-    }
+/// Whether the row's V-address is before the end.
+fn is_before(row: &Row, end: &Tumbler) -> bool
+    ensures { result ≡ is_before end.now row.now }
+{
+    let address = [row.part.number(), row.n];
+    address.as_slice().cmp(&end.places()).is_lt()
 }
 
 /// How many rows of the part go, where the type has the number.
@@ -35,14 +33,14 @@ fn going_within(
     start: &Tumbler,
     end: &Tumbler,
     part: Part,
-) -> Result<u32, Memory>
+) -> Result<u32, WorldError>
     ensures { IfOk result (λ number. number ≡ going_within rows.now document.now start.now end.now part) }
 {
     let number = rows
         .iter()
-        .filter(|row| row.goes_within(document, start, end) && row.part == part)
+        .filter(|row| goes_within(row, document, start, end) && row.part == part)
         .count();
-    u32::try_from(number).map_err(|_| Memory)
+    u32::try_from(number).map_err(|_| WorldError::TooGreat)
 }
 
 /// The row, closed up by the number of rows that go of its part, if it is one of the document's that
@@ -51,7 +49,7 @@ fn closed_after(row: &Row, document: &Tumbler, end: &Tumbler, text: u32, links: 
     ensures { result ≡ closed_after document.now end.now text links row.now }
 {
     let mut closed = row.copy();
-    if row.document == *document && !row.is_before(end) {
+    if row.document == *document && !is_before(row, end) {
         let gone = match row.part {
             Part::Text => text,
             Part::Links => links,
@@ -76,29 +74,29 @@ fn rows_left(
 {
     let mut made = List::new(alloc);
     for row in rows {
-        if !row.goes_within(document, start, end) {
+        if !goes_within(row, document, start, end) {
             made.push(closed_after(row, document, end, text, links))?;
         }
     }
     Ok(made)
 }
 
-/// The rows without those that the span picks from the document, closed up. Where the span's end is
-/// no address there is no memory for them.
+/// The rows without those that the span picks from the document, closed up.
 #[tactic(auto, using(crate::proofs::Closed::closed))]
 pub(crate) fn rows_without(
     alloc: Global,
     rows: &[Row],
     document: &Tumbler,
     span: &Span,
-) -> Result<List<Row>, Memory>
+) -> Result<List<Row>, WorldError>
     ensures { IfOk result (λ made. made.items ≡ rows_without rows.now document.now span.now) }
 {
     if !span.fits() {
-        return Err(Memory);
+        return Err(WorldError::NoTumbler);
     }
     let end = span.start.add(&span.width);
     let text = going_within(rows, document, &span.start, &end, Part::Text)?;
     let links = going_within(rows, document, &span.start, &end, Part::Links)?;
-    rows_left(alloc, rows, document, &span.start, &end, text, links)
+    let left = rows_left(alloc, rows, document, &span.start, &end, text, links)?;
+    Ok(left)
 }

@@ -1,26 +1,25 @@
 //! Edits of the world's lists. Those that may need memory build what is new before anything changes.
 ghost use Rattle.std.specs.Prelude.{◌≡◌, ℕ, ◌+◌, ◌==◌, ◌&&◌, ◌≤◌, not, ◌++◌, length, map, filter, nat_le, IfOk, OnOk, OnErr};
-ghost use Rattle.flat_world.specs.World.{is_same, is_text_of, content_address};
-ghost use Rattle.flat_world.specs.Edits.{moves_up, up_by, new_rows, new_bytes, rows_with, content_addresses, moved_to, rows_as};
-ghost use Rattle.flat_world.specs.Apply.{without_session, accounts_without, without_opening};
+ghost use Rattle.world_rules.specs.World.{is_same, is_text_of, content_address};
+ghost use Rattle.world_rules.specs.Edits.{moves_up, up_by, new_rows, new_bytes, rows_with, content_addresses, moved_to, rows_as};
+ghost use Rattle.world_rules.specs.Apply.{without_session, accounts_without, without_opening};
 
-use crate::rows::{AccountRow, ByteRow, OpenRow, Part, Row};
-use crate::search::extended;
 use febe_data::{List, Memory, Tumbler};
 use std::alloc::Global;
+use world_rules::{AccountRow, ByteRow, OpenRow, Part, Row, WorldError, extended};
 
 /// The address of a content byte, where it is a tumbler.
-fn content_address(document: &Tumbler, n: u32) -> Result<Tumbler, Memory>
+fn content_address(document: &Tumbler, n: u32) -> Result<Tumbler, WorldError>
     ensures { IfOk result (λ address. address ≡ content_address document.now n) }
 {
     extended(document, &[0, 1, n])
 }
 
 /// The next number, where the type has it.
-fn one_more(n: u32) -> Result<u32, Memory>
+fn one_more(n: u32) -> Result<u32, WorldError>
     ensures { IfOk result (λ next. next ≡ n + 1) }
 {
-    n.checked_add(1).ok_or(Memory)
+    n.checked_add(1).ok_or(WorldError::TooGreat)
 }
 
 /// The content addresses of so many bytes from `first` on, where they are tumblers.
@@ -30,7 +29,7 @@ pub(crate) fn content_addresses(
     document: &Tumbler,
     mut first: u32,
     count: usize,
-) -> Result<List<Tumbler>, Memory>
+) -> Result<List<Tumbler>, WorldError>
     ensures { IfOk result (λ made. made.items ≡ content_addresses document.now first count) }
 {
     let mut made = List::new(alloc);
@@ -39,15 +38,6 @@ pub(crate) fn content_addresses(
         first = one_more(first)?;
     }
     Ok(made)
-}
-
-impl Row {
-    /// Whether the row makes room for what comes in at `n` of the document's text.
-    pub(crate) fn moves_up(&self, document: &Tumbler, n: u32) -> bool
-        ensures { result ≡ moves_up document.now n self.now }
-    {
-        self.is_text_of(document) && n <= self.n
-    }
 }
 
 /// Adds the rows that do not make room at `n`.
@@ -76,13 +66,13 @@ pub(crate) fn push_moved(
     document: &Tumbler,
     n: u32,
     k: u32,
-) -> Result<(), Memory>
+) -> Result<(), WorldError>
     ensures { OnOk result (made.new.items ≡ made.old.items ++ map (up_by k) (filter (moves_up document.now n) rows.now)) }
 {
     for row in rows {
         if row.moves_up(document, n) {
             let mut moved = row.copy();
-            moved.n = row.n.checked_add(k).ok_or(Memory)?;
+            moved.n = row.n.checked_add(k).ok_or(WorldError::TooGreat)?;
             made.push(moved)?;
         }
     }
@@ -95,7 +85,7 @@ fn push_new(
     document: &Tumbler,
     mut n: u32,
     addresses: &[Tumbler],
-) -> Result<(), Memory>
+) -> Result<(), WorldError>
     ensures { OnOk result (made.new.items ≡ made.old.items ++ new_rows document.now n addresses.now) }
 {
     for address in addresses {
@@ -117,10 +107,10 @@ fn rows_behind(
     document: &Tumbler,
     n: u32,
     addresses: &[Tumbler],
-) -> Result<List<Row>, Memory>
+) -> Result<List<Row>, WorldError>
     ensures { IfOk result (λ made. made.items ≡ new_rows document.now n addresses.now ++ map (up_by (length addresses.now)) (filter (moves_up document.now n) rows.now)) }
 {
-    let k = u32::try_from(addresses.len()).map_err(|_| Memory)?;
+    let k = u32::try_from(addresses.len()).map_err(|_| WorldError::TooGreat)?;
     let mut made = List::new(alloc);
     push_new(&mut made, document, n, addresses)?;
     push_moved(&mut made, rows, document, n, k)?;
@@ -142,7 +132,7 @@ pub(crate) fn put_rows(
     document: &Tumbler,
     n: u32,
     addresses: &[Tumbler],
-) -> Result<(), Memory>
+) -> Result<(), WorldError>
     ensures ok { OnOk result (rows.new.items ≡ rows_with rows.old.items document.now n addresses.now) }
     ensures err { OnErr result (rows.new.items ≡ rows.old.items) }
 {
@@ -159,7 +149,7 @@ pub(crate) fn new_bytes(
     document: &Tumbler,
     mut first: u32,
     text: &[u8],
-) -> Result<List<ByteRow>, Memory>
+) -> Result<List<ByteRow>, WorldError>
     ensures { IfOk result (λ made. made.items ≡ new_bytes document.now first text.now) }
 {
     let mut made = List::new(alloc);

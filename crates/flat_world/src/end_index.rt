@@ -5,16 +5,16 @@ ghost use Rattle.std.specs.BTreeMap.{Updates};
 ghost use Rattle.std.specs.Ordering.{nat_cmp};
 ghost use Rattle.std.specs.Cmp.Lexicographic.{slice_cmp};
 ghost use Rattle.flat_world.specs.PlainLink.{plain_link};
-ghost use Rattle.flat_world.specs.Picking.{is_in_run, is_in_runs};
-ghost use Rattle.flat_world.specs.Ends.{runs_of_end};
-ghost use Rattle.flat_world.specs.EndIndex.{is_in_piece, pieces_of, is_indexed, Indexes, IndexesMore};
+ghost use Rattle.world_rules.specs.Picking.{is_in_run, is_in_runs};
+ghost use Rattle.world_rules.specs.Ends.{runs_of_end};
+ghost use Rattle.flat_world.specs.inside.EndIndex.{is_in_piece, pieces_of, is_indexed, Indexes, IndexesMore};
 
-use crate::ends::End;
-use crate::rows::LinkRow;
+use crate::links::LinkRow;
 use crate::runs::{content_of, number_of};
 use febe_data::{List, Memory, Run, Tumbler};
 use std::alloc::Global;
 use std::collections::BTreeMap;
+use world_rules::{End, WorldError};
 
 /// Bytes of one document's content that follow each other.
 #[derive(Clone, Copy, Debug)]
@@ -100,15 +100,17 @@ fn has_number(pieces: &[Piece], number: u32) -> bool
     pieces.iter().any(|piece| piece.has(number))
 }
 
-/// Whether the index has the byte of the address. There is no memory for an address that is no byte's.
+/// Whether the index has the byte of the address.
 pub(crate) fn is_indexed(
     alloc: Global,
     index: &BTreeMap<Tumbler, List<Piece>>,
     address: &Tumbler,
-) -> Result<bool, Memory>
+) -> Result<bool, WorldError>
     ensures { IfOk result (λ found. found ≡ is_indexed index.now address.now) }
 {
-    let content = Tumbler::from_places(alloc, content_of(address)).map_err(|_| Memory)?;
+    let content = Tumbler::from_places(alloc, content_of(address)).map_err(
+        |_| WorldError::NoTumbler,
+    )?;
     let Some(pieces) = index.get(&content) else {
         return Ok(false);
     };

@@ -1,63 +1,26 @@
 //! Where the three ends of links are now.
-ghost use Rattle.std.specs.Prelude.{◌≡◌, ◌&&◌, filter, map, All, IfOk};
+ghost use Rattle.std.specs.Prelude.{◌≡◌, ◌&&◌, filter, map, All, IfOk, Some};
 ghost use Rattle.std.specs.List.{find, list_any};
 ghost use Rattle.std.specs.Option.{option_map, option_copied};
 ghost use Rattle.tumbler.specs.Span.{end_of};
-ghost use Rattle.febe_data.specs.Plain.{plain_spec, follow, end_sets};
-ghost use Rattle.flat_world.specs.World.{is_text_of, is_same};
-ghost use Rattle.flat_world.specs.Picking.{is_within, content_of, number_of, is_in_run, places_of};
+ghost use Rattle.febe_data.specs.Plain.{plain_spec};
+ghost use Rattle.world_rules.specs.World.{is_text_of, is_same};
+ghost use Rattle.world_rules.specs.Picking.{is_within, content_of, number_of, is_in_run, places_of};
 ghost use Rattle.flat_world.specs.PlainLink.{plain_link};
-ghost use Rattle.flat_world.specs.Finding.{link_at};
-ghost use Rattle.flat_world.specs.Ends.{end_numbered, runs_of_end, run_now, end_set, NamesSpans};
-ghost use Rattle.flat_world.specs.EndIndex.{is_indexed, indexed_of};
-ghost use Rattle.febe_data.specs.Validity.{spans_in_all};
-ghost use Rattle.flat_world.specs.Refusals.{is_too_long};
-ghost use Rattle.flat_world.specs.Served.{IsServedAs, IsValidServed};
+ghost use Rattle.world_rules.specs.Finding.{link_at};
+ghost use Rattle.world_rules.specs.Ends.{run_now, end_set, NamesSpans};
+ghost use Rattle.world_rules.specs.Answers.{follow_of};
+ghost use Rattle.flat_world.specs.inside.EndIndex.{is_indexed, indexed_of};
 
 use crate::end_index::{Piece, end_index, is_indexed};
 use crate::flat::FlatWorld;
 use crate::intervals::intervals;
-use crate::refusals::is_too_long;
-use crate::requests::Served;
-use crate::rows::{LinkRow, Row};
+use crate::links::LinkRow;
 use crate::runs::{content_of, number_of};
-use febe_data::{Limits, List, Memory, Refusal, Reply, Run, Span, Spec, Tumbler};
+use febe_data::{List, Memory, Run, Span, Spec, Tumbler};
 use std::alloc::Global;
 use std::collections::BTreeMap;
-
-/// An end of a link.
-#[derive(Clone, Copy, Debug, PartialEq, Eq)]
-pub enum End {
-    From,
-    To,
-    Three,
-}
-
-impl End {
-    /// The end that requests name by the number.
-    pub(crate) fn numbered(number: u32) -> Option<End>
-        ensures { result ≡ end_numbered number }
-    {
-        match number {
-            1 => Some(End::From),
-            2 => Some(End::To),
-            3 => Some(End::Three),
-            _ => None,
-        }
-    }
-}
-
-impl LinkRow {
-    pub(crate) fn runs(&self, end: End) -> &[Run]
-        ensures { result.now ≡ runs_of_end end (plain_link self.now) }
-    {
-        match end {
-            End::From => self.from.as_slice(),
-            End::To => self.to.as_slice(),
-            End::Three => self.three.as_slice(),
-        }
-    }
-}
+use world_rules::{End, Row, WorldError};
 
 /// Whether the address is one of the run's bytes.
 pub(crate) fn is_in_run(address: &Tumbler, run: &Run) -> bool
@@ -96,14 +59,14 @@ struct Extent {
     end: Tumbler,
 }
 
-/// Where the spans start and end. There is no memory for an end that is no address.
-fn extents_of(alloc: Global, spans: &[Span]) -> Result<List<Extent>, Memory>
+/// Where the spans start and end.
+fn extents_of(alloc: Global, spans: &[Span]) -> Result<List<Extent>, WorldError>
     ensures { IfOk result (λ made. made.items ≡ map (λ span. record { start = span.start; end = end_of span }) spans.now) }
 {
     let mut extents = List::new(alloc);
     for span in spans {
         if !span.fits() {
-            return Err(Memory);
+            return Err(WorldError::NoTumbler);
         }
         extents.push(Extent {
             start: span.start.copy(),
@@ -136,7 +99,7 @@ fn is_indexed_pick(
     document: &Tumbler,
     extents: &[Extent],
     index: &BTreeMap<Tumbler, List<Piece>>,
-) -> Result<bool, Memory>
+) -> Result<bool, WorldError>
     ensures { IfOk result (λ found. found ≡ ((is_text_of document.now row.now && list_any (λ extent. is_within extent.start extent.end row.now) extents.now) && is_indexed index.now row.now.address)) }
 {
     if !is_picked(row, document, extents) {
@@ -152,7 +115,7 @@ fn indexed_positions(
     document: &Tumbler,
     extents: &[Extent],
     index: &BTreeMap<Tumbler, List<Piece>>,
-) -> Result<List<u32>, Memory>
+) -> Result<List<u32>, WorldError>
     ensures { IfOk result (λ made. made.items ≡ places_of (filter (λ row. (is_text_of document.now row && list_any (λ extent. is_within extent.start extent.end row) extents.now) && is_indexed index.now row.address) rows.now)) }
 {
     let mut positions = List::new(alloc);
@@ -163,17 +126,6 @@ fn indexed_positions(
         }
     }
     Ok(positions)
-}
-
-/// Whether the specs have more spans together than a reply has room for.
-fn has_too_many_spans(specs: &[Spec]) -> bool
-    ensures { result ≡ is_too_long (spans_in_all (map plain_spec specs.now)) }
-{
-    let mut total: usize = 0;
-    for spec in specs {
-        total = total.saturating_add(spec.spans.len());
-    }
-    is_too_long(total)
 }
 
 /// The first link of that id.
@@ -191,7 +143,7 @@ impl FlatWorld {
     }
 
     /// Where the run's origin shows its bytes now.
-    fn run_now(&self, alloc: Global, run: &Run) -> Result<Spec, Memory>
+    fn run_now(&self, alloc: Global, run: &Run) -> Result<Spec, WorldError>
         ensures value { IfOk result (λ spec. plain_spec spec ≡ run_now self.now.world run.now) }
         ensures valid { IfOk result (λ spec. NamesSpans (plain_spec spec)) }
     {
@@ -204,7 +156,7 @@ impl FlatWorld {
     }
 
     /// One spec for each run.
-    fn runs_now(&self, alloc: Global, runs: &[Run]) -> Result<List<Spec>, Memory>
+    fn runs_now(&self, alloc: Global, runs: &[Run]) -> Result<List<Spec>, WorldError>
         ensures value { IfOk result (λ made. map plain_spec made.items ≡ map (run_now self.now.world) runs.now) }
         ensures valid { IfOk result (λ made. All NamesSpans (map plain_spec made.items)) }
     {
@@ -221,7 +173,7 @@ impl FlatWorld {
         alloc: Global,
         index: &BTreeMap<Tumbler, List<Piece>>,
         spec: &Spec,
-    ) -> Result<Spec, Memory>
+    ) -> Result<Spec, WorldError>
         ensures value { IfOk result (λ made. plain_spec made ≡ indexed_of self.now.world index.now (plain_spec spec.now)) }
         ensures valid { IfOk result (λ made. NamesSpans (plain_spec made)) }
     {
@@ -241,7 +193,7 @@ impl FlatWorld {
         alloc: Global,
         index: &BTreeMap<Tumbler, List<Piece>>,
         specs: &[Spec],
-    ) -> Result<List<Spec>, Memory>
+    ) -> Result<List<Spec>, WorldError>
         ensures value { IfOk result (λ made. map plain_spec made.items ≡ map (indexed_of self.now.world index.now) (map plain_spec specs.now)) }
         ensures valid { IfOk result (λ made. All NamesSpans (map plain_spec made.items)) }
     {
@@ -253,7 +205,12 @@ impl FlatWorld {
     }
 
     /// One spec for each spec: which of the text that it picks is in that end of some link.
-    fn end_set(&self, alloc: Global, end: End, specs: &[Spec]) -> Result<List<Spec>, Memory>
+    pub(crate) fn specs_in_end(
+        &self,
+        alloc: Global,
+        end: End,
+        specs: &[Spec],
+    ) -> Result<List<Spec>, WorldError>
         ensures value { IfOk result (λ made. map plain_spec made.items ≡ end_set self.now.world end (map plain_spec specs.now)) }
         ensures valid { IfOk result (λ made. All NamesSpans (map plain_spec made.items)) }
     {
@@ -261,63 +218,19 @@ impl FlatWorld {
         self.indexed_specs(alloc, &index, specs)
     }
 
-    /// What comes of a request for where an end of a link is.
-    pub(crate) fn serve_follow(
+    /// Where that end of the link is now. Nothing where there is no such link.
+    pub(crate) fn end_specs(
         &self,
         alloc: Global,
-        session: u64,
-        link: &Tumbler,
-        end: u32,
-        limits: &Limits,
-    ) -> Result<Served, Memory>
-        ensures served { IfOk result (IsServedAs limits.now self.now session (follow link.now end)) }
-        ensures valid { IfOk result IsValidServed }
+        id: &Tumbler,
+        end: End,
+    ) -> Result<List<Spec>, WorldError>
+        ensures value { IfOk result (λ made. map plain_spec made.items ≡ follow_of self.now.world (link_at self.now.world id.now) (Some end)) }
+        ensures valid { IfOk result (λ made. All NamesSpans (map plain_spec made.items)) }
     {
-        let Some(found) = self.link_at(link) else {
-            return Ok(Served::Refused(Refusal::NoSuchLink));
+        let Some(found) = self.link_at(id) else {
+            return Ok(List::new(alloc));
         };
-        let Some(end) = End::numbered(end) else {
-            return Ok(Served::Refused(Refusal::NoSuchEnd));
-        };
-        let specs = self.runs_now(alloc, found.runs(end))?;
-        if has_too_many_spans(specs.as_slice()) {
-            return Ok(Served::Refused(Refusal::TooLong));
-        }
-        if is_too_long(specs.len()) {
-            return Err(Memory);
-        }
-        Ok(Served::Answered(Reply::Followed(specs)))
-    }
-
-    /// What comes of a request for which of some text is in ends of links.
-    pub(crate) fn serve_end_sets(
-        &self,
-        alloc: Global,
-        session: u64,
-        specs: &[Spec],
-        limits: &Limits,
-    ) -> Result<Served, Memory>
-        ensures served { IfOk result (IsServedAs limits.now self.now session (end_sets (map plain_spec specs.now))) }
-        ensures valid { IfOk result IsValidServed }
-    {
-        if let Some(refusal) = self.picking_refusal(session, specs) {
-            return Ok(Served::Refused(refusal));
-        }
-        let from = self.end_set(alloc, End::From, specs)?;
-        if has_too_many_spans(from.as_slice()) {
-            return Ok(Served::Refused(Refusal::TooLong));
-        }
-        let to = self.end_set(alloc, End::To, specs)?;
-        if has_too_many_spans(to.as_slice()) {
-            return Ok(Served::Refused(Refusal::TooLong));
-        }
-        let three = self.end_set(alloc, End::Three, specs)?;
-        if has_too_many_spans(three.as_slice()) {
-            return Ok(Served::Refused(Refusal::TooLong));
-        }
-        if is_too_long(specs.len()) {
-            return Err(Memory);
-        }
-        Ok(Served::Answered(Reply::EndSets { from, to, three }))
+        self.runs_now(alloc, found.runs(end))
     }
 }

@@ -2,11 +2,12 @@
 ghost use Rattle.std.specs.Prelude.{◌≡◌, ℕ, length, IsOk, IfOk, OnOk, OnErr};
 
 use crate::counts;
-use crate::rows::{AccountRow, ByteRow, LinkRow, OpenRow, Row, SessionRow};
+use crate::links::LinkRow;
 use febe_data::{Entry, List, Memory, Tumbler};
 use std::alloc::Global;
 use std::marker::Model;
 use std::mem;
+use world_rules::{AccountRow, ByteRow, OpenRow, Row, SessionRow, WorldError};
 
 /// The world of a history as plain lists, beside how many entries of the history are counted and how many each session
 /// has. Changes go over the lists; queries that look up again and again first make ordered maps or sets of them.
@@ -25,7 +26,7 @@ pub struct FlatWorld {
 
 impl Model for FlatWorld {
     ghost use Rattle.std.specs.Prelude.{map};
-    ghost use Rattle.flat_world.specs.FlatView.{FlatView};
+    ghost use Rattle.world_rules.specs.FlatView.{FlatView};
     ghost use Rattle.flat_world.specs.PlainLink.{plain_link};
 
     ghost Value = { FlatView };
@@ -35,11 +36,11 @@ impl Model for FlatWorld {
 
 impl FlatWorld {
     ghost use Rattle.febe_data.specs.Plain.{plain_entry, plain_change, plain_history};
-    ghost use Rattle.flat_world.specs.FlatView.{FlatView, nothing_yet, after_entry, view_of, entries_in};
-    ghost use Rattle.flat_world.specs.Apply.{world_of};
-    ghost use Rattle.flat_world.specs.History.{kept, entries_of};
-    ghost use Rattle.flat_world.specs.InPlace.{DropsOnly, HasRoom};
-    ghost use Rattle.flat_world.specs.Fitting.{IsFitting, AreFitting};
+    ghost use Rattle.world_rules.specs.FlatView.{FlatView, nothing_yet, after_entry, view_of, entries_in};
+    ghost use Rattle.world_rules.specs.Apply.{world_of};
+    ghost use Rattle.world_rules.specs.History.{kept, entries_of};
+    ghost use Rattle.world_rules.specs.InPlace.{DropsOnly, HasRoom};
+    ghost use Rattle.world_rules.specs.Fitting.{IsFitting, AreFitting};
 
     /// The world before any entry.
     pub fn new(alloc: Global) -> FlatWorld
@@ -77,6 +78,16 @@ impl FlatWorld {
     /// blocks, there is no memory for it. A restart, a begin and an end take none, where the session has an entry and one
     /// more can be counted.
     pub fn apply(&mut self, alloc: Global, entry: &Entry) -> Result<(), Memory>
+        ensures ok { OnOk result (self.new ≡ after_entry self.old (plain_entry entry.now)) }
+        ensures err { OnErr result (self.new ≡ self.old) }
+        ensures fitting { OnOk result (IsFitting (plain_change entry.now.change)) }
+        ensures in_place { DropsOnly entry.now.change → HasRoom self.old.sessions entry.now.session → IsOk result }
+    {
+        Ok(self.apply_entry(alloc, entry)?)
+    }
+
+    /// The same, with what stood in the way.
+    pub(crate) fn apply_entry(&mut self, alloc: Global, entry: &Entry) -> Result<(), WorldError>
         ensures ok { OnOk result (self.new ≡ after_entry self.old (plain_entry entry.now)) }
         ensures err { OnErr result (self.new ≡ self.old) }
         ensures fitting { OnOk result (IsFitting (plain_change entry.now.change)) }

@@ -1,11 +1,11 @@
 //! Text positions as the fewest intervals.
 ghost use Rattle.std.specs.Prelude.{◌≡◌, ◌+◌, ◌==◌, map, All, IfOk};
 ghost use Rattle.febe_data.specs.Validity.{IsSpan};
-ghost use Rattle.flat_world.specs.Picking.{stretches_on, interval, intervals};
+ghost use Rattle.world_rules.specs.Picking.{stretches_on, interval, intervals};
 
-use crate::spans::span_from;
-use febe_data::{List, Memory, Span};
+use febe_data::{List, Span};
 use std::alloc::Global;
+use world_rules::{WorldError, span_from};
 
 /// Positions that follow each other.
 #[derive(Clone, Copy)]
@@ -33,17 +33,17 @@ impl OpenStretch {
     }
 
     /// With the position that follows.
-    fn extended(self, position: u32) -> Result<OpenStretch, Memory>
+    fn extended(self, position: u32) -> Result<OpenStretch, WorldError>
         ensures { IfOk result (λ longer. longer ≡ record { first = self.first; last = position; count = self.count + 1 }) }
     {
         Ok(OpenStretch {
             first: self.first,
             last: position,
-            count: self.count.checked_add(1).ok_or(Memory)?,
+            count: self.count.checked_add(1).ok_or(WorldError::TooGreat)?,
         })
     }
 
-    fn interval(self, alloc: Global) -> Result<Span, Memory>
+    fn interval(self, alloc: Global) -> Result<Span, WorldError>
         ensures value { IfOk result (λ span. span ≡ interval (record { first = self.first; count = self.count })) }
         ensures valid { IfOk result IsSpan }
     {
@@ -52,7 +52,7 @@ impl OpenStretch {
 }
 
 /// The intervals of a position and the positions behind it.
-fn intervals_from(alloc: Global, first: u32, rest: &[u32]) -> Result<List<Span>, Memory>
+fn intervals_from(alloc: Global, first: u32, rest: &[u32]) -> Result<List<Span>, WorldError>
     ensures items { IfOk result (λ made. made.items ≡ map interval (stretches_on (λ a b. b == a + 1) first first 1 rest.now)) }
     ensures valid { IfOk result (λ made. All IsSpan made.items) }
 {
@@ -70,8 +70,8 @@ fn intervals_from(alloc: Global, first: u32, rest: &[u32]) -> Result<List<Span>,
     Ok(made)
 }
 
-/// The fewest intervals that hold the positions. There is no memory for a position 0.
-pub(crate) fn intervals(alloc: Global, positions: &[u32]) -> Result<List<Span>, Memory>
+/// The fewest intervals that hold the positions.
+pub(crate) fn intervals(alloc: Global, positions: &[u32]) -> Result<List<Span>, WorldError>
     ensures items { IfOk result (λ made. made.items ≡ intervals positions.now) }
     ensures valid { IfOk result (λ made. All IsSpan made.items) }
 {

@@ -3,37 +3,28 @@
 
 mod byte_index;
 mod changes;
-mod copies;
 mod counts;
 mod deletions;
 mod edits;
-mod effects;
 mod end_index;
 mod ends;
 mod finding;
 mod flat;
 mod intervals;
-pub mod laws;
-mod making;
-mod opening;
+mod links;
+mod lookups;
 mod picks;
-mod refusals;
 mod relation;
-pub mod relation_laws;
 mod requests;
 mod retrieve;
-mod rows;
 mod runs;
 mod search;
-mod spans;
 mod swaps;
 #[cfg(test)]
 mod tests;
-mod writing;
 
-pub use effects::Effect;
-pub use ends::End;
 pub use flat::FlatWorld;
-pub use relation::Pair;
-pub use requests::Served;
-pub use rows::{AccountRow, ByteRow, LinkRow, OpenRow, Part, Row, SessionRow};
+pub use links::LinkRow;
+pub use world_rules::{
+    AccountRow, ByteRow, Effect, End, OpenRow, Pair, Part, Row, Served, SessionRow,
+};

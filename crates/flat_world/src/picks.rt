@@ -2,20 +2,20 @@
 ghost use Rattle.std.specs.Prelude.{◌≡◌, ◌++◌, ◌&&◌, map, filter, IfOk, OnOk};
 ghost use Rattle.tumbler.specs.Span.{end_of};
 ghost use Rattle.febe_data.specs.Plain.{plain_spec};
-ghost use Rattle.flat_world.specs.World.{is_text_of};
-ghost use Rattle.flat_world.specs.Picking.{is_within, picked_text, addresses_of, picked_by_spec, picked_addresses};
+ghost use Rattle.world_rules.specs.World.{is_text_of};
+ghost use Rattle.world_rules.specs.Picking.{is_within, picked_text, addresses_of, picked_by_spec, picked_addresses};
 
 use crate::flat::FlatWorld;
-use crate::rows::Row;
 use febe_data::{List, Memory, Span, Spec, Tumbler};
 use std::alloc::Global;
+use world_rules::{Row, WorldError};
 
 /// The first address behind the span, where it is an address.
-pub(crate) fn end_of(span: &Span) -> Result<Tumbler, Memory>
+pub(crate) fn end_of(span: &Span) -> Result<Tumbler, WorldError>
     ensures { IfOk result (λ end. end ≡ end_of span.now) }
 {
     if !span.fits() {
-        return Err(Memory);
+        return Err(WorldError::NoTumbler);
     }
     Ok(span.start.add(&span.width))
 }
@@ -52,16 +52,17 @@ impl FlatWorld {
         made: &mut List<Tumbler>,
         document: &Tumbler,
         span: &Span,
-    ) -> Result<(), Memory>
+    ) -> Result<(), WorldError>
         ensures { OnOk result (made.new.items ≡ made.old.items ++ addresses_of (picked_text self.now.world document.now span.now)) }
     {
         let end = end_of(span)?;
-        push_addresses(made, self.rows.as_slice(), document, &span.start, &end)
+        push_addresses(made, self.rows.as_slice(), document, &span.start, &end)?;
+        Ok(())
     }
 
     /// Adds the I-addresses that one spec picks.
     #[tactic(auto, using(crate::proofs::Picked::picked_steps))]
-    fn push_spec_addresses(&self, made: &mut List<Tumbler>, spec: &Spec) -> Result<(), Memory>
+    fn push_spec_addresses(&self, made: &mut List<Tumbler>, spec: &Spec) -> Result<(), WorldError>
         ensures { OnOk result (made.new.items ≡ made.old.items ++ picked_by_spec self.now.world (plain_spec spec.now)) }
     {
         for span in spec.spans.as_slice() {
@@ -70,13 +71,13 @@ impl FlatWorld {
         Ok(())
     }
 
-    /// The I-addresses that the specs pick. Where a span's end is no address there is no memory for them.
+    /// The I-addresses that the specs pick.
     #[tactic(auto, using(crate::proofs::Picked::picked_steps))]
     pub(crate) fn picked_addresses(
         &self,
         alloc: Global,
         specs: &[Spec],
-    ) -> Result<List<Tumbler>, Memory>
+    ) -> Result<List<Tumbler>, WorldError>
         ensures { IfOk result (λ made. made.items ≡ picked_addresses self.now.world (map plain_spec specs.now)) }
     {
         let mut made = List::new(alloc);

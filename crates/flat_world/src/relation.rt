@@ -1,29 +1,18 @@
 //! Where two specs pick the same content.
 ghost use Rattle.std.specs.Prelude.{◌≡◌, ◌++◌, ◌∷◌, [], false, length, filter, All, IfOk, OnOk};
 ghost use Rattle.std.specs.List.{list_any};
-ghost use Rattle.febe_data.specs.Plain.{plain_spec, relate};
+ghost use Rattle.febe_data.specs.Plain.{plain_spec};
 ghost use Rattle.febe_data.specs.Validity.{IsDiagonal};
-ghost use Rattle.flat_world.specs.PairIndex.{AddsPlace, pairs_among, pairs_with, places_in, IsPlaceIndex, IsPairSet};
-ghost use Rattle.flat_world.specs.Picking.{picks, is_picked_by};
-ghost use Rattle.flat_world.specs.Refusals.{is_bad_span, first_holding, picking};
-ghost use Rattle.flat_world.specs.Relation.{next_pair, is_start, reach, diagonal_from, diagonals_of};
-ghost use Rattle.flat_world.specs.Served.{IsServedAs, IsValidServed};
+ghost use Rattle.flat_world.specs.inside.PairIndex.{AddsPlace, pairs_among, pairs_with, places_in, IsPlaceIndex, IsPairSet};
+ghost use Rattle.world_rules.specs.Picking.{picks, is_picked_by};
+ghost use Rattle.world_rules.specs.Refusals.{is_bad_span};
+ghost use Rattle.world_rules.specs.Relation.{next_pair, is_start, reach, diagonal_from, diagonals_of, diagonals};
 
 use crate::flat::FlatWorld;
-use crate::refusals::{is_too_long, names_nowhere};
-use crate::requests::Served;
-use crate::rows::Row;
-use febe_data::{Diagonal, Limits, List, Memory, Refusal, Reply, Span, Spec, Tumbler};
+use febe_data::{Diagonal, List, Memory, Span, Spec, Tumbler};
 use std::alloc::Global;
 use std::collections::{BTreeMap, BTreeSet};
-
-/// A position on the left and one on the right that have the same content.
-#[derive(Clone, Copy, Debug, PartialEq, Eq)]
-pub struct Pair {
-    /// The x of the V-address `1.x`.
-    pub left: u32,
-    pub right: u32,
-}
+use world_rules::{Pair, Row, WorldError};
 
 /// Whether some span picks the row.
 #[tactic(auto, using(crate::proofs::Relations::picked_steps))]
@@ -142,7 +131,7 @@ fn pair_set(alloc: Global, pairs: &[Pair]) -> Result<BTreeSet<(u32, u32)>, Memor
 }
 
 /// Whether no pair stands just before this one.
-#[tactic(auto, using(crate::proofs::Diagonals::start_steps))]
+#[tactic(auto, using(world_rules::proofs::Diagonals::start_steps))]
 fn is_start(pairs: &[Pair], members: &BTreeSet<(u32, u32)>, pair: Pair) -> bool
     requires { IsPairSet pairs.now members.now }
     ensures { result ≡ is_start pairs.now pair }
@@ -154,18 +143,18 @@ fn is_start(pairs: &[Pair], members: &BTreeSet<(u32, u32)>, pair: Pair) -> bool
 }
 
 /// One position on, on both sides, where there are such positions.
-fn next_pair(pair: Pair) -> Result<Pair, Memory>
+fn next_pair(pair: Pair) -> Result<Pair, WorldError>
     ensures { IfOk result (λ next. next ≡ next_pair pair) }
 {
     Ok(Pair {
-        left: pair.left.checked_add(1).ok_or(Memory)?,
-        right: pair.right.checked_add(1).ok_or(Memory)?,
+        left: pair.left.checked_add(1).ok_or(WorldError::TooGreat)?,
+        right: pair.right.checked_add(1).ok_or(WorldError::TooGreat)?,
     })
 }
 
 /// How many pairs follow each other from this one on.
-#[tactic(auto, using(crate::proofs::Diagonals::reach_steps))]
-fn reach(pairs: &[Pair], members: &BTreeSet<(u32, u32)>, start: Pair) -> Result<u32, Memory>
+#[tactic(auto, using(world_rules::proofs::Diagonals::reach_steps))]
+fn reach(pairs: &[Pair], members: &BTreeSet<(u32, u32)>, start: Pair) -> Result<u32, WorldError>
     requires { IsPairSet pairs.now members.now }
     ensures { IfOk result (λ count. count ≡ reach pairs.now (length pairs.now) start) }
 {
@@ -176,7 +165,7 @@ fn reach(pairs: &[Pair], members: &BTreeSet<(u32, u32)>, start: Pair) -> Result<
             return Ok(length);
         }
         pair = next_pair(pair)?;
-        length = length.checked_add(1).ok_or(Memory)?;
+        length = length.checked_add(1).ok_or(WorldError::TooGreat)?;
     }
     Ok(length)
 }
@@ -186,13 +175,13 @@ fn diagonal_from(
     pairs: &[Pair],
     members: &BTreeSet<(u32, u32)>,
     start: Pair,
-) -> Result<Diagonal, Memory>
+) -> Result<Diagonal, WorldError>
     requires { IsPairSet pairs.now members.now }
     ensures value { IfOk result (λ diagonal. diagonal ≡ diagonal_from pairs.now start) }
     ensures valid { IfOk result IsDiagonal }
 {
     if start.left == 0 || start.right == 0 {
-        return Err(Memory);
+        return Err(WorldError::TooGreat);
     }
     Ok(Diagonal {
         left: start.left,
@@ -202,8 +191,8 @@ fn diagonal_from(
 }
 
 /// From each pair that has none before it as far as pairs follow.
-#[tactic(auto, using(crate::proofs::Diagonals::diagonal_steps))]
-fn diagonals_of(alloc: Global, pairs: &[Pair]) -> Result<List<Diagonal>, Memory>
+#[tactic(auto, using(world_rules::proofs::Diagonals::diagonal_steps))]
+fn diagonals_of(alloc: Global, pairs: &[Pair]) -> Result<List<Diagonal>, WorldError>
     ensures value { IfOk result (λ made. made.items ≡ diagonals_of pairs.now) }
     ensures valid { IfOk result (λ made. All IsDiagonal made.items) }
 {
@@ -218,45 +207,20 @@ fn diagonals_of(alloc: Global, pairs: &[Pair]) -> Result<List<Diagonal>, Memory>
 }
 
 impl FlatWorld {
-    /// What the two specs are refused for. It takes no memory.
-    fn relate_refusal(&self, session: u64, left: &Spec, right: &Spec) -> Option<Refusal>
-        ensures { result ≡ first_holding (picking self.now.world session (plain_spec left.now ∷ plain_spec right.now ∷ [])) }
-    {
-        if !self.has_document(&left.document) || !self.has_document(&right.document) {
-            return Some(Refusal::NoSuchDocument);
-        }
-        if self.mode_of(session, &left.document).is_none()
-            || self.mode_of(session, &right.document).is_none()
-        {
-            return Some(Refusal::NotOpen);
-        }
-        if names_nowhere(left) || names_nowhere(right) {
-            return Some(Refusal::BadAddress);
-        }
-        None
-    }
-
-    /// Serves a relation of two specs.
-    #[tactic(auto, using(crate::proofs::Relations::serve_steps))]
-    pub(crate) fn serve_relate(
+    /// Where the two specs pick the same content.
+    #[tactic(auto)]
+    pub(crate) fn shared_diagonals(
         &self,
         alloc: Global,
-        session: u64,
         left: &Spec,
         right: &Spec,
-        limits: &Limits,
-    ) -> Result<Served, Memory>
-        ensures served { IfOk result (IsServedAs limits.now self.now session (relate (plain_spec left.now) (plain_spec right.now))) }
-        ensures valid { IfOk result IsValidServed }
+    ) -> Result<List<Diagonal>, WorldError>
+        requires left { list_any is_bad_span (plain_spec left.now).spans ≡ false }
+        requires right { list_any is_bad_span (plain_spec right.now).spans ≡ false }
+        ensures value { IfOk result (λ made. made.items ≡ diagonals self.now.world (plain_spec left.now) (plain_spec right.now)) }
+        ensures valid { IfOk result (λ made. All IsDiagonal made.items) }
     {
-        if let Some(refusal) = self.relate_refusal(session, left, right) {
-            return Ok(Served::Refused(refusal));
-        }
         let pairs = pairs_of(alloc, self.rows.as_slice(), left, right)?;
-        let diagonals = diagonals_of(alloc, pairs.as_slice())?;
-        if is_too_long(diagonals.len()) {
-            return Ok(Served::Refused(Refusal::TooLong));
-        }
-        Ok(Served::Answered(Reply::Related(diagonals)))
+        diagonals_of(alloc, pairs.as_slice())
     }
 }

@@ -2,32 +2,18 @@
 ghost use Rattle.std.specs.Prelude.{◌≡◌, ℕ, ◌+◌, ◌-◌, ◌==◌, ◌&&◌, ◌<◌, ◌≤◌, ◌^◌, ◌↔◌, IsTrue, false, not, Option, None, [], ◌∷◌, ◌++◌, length, min, filter, map, count_by, All, OnOk, IfOk};
 ghost use Rattle.std.specs.List.{list_any, sum_by, flat_map};
 ghost use Rattle.tumbler.specs.Span.{SpanFits, end_of};
-ghost use Rattle.febe_data.specs.Plain.{plain_spec, plain_item, plain_reply, link, retrieve};
-ghost use Rattle.febe_data.specs.Validity.{IsReply};
-ghost use Rattle.flat_world.specs.World.{is_text_of, is_link_of};
-ghost use Rattle.flat_world.specs.Picking.{is_within, picked_text, addresses_of, picked_by_spec, picked_addresses};
-ghost use Rattle.flat_world.specs.Answers.{items_of_span, items_of, answer, NamesTumbler};
-ghost use Rattle.flat_world.specs.ByteIndex.{HasBytesOf, item_of};
-ghost use Rattle.flat_world.specs.Refusals.{is_bad_span, has_bad_span, span_bytes, span_items, total_of, wanted};
-ghost use Rattle.flat_world.specs.Served.{IsServedAs, IsValidServed};
+ghost use Rattle.febe_data.specs.Plain.{plain_spec, plain_item, link};
+ghost use Rattle.world_rules.specs.World.{is_text_of, is_link_of};
+ghost use Rattle.world_rules.specs.Picking.{is_within, picked_text, addresses_of, picked_by_spec, picked_addresses};
+ghost use Rattle.world_rules.specs.Answers.{items_of_span, items_of, NamesTumbler};
+ghost use Rattle.flat_world.specs.inside.ByteIndex.{HasBytesOf, item_of};
+ghost use Rattle.world_rules.specs.Refusals.{is_bad_span, has_bad_span, span_bytes, span_items, total_of};
 
 use crate::byte_index::{ByteIndex, push_byte};
 use crate::flat::FlatWorld;
-use crate::refusals::MOST_ITEMS;
-use crate::requests::Served;
-use crate::rows::Row;
-use febe_data::{Item, Limits, List, Memory, Refusal, Reply, Span, Spec, Tumbler};
+use febe_data::{Item, List, Memory, Span, Spec, Tumbler};
 use std::alloc::Global;
-
-/// The most bytes of text that a retrieve gives.
-pub const MOST_REPLY_BYTES: usize = 16_777_216;
-
-/// How many bytes and items are given, counted up to the greatest `usize`.
-#[derive(Drop)]
-struct Size {
-    bytes: usize,
-    items: usize,
-}
+use world_rules::{Row, Size, WorldError};
 
 /// How many text rows of the document the span picks.
 fn text_rows(rows: &[Row], document: &Tumbler, start: &Tumbler, end: &Tumbler) -> usize
@@ -84,7 +70,7 @@ impl FlatWorld {
 
     /// What the specs give.
     #[tactic(auto, using(crate::proofs::Sizes::sizes))]
-    fn size_of(&self, specs: &[Spec]) -> Size
+    pub(crate) fn size_of(&self, specs: &[Spec]) -> Size
         requires { has_bad_span (map plain_spec specs.now) ≡ false }
         ensures bytes { result.bytes ≡ min (total_of (span_bytes self.now.world) (map plain_spec specs.now)) (2 ^ 64 - 1) }
         ensures items { result.items ≡ min (total_of (span_items self.now.world) (map plain_spec specs.now)) (2 ^ 64 - 1) }
@@ -217,38 +203,18 @@ impl FlatWorld {
     }
 
     /// The items that the specs pick.
-    fn retrieve(&self, alloc: Global, specs: &[Spec]) -> Result<Reply, Memory>
-        requires fits { has_bad_span (map plain_spec specs.now) ≡ false }
-        requires short { total_of (span_bytes self.now.world) (map plain_spec specs.now) ≤ 16777216 }
-        requires few { total_of (span_items self.now.world) (map plain_spec specs.now) ≤ 65536 }
-        ensures answer { IfOk result (λ reply. plain_reply reply ≡ answer self.now.world (retrieve (map plain_spec specs.now))) }
-        ensures valid { IfOk result (λ reply. IsReply (plain_reply reply)) }
+    pub(crate) fn picked_items(
+        &self,
+        alloc: Global,
+        specs: &[Spec],
+    ) -> Result<List<Item>, WorldError>
+        requires { has_bad_span (map plain_spec specs.now) ≡ false }
+        ensures items { IfOk result (λ made. map plain_item made.items ≡ items_of self.now.world (map plain_spec specs.now)) }
+        ensures valid { IfOk result (λ made. All NamesTumbler (map plain_item made.items)) }
     {
         let index = self.byte_index(alloc, specs)?;
         let mut items = List::new(alloc);
         self.push_specs(alloc, &mut items, &index, specs)?;
-        Ok(Reply::Retrieved(items))
-    }
-    /// Serves a retrieve.
-    #[tactic(auto, using(crate::proofs::Checks::refusals))]
-    pub(crate) fn serve_retrieve(
-        &self,
-        alloc: Global,
-        session: u64,
-        specs: &[Spec],
-        limits: &Limits,
-    ) -> Result<Served, Memory>
-        ensures served { IfOk result (IsServedAs limits.now self.now session (retrieve (map plain_spec specs.now))) }
-        ensures valid { IfOk result IsValidServed }
-    {
-        if let Some(refusal) = self.picking_refusal(session, specs) {
-            return Ok(Served::Refused(refusal));
-        }
-        let size = self.size_of(specs);
-        if size.bytes > MOST_REPLY_BYTES || size.items > MOST_ITEMS {
-            return Ok(Served::Refused(Refusal::TooLong));
-        }
-        let reply = self.retrieve(alloc, specs)?;
-        Ok(Served::Answered(reply))
+        Ok(items)
     }
 }

@@ -1,11 +1,12 @@
 //! The runs of content that spec sets name.
 ghost use Rattle.std.specs.Prelude.{◌≡◌, ◌++◌, map, IfOk, OnOk};
 ghost use Rattle.febe_data.specs.Plain.{plain_spec};
-ghost use Rattle.flat_world.specs.Picking.{content_of, number_of, is_next_byte, stretches, stretches_on, run_of, runs_of_span, runs_of_spec, runs_of};
+ghost use Rattle.world_rules.specs.Picking.{content_of, number_of, is_next_byte, stretches, stretches_on, run_of, runs_of_span, runs_of_spec, runs_of};
 
 use crate::flat::FlatWorld;
-use febe_data::{List, Memory, Run, Span, Spec, Tumbler};
+use febe_data::{List, Run, Span, Spec, Tumbler};
 use std::alloc::Global;
+use world_rules::WorldError;
 
 /// The places of the document whose content byte the address is.
 pub(crate) fn content_of(address: &Tumbler) -> &[u32]
@@ -33,10 +34,12 @@ fn is_next_byte(a: &Tumbler, b: &Tumbler) -> bool
 }
 
 /// The run of so many bytes from the first on, where its content is a tumbler.
-fn run_of(alloc: Global, origin: &Tumbler, first: &Tumbler, count: u32) -> Result<Run, Memory>
+fn run_of(alloc: Global, origin: &Tumbler, first: &Tumbler, count: u32) -> Result<Run, WorldError>
     ensures { IfOk result (λ run. run ≡ run_of origin.now (record { first = first.now; count = count })) }
 {
-    let content = Tumbler::from_places(alloc, content_of(first)).map_err(|_| Memory)?;
+    let content = Tumbler::from_places(alloc, content_of(first)).map_err(
+        |_| WorldError::NoTumbler,
+    )?;
     Ok(Run {
         origin: origin.copy(),
         content,
@@ -52,7 +55,7 @@ fn push_runs_from(
     origin: &Tumbler,
     first: &Tumbler,
     rest: &[Tumbler],
-) -> Result<(), Memory>
+) -> Result<(), WorldError>
     ensures { OnOk result (made.new.items ≡ made.old.items ++ map (run_of origin.now) (stretches_on is_next_byte first.now first.now 1 rest.now)) }
 {
     let mut begin = first;
@@ -60,7 +63,7 @@ fn push_runs_from(
     let mut count: u32 = 1;
     for address in rest {
         if is_next_byte(last, address) {
-            count = count.checked_add(1).ok_or(Memory)?;
+            count = count.checked_add(1).ok_or(WorldError::TooGreat)?;
         } else {
             made.push(run_of(alloc, origin, begin, count)?)?;
             begin = address;
@@ -68,7 +71,8 @@ fn push_runs_from(
         }
         last = address;
     }
-    made.push(run_of(alloc, origin, begin, count)?)
+    made.push(run_of(alloc, origin, begin, count)?)?;
+    Ok(())
 }
 
 /// Adds the runs of these addresses: as many bytes in each as follow each other.
@@ -77,7 +81,7 @@ fn push_runs(
     made: &mut List<Run>,
     origin: &Tumbler,
     addresses: &[Tumbler],
-) -> Result<(), Memory>
+) -> Result<(), WorldError>
     ensures { OnOk result (made.new.items ≡ made.old.items ++ map (run_of origin.now) (stretches is_next_byte addresses.now)) }
 {
     let Some((first, rest)) = addresses.split_first() else {
@@ -94,7 +98,7 @@ impl FlatWorld {
         made: &mut List<Run>,
         document: &Tumbler,
         span: &Span,
-    ) -> Result<(), Memory>
+    ) -> Result<(), WorldError>
         ensures { OnOk result (made.new.items ≡ made.old.items ++ runs_of_span self.now.world document.now span.now) }
     {
         let mut addresses = List::new(alloc);
@@ -104,7 +108,12 @@ impl FlatWorld {
 
     /// Adds the runs of one spec.
     #[tactic(auto, using(crate::proofs::Picked::picked_steps))]
-    fn push_spec_runs(&self, alloc: Global, made: &mut List<Run>, spec: &Spec) -> Result<(), Memory>
+    fn push_spec_runs(
+        &self,
+        alloc: Global,
+        made: &mut List<Run>,
+        spec: &Spec,
+    ) -> Result<(), WorldError>
         ensures { OnOk result (made.new.items ≡ made.old.items ++ runs_of_spec self.now.world (plain_spec spec.now)) }
     {
         for span in spec.spans.as_slice() {
@@ -113,9 +122,9 @@ impl FlatWorld {
         Ok(())
     }
 
-    /// The runs of the specs. Where a span's end is no address there is no memory for them.
+    /// The runs of the specs.
     #[tactic(auto, using(crate::proofs::Picked::picked_steps))]
-    pub(crate) fn runs_of(&self, alloc: Global, specs: &[Spec]) -> Result<List<Run>, Memory>
+    pub(crate) fn picked_runs(&self, alloc: Global, specs: &[Spec]) -> Result<List<Run>, WorldError>
         ensures { IfOk result (λ made. made.items ≡ runs_of self.now.world (map plain_spec specs.now)) }
     {
         let mut made = List::new(alloc);

@@ -1,51 +1,11 @@
 //! The rows of a document once two blocks of its text have changed places.
 ghost use Rattle.std.specs.Prelude.{◌≡◌, ◌++◌, map, IfOk, OnOk};
-ghost use Rattle.flat_world.specs.Edits.{cuts_of, is_in_block, block, up_by, down_by, rows_swapped};
+ghost use Rattle.world_rules.specs.Edits.{cuts_of, is_in_block, block, up_by, down_by, rows_swapped};
 
 use crate::edits::{push_moved, push_staying};
-use crate::rows::Row;
-use febe_data::{List, Memory, Tumbler};
+use febe_data::{List, Tumbler};
 use std::alloc::Global;
-
-/// The bounds of two blocks, each not below the one before it: the first two cuts bound one block, the others the other.
-#[derive(Clone, Copy, Debug)]
-pub struct Cuts {
-    pub first: u32,
-    pub second: u32,
-    pub third: u32,
-    pub fourth: u32,
-}
-
-/// The bounds of the two blocks, where there are three or four cuts in ascending order.
-pub(crate) fn cuts_of(cuts: &[u32]) -> Option<Cuts>
-    ensures { result ≡ cuts_of cuts.now }
-{
-    match *cuts {
-        [first, second, third] if first <= second && second <= third => Some(Cuts {
-            first,
-            second,
-            third: second,
-            fourth: third,
-        }),
-        [first, second, third, fourth] if first <= second && second <= third && third <= fourth =>
-            Some(Cuts {
-                first,
-                second,
-                third,
-                fourth,
-            }),
-        _ => None,
-    }
-}
-
-impl Row {
-    /// Whether the row is of the document's text, from `low` up to, but without, `high`.
-    fn is_in_block(&self, document: &Tumbler, low: u32, high: u32) -> bool
-        ensures { result ≡ is_in_block document.now low high self.now }
-    {
-        self.is_text_of(document) && low <= self.n && self.n < high
-    }
-}
+use world_rules::{Cuts, Row, WorldError};
 
 /// Adds the rows of a block, each moved up and then down.
 #[tactic(auto, using(std::proofs::lemmas::List::Elements::filter_more))]
@@ -57,13 +17,17 @@ fn push_block(
     high: u32,
     up: u32,
     down: u32,
-) -> Result<(), Memory>
+) -> Result<(), WorldError>
     ensures { OnOk result (made.new.items ≡ made.old.items ++ map (λ row. down_by down (up_by up row)) (block rows.now document.now low high)) }
 {
     for row in rows {
         if row.is_in_block(document, low, high) {
             let mut moved = row.copy();
-            moved.n = row.n.checked_add(up).ok_or(Memory)?.saturating_sub(down);
+            moved.n = row
+                .n
+                .checked_add(up)
+                .ok_or(WorldError::TooGreat)?
+                .saturating_sub(down);
             made.push(moved)?;
         }
     }
@@ -76,7 +40,7 @@ pub(crate) fn rows_swapped(
     rows: &[Row],
     document: &Tumbler,
     cuts: &Cuts,
-) -> Result<List<Row>, Memory>
+) -> Result<List<Row>, WorldError>
     ensures { IfOk result (λ made. made.items ≡ rows_swapped rows.now document.now cuts.now) }
 {
     let Cuts {

@@ -1,4 +1,4 @@
-//! A source and a sink that lie in memory, tell everything, and fail where they are told to.
+//! A source and a sink that lie in memory, tell everything, and fail at the calls that are listed.
 #![tactic(auto)]
 
 mod sink;

@@ -1,5 +1,6 @@
 //! A sink in memory.
-ghost use Rattle.std.specs.Prelude.{◌≡◌, [], Some};
+ghost use Rattle.std.specs.Prelude.{◌≡◌, ◌≤◌, [], Some};
+ghost use Rattle.green_fakes.specs.MemoryView.{WritesNext};
 
 use febe_data::{List, Text};
 use green_io::{Sink, WriteAnswer};
@@ -26,8 +27,8 @@ impl Model for MemorySink {
 }
 
 impl MemorySink {
-    /// An empty sink. A write fails exactly where its number, from 1, is in `failing`, or where there is no memory
-    /// for its bytes.
+    /// An empty sink, whose writes fail by `failing`, a list of numbers of calls. [`MemorySink::write_whole`]
+    /// says how.
     pub fn new(alloc: Global, failing: List<u64>) -> MemorySink
         ensures { result ≡ record { taken = []; calls = 0; failing = failing.items; faults = 0 } }
     {
@@ -37,6 +38,24 @@ impl MemorySink {
             calls: 0,
             faults: 0,
         }
+    }
+
+    /// What [`Sink::write`] does here. The first call has the number 1, and a call whose number is listed fails.
+    /// Another takes all the bytes, or fails where there is no memory to keep them.
+    pub fn write_whole(&mut self, bytes: &[u8]) -> WriteAnswer
+        ensures answer { WritesNext self.old self.new bytes.now result }
+        ensures never_falls { self.old.faults ≤ self.new.faults }
+    {
+        self.calls = self.calls.saturating_add(1);
+        if self.failing.as_slice().contains(&self.calls) {
+            self.faults = self.faults.saturating_add(1);
+            return WriteAnswer::Failed;
+        }
+        if self.bytes.extend_from_slice(bytes).is_err() {
+            self.faults = self.faults.saturating_add(1);
+            return WriteAnswer::Failed;
+        }
+        WriteAnswer::Took(bytes.len())
     }
 
     /// The bytes that were taken.
@@ -57,15 +76,6 @@ impl Sink for MemorySink {
     }
 
     fn write(&mut self, bytes: &[u8]) -> WriteAnswer {
-        self.calls = self.calls.saturating_add(1);
-        if self.failing.as_slice().contains(&self.calls) {
-            self.faults = self.faults.saturating_add(1);
-            return WriteAnswer::Failed;
-        }
-        if self.bytes.extend_from_slice(bytes).is_err() {
-            self.faults = self.faults.saturating_add(1);
-            return WriteAnswer::Failed;
-        }
-        WriteAnswer::Took(bytes.len())
+        self.write_whole(bytes)
     }
 }

@@ -1,5 +1,6 @@
 //! A source in memory.
-ghost use Rattle.std.specs.Prelude.{◌≡◌, ◌≤◌, Some};
+ghost use Rattle.std.specs.Prelude.{◌≡◌, ◌≤◌, ◌++◌, Some, length, take, drop};
+ghost use Rattle.green_fakes.specs.MemoryView.{piece_within, read_answer, read_count, after_read};
 
 use febe_data::{List, Text};
 use green_io::{ReadAnswer, Source};
@@ -33,8 +34,8 @@ impl Model for MemorySource {
 }
 
 impl MemorySource {
-    /// A source of these bytes. Each read that does not fail gives at most the next number of `pieces`, where 0
-    /// counts as 1, and past the list there is no bound. A read fails exactly where its number, from 1, is in `failing`.
+    /// A source of these bytes, whose reads are cut by `pieces` and fail by `failing`, a list of numbers of calls.
+    /// [`MemorySource::read_piece`] says how.
     pub fn new(bytes: Text, pieces: List<u32>, failing: List<u64>) -> MemorySource
         ensures { result ≡ record { left = bytes.items; pieces = pieces.items; calls = 0; failing = failing.items; faults = 0 } }
     {
@@ -48,12 +49,36 @@ impl MemorySource {
             faults: 0,
         }
     }
+
+    /// What [`Source::read`] does here. The first call has the number 1, and a call whose number is listed fails
+    /// without a byte. Another gives as many bytes as are left and find room, but no more than its piece.
+    pub fn read_piece(&mut self, into: &mut [u8]) -> ReadAnswer
+        ensures answer { result ≡ read_answer self.old (length into.old) }
+        ensures source { self.new ≡ after_read self.old (length into.old) }
+        ensures bytes { let count = read_count self.old (length into.old) in into.new ≡ take count self.old.left ++ drop count into.old }
+        ensures never_falls { self.old.faults ≤ self.new.faults }
+    {
+        self.calls = self.calls.saturating_add(1);
+        if self.failing.as_slice().contains(&self.calls) {
+            self.faults = self.faults.saturating_add(1);
+            return ReadAnswer::Failed;
+        }
+        let most = next_piece(self.pieces.as_slice(), &mut self.reads, into.len());
+        let (_, rest) = self.bytes.as_slice().split_at(self.at);
+        let count = rest.len().min(most);
+        if count == 0 {
+            return ReadAnswer::End;
+        }
+        into[..count].copy_from_slice(rest.split_at(count).0);
+        self.at += count;
+        ReadAnswer::Got(count)
+    }
 }
 
-/// How many bytes the next read gives at most, where there is room for so many.
+/// How many bytes the next read gives at most, where there is room for so many. Its piece is used up.
 fn next_piece(pieces: &[u32], reads: &mut usize, room: usize) -> usize
-    ensures within { result ≤ room }
-    ensures some { 1 ≤ room → 1 ≤ result }
+    ensures most { result ≡ piece_within (drop reads.old pieces.now) room }
+    ensures rest { drop reads.new pieces.now ≡ drop 1 (drop reads.old pieces.now) }
 {
     let Some(piece) = pieces.get(*reads) else {
         return room;
@@ -72,19 +97,6 @@ impl Source for MemorySource {
     }
 
     fn read(&mut self, into: &mut [u8]) -> ReadAnswer {
-        self.calls = self.calls.saturating_add(1);
-        if self.failing.as_slice().contains(&self.calls) {
-            self.faults = self.faults.saturating_add(1);
-            return ReadAnswer::Failed;
-        }
-        let most = next_piece(self.pieces.as_slice(), &mut self.reads, into.len());
-        let (_, rest) = self.bytes.as_slice().split_at(self.at);
-        let count = rest.len().min(most);
-        if count == 0 {
-            return ReadAnswer::End;
-        }
-        into[..count].copy_from_slice(rest.split_at(count).0);
-        self.at += count;
-        ReadAnswer::Got(count)
+        self.read_piece(into)
     }
 }

@@ -1,1 +1,3 @@
+pub mod Areas
+pub mod Disk
 pub mod Outside

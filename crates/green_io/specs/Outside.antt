@@ -12,10 +12,10 @@ HasRisen before after = min (before + 1) (2 ^ 64 - 1) ≤ after
 
 -- a read gave at least one byte, taken from the front of what was left; or it met the end, where nothing is
 -- left; or it failed, and what was left stays
-abbrev pub ReadTells : ReadAnswer → Option (List ℕ) → Option (List ℕ) → List ℕ → Type 0
-ReadTells (Got n) old new into = (1 ≤ n) × (n ≤ length into) × Consumes old new (take n into)
-ReadTells End old new into = Keeps old new × IsAtEnd new
-ReadTells Failed old new into = Keeps old new
+abbrev pub IsReadOutcome : ReadAnswer → Option (List ℕ) → Option (List ℕ) → List ℕ → Type 0
+IsReadOutcome (Got n) old new into = (1 ≤ n) × (n ≤ length into) × Consumes old new (take n into)
+IsReadOutcome End old new into = Keeps old new × IsAtEnd new
+IsReadOutcome Failed old new into = Keeps old new
 
 -- this holds if the read failed
 abbrev pub OnFailedRead : ReadAnswer → Type 0 → Type 0
@@ -24,9 +24,9 @@ OnFailedRead End fact = Unit {0}
 OnFailedRead Failed fact = fact
 
 -- a write took at least one byte, from the front of what it was given; or it failed, and what was taken stays
-abbrev pub WriteTells : WriteAnswer → Option (List ℕ) → Option (List ℕ) → List ℕ → Type 0
-WriteTells (Took n) old new bytes = (1 ≤ n) × (n ≤ length bytes) × Appends old new (take n bytes)
-WriteTells WriteFailed old new bytes = Keeps old new
+abbrev pub IsWriteOutcome : WriteAnswer → Option (List ℕ) → Option (List ℕ) → List ℕ → Type 0
+IsWriteOutcome (Took n) old new bytes = (1 ≤ n) × (n ≤ length bytes) × Appends old new (take n bytes)
+IsWriteOutcome WriteFailed old new bytes = Keeps old new
 
 -- this holds if the write failed
 abbrev pub OnFailedWrite : WriteAnswer → Type 0 → Type 0

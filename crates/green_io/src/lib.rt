@@ -1,14 +1,21 @@
-//! Where bytes come from and where they go: sources, sinks, and how each counts its faults.
+//! Where bytes come from, where they go and where they stay: sources, sinks and disks, and how each counts its faults.
 #![tactic(auto)]
 
+mod disk;
+mod folder_disk;
+mod folder_files;
 mod sink;
 mod source;
+mod stable_write;
 mod std_sink;
 mod std_source;
 #[cfg(test)]
 mod tests;
 
+pub use disk::{Area, Disk, DiskFailed};
+pub use folder_disk::FolderDisk;
 pub use sink::{Sink, WriteAnswer};
 pub use source::{ReadAnswer, Source};
+pub use stable_write::write_and_sync;
 pub use std_sink::StdSink;
 pub use std_source::StdSource;

@@ -1,6 +1,6 @@
 //! What takes bytes.
 ghost use Rattle.std.specs.Prelude.{ℕ, ◌≡◌, ◌<◌, ◌≤◌, List, Option, length};
-ghost use Rattle.green_io.specs.Outside.{WriteTells, OnFailedWrite, HasRisen};
+ghost use Rattle.green_io.specs.Outside.{IsWriteOutcome, OnFailedWrite, HasRisen};
 
 /// What came of one write.
 #[derive(Clone, Copy, Debug, PartialEq, Eq)]
@@ -26,7 +26,7 @@ pub trait Sink {
     /// Takes some bytes from the front of `bytes`, as many as the sink likes to take at once.
     fn write(&mut self, bytes: &[u8]) -> WriteAnswer
         requires { 0 < length bytes.now }
-        ensures answer { WriteTells result (taken self.old) (taken self.new) bytes.now }
+        ensures answer { IsWriteOutcome result (taken self.old) (taken self.new) bytes.now }
         ensures never_falls { fault_count self.old ≤ fault_count self.new }
         ensures failed { OnFailedWrite result (HasRisen (fault_count self.old) (fault_count self.new)) };
 }

@@ -1,6 +1,6 @@
 //! What gives bytes.
 ghost use Rattle.std.specs.Prelude.{ℕ, ◌≡◌, ◌<◌, ◌≤◌, List, Option, length};
-ghost use Rattle.green_io.specs.Outside.{ReadTells, OnFailedRead, HasRisen};
+ghost use Rattle.green_io.specs.Outside.{IsReadOutcome, OnFailedRead, HasRisen};
 
 /// What came of one read.
 #[derive(Clone, Copy, Debug, PartialEq, Eq)]
@@ -30,7 +30,7 @@ pub trait Source {
     /// Reads some bytes into the front of `into`, as many as the source likes to give at once.
     fn read(&mut self, into: &mut [u8]) -> ReadAnswer
         requires { 0 < length into.old }
-        ensures answer { ReadTells result (left self.old) (left self.new) into.new }
+        ensures answer { IsReadOutcome result (left self.old) (left self.new) into.new }
         ensures never_falls { fault_count self.old ≤ fault_count self.new }
         ensures failed { OnFailedRead result (HasRisen (fault_count self.old) (fault_count self.new)) };
 }

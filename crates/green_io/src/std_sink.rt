@@ -1,7 +1,7 @@
 //! A writer of std as a sink.
 ghost use Rattle.std.specs.Prelude.{◌≡◌, ◌<◌, ◌≤◌, None, length};
 ghost use Rattle.std.specs.Io.KnownBytes.{Keeps};
-ghost use Rattle.green_io.specs.Outside.{WriteTells};
+ghost use Rattle.green_io.specs.Outside.{IsWriteOutcome};
 
 use crate::sink::{Sink, WriteAnswer};
 use std::io::{ErrorKind, Write};
@@ -56,7 +56,7 @@ impl<W: Write> Sink for StdSink<W> {
 
 // One write, tried again where it was interrupted. A writer that takes nothing of a piece has failed.
 fn write_uninterrupted<W: Write>(writer: &mut W, bytes: &[u8]) -> WriteAnswer
-    ensures { WriteTells result (W.contents writer.old) (W.contents writer.new) bytes.now }
+    ensures { IsWriteOutcome result (W.contents writer.old) (W.contents writer.new) bytes.now }
 {
     for _ in 0..u64::MAX {
         match writer.write(bytes) {

@@ -1,6 +1,6 @@
 //! A reader of std as a source.
 ghost use Rattle.std.specs.Prelude.{◌≡◌, ◌<◌, ◌≤◌, None, length};
-ghost use Rattle.green_io.specs.Outside.{ReadTells};
+ghost use Rattle.green_io.specs.Outside.{IsReadOutcome};
 
 use crate::source::{ReadAnswer, Source};
 use std::io::{ErrorKind, Read};
@@ -53,7 +53,7 @@ impl<R: Read> Source for StdSource<R> {
 // One read, tried again where it was interrupted.
 fn read_uninterrupted<R: Read>(reader: &mut R, into: &mut [u8]) -> ReadAnswer
     requires { 0 < length into.old }
-    ensures { ReadTells result (R.remaining reader.old) (R.remaining reader.new) into.new }
+    ensures { IsReadOutcome result (R.remaining reader.old) (R.remaining reader.new) into.new }
 {
     for _ in 0..u64::MAX {
         match reader.read(into) {

@@ -1,9 +1,12 @@
-//! Readers and writers that fail or are interrupted.
+//! Readers and writers that fail or are interrupted, and a folder as a disk.
 
-use crate::{ReadAnswer, Sink, Source, StdSink, StdSource, WriteAnswer};
-use std::io;
+use crate::{
+    Area, Disk, DiskFailed, FolderDisk, ReadAnswer, Sink, Source, StdSink, StdSource, WriteAnswer,
+    write_and_sync,
+};
 use std::io::ErrorKind;
 use std::test::Fail;
+use std::{fs, io};
 
 // What one call of a fake does.
 #[derive(Clone, Copy)]
@@ -137,5 +140,74 @@ fn bytes_reach_the_writer(rt: HostRuntime) -> Result<(), Fail> {
     let mut sink = StdSink::new(&mut held);
     assert_eq!(rt; write_once(&mut sink), (WriteAnswer::Took(4), 0));
     assert_eq!(rt; held.as_slice(), b"abcd".as_slice());
+    Ok(())
+}
+
+const FOLDER: &str = "folder_disk_test";
+
+// The answer of one read of up to eight bytes from this place on, and the bytes.
+fn read_at<D: Disk>(disk: &mut D, area: Area, at: u64) -> (ReadAnswer, [u8; 8]) {
+    let mut into = [b'-'; 8];
+    let answer = disk.read(area, at, &mut into);
+    (answer, into)
+}
+
+// Writes into the log, past its end too, and makes it no shorter.
+fn write_log<D: Disk>(disk: &mut D) -> Result<u64, DiskFailed> {
+    disk.write(Area::Log, 7, b"xy")?;
+    disk.write(Area::Log, 1, b"B")?;
+    disk.cut(Area::Log, 20)?;
+    disk.sync(Area::Log)?;
+    disk.length(Area::Log)
+}
+
+// Cuts the log, and writes into the journal.
+fn cut_log<D: Disk>(disk: &mut D) -> Result<u64, DiskFailed> {
+    disk.cut(Area::Log, 2)?;
+    write_and_sync(disk, Area::Journal, 0, b"j")?;
+    disk.length(Area::Log)
+}
+
+#[test]
+fn the_files_of_a_folder(rt: HostRuntime) -> Result<(), Fail> {
+    let _ = fs::remove_dir_all(&rt, FOLDER);
+    let mut disk = FolderDisk::new(rt, FOLDER)?;
+    // There is no folder, and then there is one with a file.
+    assert_eq!(rt; disk.length(Area::Home), Err(DiskFailed));
+    fs::create_dir(&rt, FOLDER)?;
+    fs::write(&rt, "folder_disk_test/log", b"abcde")?;
+    assert_eq!(rt; disk.length(Area::Log), Ok(5));
+    assert_eq!(rt; write_log(&mut disk), Ok(9));
+    for (at, wanted) in [
+        (0, (ReadAnswer::Got(8), *b"aBcde\0\0x")),
+        (8, (ReadAnswer::Got(1), *b"y-------")),
+        (9, (ReadAnswer::End, *b"--------")),
+    ] {
+        assert_eq!(rt; read_at(&mut disk, Area::Log, at), wanted, "at {at}");
+    }
+    assert_eq!(rt; cut_log(&mut disk), Ok(2));
+    assert_eq!(rt; disk.faults(), 1);
+    fs::remove_dir_all(&rt, FOLDER)?;
+    Ok(())
+}
+
+#[test]
+fn a_folder_is_opened_again(rt: HostRuntime) -> Result<(), Fail> {
+    let folder = "folder_disk_again_test";
+    let _ = fs::remove_dir_all(&rt, folder);
+    fs::create_dir(&rt, folder)?;
+    let mut first = FolderDisk::new(rt, folder)?;
+    assert_eq!(rt; write_log(&mut first), Ok(9));
+    assert_eq!(rt; cut_log(&mut first), Ok(2));
+    let mut second = FolderDisk::new(rt, folder)?;
+    for (area, wanted) in [
+        (Area::Log, (ReadAnswer::Got(2), *b"\0B------")),
+        (Area::Home, (ReadAnswer::End, *b"--------")),
+        (Area::Journal, (ReadAnswer::Got(1), *b"j-------")),
+    ] {
+        assert_eq!(rt; read_at(&mut second, area, 0), wanted);
+    }
+    assert_eq!(rt; second.faults(), 0);
+    fs::remove_dir_all(&rt, folder)?;
     Ok(())
 }

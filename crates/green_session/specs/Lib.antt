@@ -5,3 +5,4 @@ pub use Rattle.febe_feed.specs.FeedView
 pub use Rattle.green_io.specs.Outside
 pub mod Putting
 pub mod Taking
+pub mod inside

@@ -3,8 +3,6 @@
 
 mod put;
 mod take;
-#[cfg(test)]
-mod tests;
 
 pub use put::{Put, put_bytes, put_reply};
 pub use take::{Taken, Turns, take_request};

@@ -1,6 +1,8 @@
 //! Reading requests from a source.
 ghost use Rattle.std.specs.Prelude.{◌≡◌, ◌≤◌, ◌+◌, ◌^◌, ◌-◌, min, ℕ};
-ghost use Rattle.green_session.specs.Taking.{TurnsView, AreTurns, IsTaken, ended};
+ghost use Rattle.green_session.specs.Taking.{TurnsView, read_state, IsTaken};
+ghost use Rattle.green_session.specs.inside.Turns.{AreTurns};
+ghost use Rattle.green_session.specs.inside.InputEnd.{answer_at_end};
 
 use febe_data::Request;
 use febe_feed::{Feed, Next};
@@ -47,11 +49,11 @@ impl Turns {
 pub enum Taken {
     Greeting,
     Request(Request),
-    /// The input ended before its first byte or between requests.
+    /// The input answer_at_end before its first byte or between requests.
     End,
     /// The byte at this offset can't stand there.
     Malformed { at: u64 },
-    /// The input ended within the greeting or a request, after so many bytes.
+    /// The input answer_at_end within the greeting or a request, after so many bytes.
     Truncated { at: u64 },
     /// The source failed.
     ReadFault,
@@ -68,7 +70,7 @@ pub fn take_request<S: Source>(
     feed: &mut Feed,
     turns: &mut Turns,
 ) -> Taken
-    ensures taken { IsTaken (S.left source.old) (S.left source.new) (S.fault_count source.old) (S.fault_count source.new) feed.old feed.new turns.old turns.new result }
+    ensures taken { IsTaken (read_state (S.left source.old) (S.fault_count source.old) feed.old turns.old) (read_state (S.left source.new) (S.fault_count source.new) feed.new turns.new) result }
 {
     let mut piece = [0u8; 4096];
     loop {
@@ -89,15 +91,15 @@ pub fn take_request<S: Source>(
                     return Taken::Memory;
                 }
             }
-            ReadAnswer::End => return ended(feed),
+            ReadAnswer::End => return answer_at_end(feed),
             ReadAnswer::Failed => return Taken::ReadFault,
         }
     }
 }
 
-/// What came where the input has ended.
-fn ended(feed: &Feed) -> Taken
-    ensures { result ≡ ended feed.now }
+/// What came where the input has answer_at_end.
+fn answer_at_end(feed: &Feed) -> Taken
+    ensures { result ≡ answer_at_end feed.now }
 {
     if feed.held() == 0 {
         return Taken::End;

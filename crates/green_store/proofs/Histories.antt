@@ -5,9 +5,9 @@ use Rattle.std.proofs.lemmas.List.{length-map, map_push}
 use Rattle.std.proofs.lemmas.Grind.{fold-append}
 use Rattle.febe_data.specs.declared.entry.Entry.{Entry}
 use Rattle.febe_data.specs.Plain.{PlainEntry, plain_entry, plain_history}
-use Rattle.flat_world.specs.FlatView.{view_of, after_entry, nothing_yet, entries_in}
-use Rattle.flat_world.specs.History.{is_live, live_after}
-use Rattle.flat_world.proofs.Folded.{counts_entries}
+use Rattle.world_rules.specs.FlatView.{view_of, after_entry, nothing_yet, entries_in}
+use Rattle.world_rules.specs.History.{is_live, live_after}
+use Rattle.world_rules.proofs.Folded.{counts_entries}
 use Rattle.green_store.specs.Sessions.{greatest_session}
 
 length-filter : {X : Type 0} (p : X → Bool) (xs : List X) → length (filter p xs) ≤ length xs

@@ -10,20 +10,20 @@ use Rattle.febe_data.specs.declared.request.Request.{Request}
 use Rattle.febe_data.specs.declared.request.Request.TheVariants as requests
 use Rattle.febe_data.specs.LimitsView.{LimitsView}
 use Rattle.febe_data.specs.Plain.{PlainRequest, insert, copy, rearrange, create, delete, version, quit, create_link, set_account, opens, closes, plain_request, PlainReply, plain_reply, refused, has_quit, PlainEntry}
-use Rattle.flat_world.specs.World.{World}
-use Rattle.flat_world.specs.Apply.{world_of}
-use Rattle.flat_world.specs.FlatView.{FlatView, view_of}
-use Rattle.flat_world.specs.History.{is_live, kept}
-use Rattle.flat_world.specs.Refusals.{wanted, opens_version}
-use Rattle.flat_world.specs.Effects.{Effect, effect, opening}
-use Rattle.flat_world.specs.Answers.{answer}
-use Rattle.flat_world.specs.Legal.{IsLegal, IsServed, wanted_after, entry_after}
-use Rattle.flat_world.specs.PlainEffect.{plain_effect}
-use Rattle.flat_world.specs.Served.{IsServedAs}
-use Rattle.flat_world.specs.declared.effects.Effect as coded
-use Rattle.flat_world.specs.declared.requests.Served.TheVariants.{Refused, Changed, Answered}
+use Rattle.world_rules.specs.World.{World}
+use Rattle.world_rules.specs.Apply.{world_of}
+use Rattle.world_rules.specs.FlatView.{FlatView, view_of}
+use Rattle.world_rules.specs.History.{is_live, kept}
+use Rattle.world_rules.specs.Refusals.{wanted, opens_version}
+use Rattle.world_rules.specs.Effects.{Effect, effect, opening}
+use Rattle.world_rules.specs.Answers.{answer}
+use Rattle.world_rules.specs.Legal.{IsLegal, IsServed, wanted_after, entry_after}
+use Rattle.world_rules.specs.PlainEffect.{plain_effect}
+use Rattle.world_rules.specs.Served.{IsServedAs}
+use Rattle.world_rules.specs.declared.effects.Effect as coded
+use Rattle.world_rules.specs.declared.requests.Served.TheVariants.{Refused, Changed, Answered}
 use Rattle.tumbler.specs.declared.memory.Memory.{Memory as NoMemory}
-use Rattle.flat_world.proofs.Folded.{folds_to_world, counts_kept}
+use Rattle.world_rules.proofs.Folded.{folds_to_world, counts_kept}
 use Rattle.green_store.specs.LeavesLive.{LeavesLive}
 use Rattle.green_store.specs.Sessions.{end_entry}
 use Rattle.green_store.specs.Steps.{Steps}

@@ -2,6 +2,6 @@ pub mod Histories
 pub mod Lives
 pub mod Stores
 pub mod Legals
-pub mod Valid
 pub mod Places
 pub mod Remaining
+pub mod Serials

@@ -5,9 +5,9 @@ use Rattle.std.specs.List.{fold, list_any}
 use Rattle.std.proofs.lemmas.Bool.{eqb-true, eq-eqb, or_left, or_right, or_cases, and_parts}
 use Rattle.std.proofs.lemmas.List.Folds.{list_any-append}
 use Rattle.febe_data.specs.Plain.{PlainChange, PlainEntry, restarted, began, ended}
-use Rattle.flat_world.specs.declared.rows.SessionRow.{SessionRow}
-use Rattle.flat_world.specs.FlatView.{FlatView, nothing_yet, after_entry, view_of, with_entry}
-use Rattle.flat_world.specs.History.{is_live, live_after}
+use Rattle.world_rules.specs.declared.rows.SessionRow.{SessionRow}
+use Rattle.world_rules.specs.FlatView.{FlatView, nothing_yet, after_entry, view_of, with_entry}
+use Rattle.world_rules.specs.History.{is_live, live_after}
 use Rattle.green_store.specs.Sessions.{greatest_session}
 
 -- ---- what a live session has

@@ -5,13 +5,13 @@ use Rattle.std.proofs.lemmas.List.{append-nil}
 use Rattle.febe_data.specs.declared.refusal.Refusal.{Refusal}
 use Rattle.febe_data.specs.LimitsView.{LimitsView}
 use Rattle.febe_data.specs.Plain.{PlainRequest, PlainReply, PlainEntry}
-use Rattle.flat_world.specs.World.{World, empty_world}
-use Rattle.flat_world.specs.Apply.{apply, world_of}
-use Rattle.flat_world.specs.History.{kept}
-use Rattle.flat_world.specs.Effects.{Effect, effect}
-use Rattle.flat_world.specs.Legal.{IsLegal, IsServed, IsRefused, IsAnswered, IsDone, IsDiskFault, wanted_after, entry_after}
-use Rattle.flat_world.specs.Laws.{IsPlaced, AllPlaced}
-use Rattle.flat_world.proofs.Placed.{served_is_placed}
+use Rattle.world_rules.specs.World.{World, empty_world}
+use Rattle.world_rules.specs.Apply.{apply, world_of}
+use Rattle.world_rules.specs.History.{kept}
+use Rattle.world_rules.specs.Effects.{Effect, effect}
+use Rattle.world_rules.specs.Legal.{IsLegal, IsServed, IsRefused, IsQueryAnswered, IsDone, IsDiskFault, wanted_after, entry_after}
+use Rattle.world_rules.specs.Placed.{IsPlaced, AllPlaced}
+use Rattle.world_rules.proofs.Placed.{served_is_placed}
 use Rattle.febe_data.specs.Plain.{plain_request, plain_reply}
 use Rattle.green_store.specs.declared.step.Step.TheVariants as steps
 use Rattle.green_store.specs.declared.step.StepAnswer.TheVariants as answers
@@ -32,7 +32,7 @@ by_none h added p e = subst (GoOn h) (sym e) (subst (AllPlaced empty_world) (sym
 
 by_served : (limits : LimitsView) (session : ℕ) (h : List PlainEntry) (request : PlainRequest) (reply : PlainReply) (added : List PlainEntry) (made : Option Effect) → AllPlaced empty_world h
     → wanted_after limits h session request ≡ None → effect (world_of h) session request ≡ made
-    → MatchOption made (IsAnswered h request reply added) (λ m. IsDone h session m reply added ⊎ IsDiskFault m reply added false) → GoOn h added
+    → MatchOption made (IsQueryAnswered h request reply added) (λ m. IsDone h session m reply added ⊎ IsDiskFault m reply added false) → GoOn h added
 by_served limits session h request reply added None p none e a = by_none h added p a.nothing
 by_served limits session h request reply added (Some m) p none e (inl a) =
     subst (GoOn h) (sym a.entry) (placed_push empty_world h (entry_after h session m) p (served_is_placed limits (length (kept h)) (world_of h) session request m none e))

@@ -5,10 +5,10 @@ use Rattle.std.proofs.lemmas.List.{append-nil}
 use Rattle.febe_data.specs.declared.refusal.Refusal.{Refusal}
 use Rattle.febe_data.specs.LimitsView.{LimitsView}
 use Rattle.febe_data.specs.Plain.{PlainRequest, quit, PlainReply, PlainEntry}
-use Rattle.flat_world.specs.Apply.{world_of}
-use Rattle.flat_world.specs.History.{is_live}
-use Rattle.flat_world.specs.Effects.{Effect, effect}
-use Rattle.flat_world.specs.Legal.{IsLegal, IsServed, IsRefused, IsAnswered, IsDone, IsDiskFault, wanted_after, entry_after}
+use Rattle.world_rules.specs.Apply.{world_of}
+use Rattle.world_rules.specs.History.{is_live}
+use Rattle.world_rules.specs.Effects.{Effect, effect}
+use Rattle.world_rules.specs.Legal.{IsLegal, IsServed, IsRefused, IsQueryAnswered, IsDone, IsDiskFault, wanted_after, entry_after}
 use Rattle.green_store.proofs.Histories.{is_live-push}
 use Rattle.green_store.proofs.Legals.{leaves_live}
 
@@ -25,7 +25,7 @@ module _ (limits : LimitsView) (session : ℕ) (h : List PlainEntry) (request : 
       ap (λ (x : List PlainEntry). is_live (h ++ x) session) is ∙ is_live-push h entry session ∙ leaves_live (world_of h) session request made asks e session (is_live h session) session entry.serial ∙ live
 
   by_served : (made : Option Effect) → effect (world_of h) session request ≡ made
-      → MatchOption made (IsAnswered h request reply added) (λ m. IsDone h session m reply added ⊎ IsDiskFault m reply added false) → GoesOn h session added
+      → MatchOption made (IsQueryAnswered h request reply added) (λ m. IsDone h session m reply added ⊎ IsDiskFault m reply added false) → GoesOn h session added
   by_served None e a = by_none a.nothing
   by_served (Some m) e (inl a) = by_done m e a.entry
   by_served (Some m) e (inr a) = by_none a.nothing

@@ -3,7 +3,7 @@ use Rattle.std.specs.Prelude.{◌≡◌, ◌⊎◌, ℕ, ◌+◌, ◌<◌, ◌^�
 use Rattle.febe_data.specs.declared.refusal.Refusal.TheVariants.{Memory}
 use Rattle.febe_data.specs.Plain.{PlainRequest, plain_request, PlainReply, plain_reply, refused}
 use Rattle.febe_data.specs.Validity.{IsRequest, IsReply}
-use Rattle.flat_world.specs.History.{is_live}
+use Rattle.world_rules.specs.History.{is_live}
 use Rattle.green_store.specs.declared.step.Step.{Step}
 use Rattle.green_store.specs.declared.step.Step.TheVariants as steps
 use Rattle.green_store.specs.declared.step.StepAnswer.{StepAnswer}
@@ -38,15 +38,15 @@ pub record IsNotLive (before : StoreView) (session : ℕ) (after : StoreView) : 
   pub stays : after ≡ before
 
 -- the request can't be spelled: it is refused as if there were no memory, and nothing changed
-pub record IsTurnedDown (before : StoreView) (reply : PlainReply) (after : StoreView) : Type 0 where
+pub record IsRefusedAsInvalid (before : StoreView) (reply : PlainReply) (after : StoreView) : Type 0 where
   pub reply_is : reply ≡ refused Memory
   pub stays : after ≡ before
 
--- a valid request is replied to by a legal step, and one that is not valid is turned down
+-- a valid request is replied to by a legal step, and one that is not valid is refused
 abbrev pub IsGiven : StoreView → ℕ → PlainRequest → PlainReply → StoreView → Type 0
 IsGiven before session request reply after =
     (IsRequest request × Steps before.limits session before.history request reply after.history false)
-    ⊎ ((¬ IsRequest request) × IsTurnedDown before reply after)
+    ⊎ ((¬ IsRequest request) × IsRefusedAsInvalid before reply after)
 
 -- The live session's request has this reply, with the number of entries after it: by a legal step where the
 -- request is valid.

@@ -1,6 +1,7 @@
 -- What holds of the histories of all stores.
-use Rattle.flat_world.specs.World.{empty_world}
-use Rattle.flat_world.specs.Laws.{AllPlaced}
+use Rattle.world_rules.specs.World.{empty_world}
+use Rattle.world_rules.specs.Placed.{AllPlaced}
+use Rattle.world_rules.specs.Serials.{SerialsCount}
 use Rattle.green_store.specs.declared.step.Step.{Step}
 use Rattle.green_store.specs.declared.step.StepAnswer.{StepAnswer}
 use Rattle.green_store.specs.IsStep.{IsStep}
@@ -11,3 +12,8 @@ use Rattle.green_store.specs.StoreView.{StoreView}
 abbrev pub StepsStayPlaced : Type 0
 StepsStayPlaced = (before after : StoreView) (step : Step) (answer : StepAnswer) → AllPlaced empty_world before.history
     → IsStep before step after answer → AllPlaced empty_world after.history
+
+-- And they leave the serials of each session that began after the last restart counting its entries from 1.
+abbrev pub StepsCount : Type 0
+StepsCount = (before after : StoreView) (step : Step) (answer : StepAnswer) → SerialsCount before.history
+    → IsStep before step after answer → SerialsCount after.history

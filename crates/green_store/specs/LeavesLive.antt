@@ -1,7 +1,7 @@
 -- Changes that are neither the begin nor the end of a session, nor a restart.
 use Rattle.std.specs.Prelude.{◌≡◌, ℕ, Bool}
 use Rattle.febe_data.specs.Plain.{PlainChange}
-use Rattle.flat_world.specs.History.{live_after}
+use Rattle.world_rules.specs.History.{live_after}
 
 -- whatever session makes the change, each session is live after it that was live before it, and no other
 abbrev pub LeavesLive : PlainChange → Type 0

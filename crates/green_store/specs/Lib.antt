@@ -1,10 +1,10 @@
 pub use Rattle.febe_data.specs.LimitsView
 pub use Rattle.febe_data.specs.Plain
 pub use Rattle.febe_data.specs.Validity
-pub use Rattle.flat_world.specs.Apply
-pub use Rattle.flat_world.specs.History
-pub use Rattle.flat_world.specs.Holding
-pub use Rattle.flat_world.specs.Legal
+pub use Rattle.world_rules.specs.Apply
+pub use Rattle.world_rules.specs.History
+pub use Rattle.world_rules.specs.Holding
+pub use Rattle.world_rules.specs.Legal
 pub mod Sessions
 pub mod Steps
 pub mod StoreView

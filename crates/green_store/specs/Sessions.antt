@@ -2,7 +2,7 @@
 use Rattle.std.specs.Prelude.{ℕ, max, List}
 use Rattle.std.specs.List.{fold}
 use Rattle.febe_data.specs.Plain.{PlainEntry, began, ended}
-use Rattle.flat_world.specs.History.{next_serial}
+use Rattle.world_rules.specs.History.{next_serial}
 
 -- the greatest session number in a history; 0 where there is no entry of a session
 abbrev pub greatest_session : List PlainEntry → ℕ

@@ -6,7 +6,6 @@ mod step;
 mod store;
 #[cfg(test)]
 mod tests;
-mod validity;
 
 pub use step::{Step, StepAnswer};
-pub use store::Store;
+pub use store::{Store, StoreOver};

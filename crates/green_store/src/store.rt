@@ -3,17 +3,18 @@ ghost use Rattle.std.specs.Prelude.{◌≡◌, ◌≢◌, ◌+◌, ◌==◌, [],
 ghost use Rattle.std.specs.List.{list_any};
 
 use crate::step::{Step, StepAnswer};
-use crate::validity::is_valid;
 use febe_data::{Change, Entry, Limits, List, Memory, Refusal, Reply, Request, Tumbler};
-use flat_world::{Effect, FlatWorld, Served};
+use flat_world::FlatWorld;
 use std::alloc::Global;
 use std::marker::Model;
+use world_rules::{Applies, Effect, Served};
 
-/// A history that begins with a restart, and the world that it has built, to which each entry is applied once.
+/// A history that begins with a restart, and the world that it has built, to which each entry is applied once. Any world
+/// serves that entries change and that answers what requests look up.
 #[derive(Drop)]
-pub struct Store {
+pub struct StoreOver<W: Applies> {
     history: List<Entry>,
-    world: FlatWorld,
+    world: W,
     /// The live sessions. The history has room for the end of each.
     live: List<u64>,
     /// The greatest session number of the history.
@@ -21,7 +22,10 @@ pub struct Store {
     limits: Limits,
 }
 
-impl Model for Store {
+/// The store of a back end that keeps its world as plain lists.
+pub type Store = StoreOver<FlatWorld>;
+
+impl<W: Applies> Model for StoreOver<W> {
     ghost use Rattle.febe_data.specs.Plain.{plain_history};
     ghost use Rattle.green_store.specs.StoreView.{StoreView};
     ghost use Rattle.green_store.specs.IsStore.{IsStore};
@@ -30,19 +34,33 @@ impl Model for Store {
 
     ghost view = { λ s. record { history = plain_history s.history.items; limits = s.limits } };
 
-    ghost invariant = { λ s. IsStore (plain_history s.history.items) s.history.spare s.world s.live.items s.greatest };
+    ghost invariant = { λ s. IsStore (plain_history s.history.items) s.history.spare (W.stands s.world) s.live.items s.greatest };
 }
 
-impl Store {
-    ghost use Rattle.febe_data.specs.Plain.{plain_history};
-    ghost use Rattle.flat_world.specs.Apply.{world_of};
-    ghost use Rattle.flat_world.specs.History.{restart_entry};
-    ghost use Rattle.flat_world.specs.Holding.{holder};
-    ghost use Rattle.green_store.specs.IsStep.{IsStep};
+impl StoreOver<FlatWorld> {
+    ghost use Rattle.world_rules.specs.History.{restart_entry};
 
     /// A store of a back end that has just begun.
-    #[tactic(auto, using(crate::proofs::Histories::histories))]
     pub fn fresh(alloc: Global, limits: Limits) -> Result<Store, Memory>
+        ensures history { IfOk result (λ store. store.history ≡ restart_entry ∷ []) }
+        ensures limits { IfOk result (λ store. store.limits ≡ limits) }
+    {
+        StoreOver::over(alloc, FlatWorld::new(alloc), limits)
+    }
+}
+
+impl<W: Applies + Drop> StoreOver<W> {
+    ghost use Rattle.febe_data.specs.Plain.{plain_history};
+    ghost use Rattle.world_rules.specs.Apply.{world_of};
+    ghost use Rattle.world_rules.specs.FlatView.{nothing_yet};
+    ghost use Rattle.world_rules.specs.History.{restart_entry};
+    ghost use Rattle.world_rules.specs.Holding.{holder};
+    ghost use Rattle.green_store.specs.IsStep.{IsStep};
+
+    /// A store of a back end that has just begun, over a world that no entry has changed yet.
+    #[tactic(auto, using(crate::proofs::Histories::histories))]
+    pub fn over(alloc: Global, mut world: W, limits: Limits) -> Result<StoreOver<W>, Memory>
+        requires { W.stands world nothing_yet }
         ensures history { IfOk result (λ store. store.history ≡ restart_entry ∷ []) }
         ensures limits { IfOk result (λ store. store.limits ≡ limits) }
     {
@@ -52,10 +70,9 @@ impl Store {
             change: Change::Restart,
         };
         let mut history = List::new(alloc);
-        let mut world = FlatWorld::new(alloc);
         world.apply(alloc, &restart)?;
         history.push(restart)?;
-        Ok(Store {
+        Ok(StoreOver {
             history,
             world,
             live: List::new(alloc),
@@ -104,20 +121,20 @@ fn is_in(live: &[u64], session: u64) -> bool
     live.iter().any(|other| *other == session)
 }
 
-/// The others stay, in their order.
-fn leave(live: &mut List<u64>, session: u64)
+/// Takes the session out. The others stay, in their order.
+fn remove(live: &mut List<u64>, session: u64)
     ensures { live.new.items ≡ filter (λ s. not (s == session)) live.old.items }
 {
     live.retain(|other| *other != session);
 }
 
 #[tactic(auto, using(crate::proofs::Histories::histories))]
-impl Store {
+impl<W: Applies + Drop> StoreOver<W> {
     ghost use Rattle.febe_data.specs.Plain.{plain_request, plain_reply, plain_change};
     ghost use Rattle.febe_data.specs.Validity.{IsRequest, IsReply};
-    ghost use Rattle.flat_world.specs.History.{is_live};
-    ghost use Rattle.flat_world.specs.Legal.{entry_after};
-    ghost use Rattle.flat_world.specs.PlainEffect.{plain_effect};
+    ghost use Rattle.world_rules.specs.History.{is_live};
+    ghost use Rattle.world_rules.specs.Legal.{entry_after};
+    ghost use Rattle.world_rules.specs.PlainEffect.{plain_effect};
     ghost use Rattle.green_store.specs.Sessions.{greatest_session, begin_entry, end_entry};
     ghost use Rattle.green_store.specs.Steps.{Steps};
     ghost use Rattle.green_store.specs.StoreView.{with_one};
@@ -204,7 +221,7 @@ impl Store {
         };
         let _ = self.world.apply(alloc, &end);
         self.history.push_reserved(end);
-        leave(&mut self.live, session);
+        remove(&mut self.live, session);
     }
 
     /// The reply to a request of a live session. Only a quit ends the session.
@@ -218,7 +235,7 @@ impl Store {
             self.add_end(alloc, session);
             return Reply::Quit;
         }
-        if !is_valid(request) {
+        if !request.is_valid() {
             return Reply::Refused(Refusal::Memory);
         }
         match self.serve(alloc, session, request) {
@@ -236,7 +253,7 @@ impl Store {
         ensures steps { IfOk result (λ reply. Steps self.old.limits session self.old.history (plain_request request.now) (plain_reply reply) self.new.history false) }
         ensures err { OnErr result (self.new ≡ self.old) }
     {
-        match self.world.serve(alloc, session, request, &self.limits)? {
+        match world_rules::serve(&self.world, alloc, session, request, &self.limits)? {
             Served::Refused(refusal) => Ok(Reply::Refused(refusal)),
             Served::Answered(reply) => Ok(reply),
             Served::Changed(made) => self.make(alloc, session, made),

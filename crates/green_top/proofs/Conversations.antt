@@ -1,35 +1,40 @@
 -- A session's requests are answered one after the other.
-use Rattle.std.proofs.Common.{◌≡◌, ◌≢◌, ℕ, zero, suc, take, ◌+◌, ◌-◌, ◌^◌, ◌≤◌, ◌<◌, true, List, [], ◌∷◌, ◌++◌, length, Option, Some, None, refl, ap, ◌∙◌, sym, subst, inl, inr, arith, le_trans, le_refl, append_assoc}
+use Rattle.std.proofs.Common.{◌≡◌, ◌≢◌, ℕ, zero, suc, take, ◌+◌, ◌-◌, ◌^◌, ◌≤◌, ◌<◌, true, false, List, [], ◌∷◌, ◌++◌, length, Option, Some, None, refl, ap, ◌∙◌, sym, subst, inl, inr, arith, le_trans, le_refl, append_assoc}
 use Rattle.std.specs.Prelude.{codes}
 use Rattle.std.specs.List.{flat_map}
 use Rattle.std.specs.Io.KnownBytes.{Appends}
+use Rattle.std.proofs.lemmas.Bool.{eq-eqb}
 use Rattle.std.proofs.lemmas.List.{append-nil, length-append, length-drop}
+use Rattle.std.proofs.lemmas.Grind.{fold-append}
 use Rattle.febe_data.specs.LimitsView.{LimitsView}
 use Rattle.febe_data.specs.Plain.{PlainRequest, quit, PlainEntry}
-use Rattle.febe_fields.specs.Prefixes.{BeginsWithNone}
+use Rattle.febe_fields.specs.Prefixes.{HasNoSpelledPrefix}
 use Rattle.febe_wire.specs.Grammar.{spell_request, IsSpelled}
 use Rattle.febe_wire.specs.Sessions.{greeting, QuitsLast, EndsInQuit}
-use Rattle.febe_feed.specs.FeedView.{FeedView, Waits, later}
+use Rattle.febe_feed.specs.FeedView.{with_piece, FeedView, Waits, later}
 use Rattle.febe_feed.specs.Pieces.{HasGiven, given_bytes}
 use Rattle.febe_feed.specs.Inputs.{NoQuits, IsOpenInput}
 use Rattle.febe_wire.proofs.RequestLaws.{spelling_filled}
-use Rattle.febe_feed.proofs.Pieces.{gives_on}
+use Rattle.febe_feed.proofs.Pieces.{push_goes_on, gives_on}
 use Rattle.febe_feed.proofs.Inputted.{waiting_is_open, waiting_is_truncated, given_is_input}
 use Rattle.febe_feed.proofs.Malformed.{wrong_is_malformed}
-use Rattle.green_session.specs.Taking.{TurnsView, with_bytes, with_taken, MayRead}
+use Rattle.green_session.specs.Taking.{TurnsView, with_taken, ReadsBytes, MayRead}
 use Rattle.green_session.specs.Putting.{IsPut}
 use Rattle.green_session.specs.declared.put.Put.{Put}
-use Rattle.green_session.specs.declared.put.Put.TheVariants as puts
+use Rattle.green_session.specs.declared.put.Put.TheVariants as put_results
 use Rattle.green_session.specs.declared.take.Taken.{Taken}
-use Rattle.green_session.specs.declared.take.Taken.TheVariants as takens
+use Rattle.green_session.specs.declared.take.Taken.TheVariants as take_answers
 use Rattle.green_top.specs.declared.session_end.SessionEnd.{SessionEnd}
 use Rattle.green_top.specs.declared.session_end.SessionEnd.TheVariants as ends
-use Rattle.green_top.specs.Outside.{Outside, outside, Moves}
-use Rattle.green_top.specs.Requests.{BeginWithRequests, AreWholeRequests}
-use Rattle.green_top.specs.Ends.{most_input, Cause, HowFar}
-use Rattle.green_top.specs.Progress.{Happened, Progress}
-use Rattle.green_top.specs.Conversation.{Stand, stand, TakesIn, IsAsked, IsNotAsked, IsRound, HasBegun, all_read, IsConversing, IsConversed}
-use Rattle.green_top.proofs.Fronts.{consumes_more, consumes_nothing, appends_nothing, appends_both, risen_since}
+use Rattle.green_top.specs.IoState.{IoState, io_state, Moves}
+use Rattle.green_top.specs.Requests.{HasRequestPrefix, AreWholeRequests}
+use Rattle.green_top.specs.Ends.{most_input, Cause, AnsweredAndWritten}
+use Rattle.green_top.specs.inside.Progress.{AnswersAndWrites, Progress}
+use Rattle.green_top.specs.inside.Conversation.{SessionState, session_state, reading, answering, IsAsked, IsNotAsked, IsRound, HasBegun, all_read, IsConversing, IsConversed}
+use Rattle.world_rules.specs.History.{is_live, live_after}
+use Rattle.green_store.specs.Sessions.{begin_entry}
+use Rattle.green_top.specs.inside.Opening.{Begins}
+use Rattle.green_top.proofs.Streams.{consumes_more, consumes_nothing, appends_nothing, appends_both, risen_since}
 use Rattle.green_top.proofs.Progresses.{progress_begins, progress_goes_on}
 
 -- ---- quits
@@ -53,25 +58,17 @@ ends_in_quit [] = refl
 ends_in_quit (q ∷ []) = refl
 ends_in_quit (q ∷ p ∷ rs) = ends_in_quit (p ∷ rs)
 
--- ---- what was given, once more was read
+-- ---- what was given
 
-given_more : (stream more : List ℕ) (rs : List PlainRequest) (feed : FeedView) → HasGiven stream rs feed → HasGiven (stream ++ more) rs (with_bytes feed more)
-given_more stream more rs feed h = record {
-  parts = ap (λ (bytes : List ℕ). bytes ++ more) h.parts ∙ append_assoc (given_bytes feed.greeted rs) feed.held more;
-  valid = h.valid;
-  none = h.none;
-  place = h.place;
-}
-
-begins_with : (stream : List ℕ) (rs : List PlainRequest) (feed : FeedView) → HasGiven stream rs feed → feed.greeted ≡ true → QuitsLast rs → BeginWithRequests stream rs
-begins_with stream rs feed h greeted last = record {
+request_prefix : (stream : List ℕ) (rs : List PlainRequest) (feed : FeedView) → HasGiven stream rs feed → feed.greeted ≡ true → QuitsLast rs → HasRequestPrefix stream rs
+request_prefix stream rs feed h greeted last = record {
   rest = feed.held;
   spelled = (rw greeted at h.parts) ∙ append_assoc greeting (flat_map spell_request rs) feed.held;
   valid = h.valid;
   quits_last = last;
 }
 
-pub moves_both : (a b c : Outside) (r s w v : List ℕ) → Moves a b r w → Moves b c s v → Moves a c (r ++ s) (w ++ v)
+pub moves_both : (a b c : IoState) (r s w v : List ℕ) → Moves a b r w → Moves b c s v → Moves a c (r ++ s) (w ++ v)
 moves_both a b c r s w v p q = record {
   consumed = consumes_more a.left b.left c.left r s p.consumed q.consumed;
   appended = appends_both a.taken b.taken c.taken w v p.appended q.appended;
@@ -81,12 +78,16 @@ moves_both a b c r s w v p q = record {
 
 -- ---- the greeting
 
-module _ (limits : LimitsView) (h : List PlainEntry) (points : List ℕ) (feed : FeedView) (turns : TurnsView) (left : Option (List ℕ)) (source_faults : ℕ) (taken taken' : Option (List ℕ)) (faults faults' : ℕ)
-    (begun : HasBegun (stand h points feed turns (outside left source_faults taken faults))) where
-  abbrev start : Stand
-  start = stand h points feed turns (outside left source_faults taken faults)
+live_from_begin : (session : ℕ) (opened h : List PlainEntry) → Begins session opened h → is_live h session ≡ true
+live_from_begin session opened h b =
+    ap (λ (x : List PlainEntry). is_live x session) b.grows ∙ fold-append (live_after session) false opened (begin_entry session ∷ []) ∙ rw (eq-eqb session session refl) refl
 
-  put_only : (written : List ℕ) → Appends taken taken' written → faults ≤ faults' → Moves (outside left source_faults taken faults) (outside left source_faults taken' faults') [] written
+module _ (limits : LimitsView) (session : ℕ) (h : List PlainEntry) (points : List ℕ) (feed : FeedView) (turns : TurnsView) (left : Option (List ℕ)) (source_faults : ℕ) (taken taken' : Option (List ℕ)) (faults faults' : ℕ)
+    (begun : HasBegun session (session_state h points feed turns (io_state left source_faults taken faults))) where
+  abbrev start : SessionState
+  start = session_state h points feed turns (io_state left source_faults taken faults)
+
+  put_only : (written : List ℕ) → Appends taken taken' written → faults ≤ faults' → Moves (io_state left source_faults taken faults) (io_state left source_faults taken' faults') [] written
   put_only written appended rises = record {
     consumed = consumes_nothing left;
     appended = appended;
@@ -105,10 +106,10 @@ module _ (limits : LimitsView) (h : List PlainEntry) (points : List ℕ) (feed :
   same_length : length (greeting ++ feed.held) ≡ length ((greeting ++ feed.held) ++ [])
   same_length = ap length (sym (append-nil (greeting ++ feed.held)))
 
-  just_begun : Progress limits h points [] (codes "P0~")
-  just_begun = rw (begun.history_is, begun.no_points) (progress_begins limits)
+  just_begun : Progress limits session h h points [] (codes "P0~")
+  just_begun = rw begun.no_points (progress_begins limits session begun.opened h begun.begins)
 
-  pub starts : IsPut taken taken' faults faults' (codes "P0~") puts.Done → IsConversing limits start (stand h points feed turns (outside left source_faults taken' faults'))
+  pub starts : IsPut taken taken' faults faults' (codes "P0~") put_results.Done → IsConversing limits session start (session_state h points feed turns (io_state left source_faults taken' faults'))
   starts put = record {
     read = [];
     written = codes "P0~";
@@ -120,10 +121,10 @@ module _ (limits : LimitsView) (h : List PlainEntry) (points : List ℕ) (feed :
     turns_are = begun.greeted.turns_are ∙ ap (λ (n : ℕ). record { limit = most_input; taken = n }) same_length;
     within = omega (arith, same_length, begun.greeted.within);
     progress = just_begun;
-    live = rw begun.history_is refl;
+    live = live_from_begin session begun.opened h begun.begins;
   }
 
-  pub greeting_fails : IsPut taken taken' faults faults' (codes "P0~") puts.WriteFault → IsConversed limits start (stand h points feed turns (outside left source_faults taken' faults')) ends.WriteFault
+  pub greeting_fails : IsPut taken taken' faults faults' (codes "P0~") put_results.WriteFault → IsConversed limits session start (session_state h points feed turns (io_state left source_faults taken' faults')) ends.WriteFault
   greeting_fails put = record {
     read = [];
     written = put.written;
@@ -134,13 +135,13 @@ module _ (limits : LimitsView) (h : List PlainEntry) (points : List ℕ) (feed :
     within = omega (arith, same_length, begun.greeted.within);
     progress = just_begun;
     cause = put.put;
-    how_far = (begins_with ((greeting ++ feed.held) ++ []) [] feed given_none begun.greeted.greeted tt, (put.rest, put.front));
+    answered_and_written = (request_prefix ((greeting ++ feed.held) ++ []) [] feed given_none begun.greeted.greeted tt, (put.rest, put.prefix));
   }
 
 -- ---- a round
 
-module _ (limits : LimitsView) (start now after : Stand) (c : IsConversing limits start now) where
-  module _ (r : List ℕ) (t : TakesIn now after r) where
+module _ (limits : LimitsView) (session : ℕ) (start now after : SessionState) (c : IsConversing limits session start now) where
+  module _ (r : List ℕ) (t : ReadsBytes (reading now) (reading after) r) where
     abbrev stream : List ℕ
     stream = all_read start (c.read ++ r)
 
@@ -167,18 +168,18 @@ module _ (limits : LimitsView) (start now after : Stand) (c : IsConversing limit
         let n : later (length (all_read start c.read)) (length r) ≡ length stream = omega (arith, longer, bounded) in
         t.counted ∙ ap (λ (x : TurnsView). with_taken x (length r)) c.turns_are ∙ ap (λ (n : ℕ). record { limit = most_input; taken = n }) n
 
-    given : HasGiven stream c.requests (with_bytes now.feed r)
-    given = subst (λ (bytes : List ℕ). HasGiven bytes c.requests (with_bytes now.feed r)) (sym stream_is) (given_more (all_read start c.read) r c.requests now.feed c.given)
+    given : HasGiven stream c.requests (with_piece now.feed r)
+    given = subst (λ (bytes : List ℕ). HasGiven bytes c.requests (with_piece now.feed r)) (sym stream_is) (push_goes_on (all_read start c.read) r c.requests now.feed c.given)
 
-    front : BeginWithRequests stream c.requests
-    front = begins_with stream c.requests (with_bytes now.feed r) given c.greeted (none_quits c.requests c.no_quits)
+    prefix : HasRequestPrefix stream c.requests
+    prefix = request_prefix stream c.requests (with_piece now.feed r) given c.greeted (none_quits c.requests c.no_quits)
 
-    whole : BeginsWithNone IsSpelled (now.feed.held ++ r) → AreWholeRequests stream c.requests
-    unfolding front begins_with
-    whole none = record { front = front; whole = inr none }
+    whole : HasNoSpelledPrefix IsSpelled (now.feed.held ++ r) → AreWholeRequests stream c.requests
+    unfolding prefix request_prefix
+    whole none = record { prefix = prefix; whole = inr none }
 
-    taking : (written : List ℕ) → Appends now.outside.taken after.outside.taken written → now.outside.sink_faults ≤ after.outside.sink_faults → Moves start.outside after.outside (c.read ++ r) (c.written ++ written)
-    taking written appended rises = moves_both start.outside now.outside after.outside c.read r c.written written c.moves (record {
+    taking : (written : List ℕ) → Appends now.io.taken after.io.taken written → now.io.sink_faults ≤ after.io.sink_faults → Moves start.io after.io (c.read ++ r) (c.written ++ written)
+    taking written appended rises = moves_both start.io now.io after.io c.read r c.written written c.moves (record {
       consumed = t.consumed;
       appended = appended;
       source_never_falls = t.never_falls;
@@ -194,100 +195,99 @@ module _ (limits : LimitsView) (start now after : Stand) (c : IsConversing limit
 
   -- ---- a request came
 
-  module _ (request : PlainRequest) (put : Put) (a : IsAsked limits now after request put) where
+  module _ (request : PlainRequest) (put : Put) (a : IsAsked limits session now after request put) where
     abbrev asked_stream : List ℕ
-    asked_stream = stream a.read a.takes
+    asked_stream = stream a.read a.reads
 
     given_one : HasGiven asked_stream (c.requests ++ request ∷ []) after.feed
-    given_one = (gives_on asked_stream c.requests (with_bytes now.feed a.read) after.feed (given a.read a.takes)).1 request a.gives
+    given_one = (gives_on asked_stream c.requests (with_piece now.feed a.read) after.feed (given a.read a.reads)).1 request a.gives
 
     still_greeted : after.feed.greeted ≡ true
     still_greeted = ap (λ (f : FeedView). f.greeted) a.gives.after_is
 
-    one_more : BeginWithRequests asked_stream (c.requests ++ request ∷ [])
-    one_more = begins_with asked_stream (c.requests ++ request ∷ []) after.feed given_one still_greeted (last_may_quit c.requests request c.no_quits)
+    one_more : HasRequestPrefix asked_stream (c.requests ++ request ∷ [])
+    one_more = request_prefix asked_stream (c.requests ++ request ∷ []) after.feed given_one still_greeted (last_may_quit c.requests request c.no_quits)
 
-    answered : (h : Happened limits now.history now.points request after.history after.points now.outside.taken after.outside.taken now.outside.sink_faults after.outside.sink_faults put)
-        → Progress limits after.history after.points (c.requests ++ request ∷ []) (c.written ++ h.output)
-    answered h = progress_goes_on limits now.history now.points c.requests c.written request after.history after.points h.output c.progress h.answers
+    answered : (h : AnswersAndWrites limits session (answering now) (answering after) request put) → Progress limits session start.history after.history after.points (c.requests ++ request ∷ []) (c.written ++ h.output)
+    answered h = progress_goes_on limits session start.history now.history now.points c.requests c.written c.progress request h.output (answering now) (answering after) refl refl h.answers
 
-  pub goes_on : IsRound limits now after None → IsConversing limits start after
+  pub goes_on : IsRound limits session now after None → IsConversing limits session start after
   goes_on ((request, no_quit, a), live) = elim a.answered [
     | inl h ↦ record {
       read = c.read ++ a.read;
       written = c.written ++ h.output;
       requests = c.requests ++ request ∷ [];
-      moves = taking a.read a.takes h.output (subst (λ (w : List ℕ). Appends now.outside.taken after.outside.taken w) h.put.put h.put.appended) h.put.never_falls;
-      given = given_one request puts.Done a;
-      greeted = still_greeted request puts.Done a;
+      moves = taking a.read a.reads h.output (subst (λ (w : List ℕ). Appends now.io.taken after.io.taken w) h.put.put h.put.appended) h.put.never_falls;
+      given = given_one request put_results.Done a;
+      greeted = still_greeted request put_results.Done a;
       no_quits = push_no_quit c.requests request c.no_quits no_quit;
-      turns_are = counts a.read a.takes;
-      within = bounded a.read a.takes;
-      progress = answered request puts.Done a h;
+      turns_are = counts a.read a.reads;
+      within = bounded a.read a.reads;
+      progress = answered request put_results.Done a h;
       live = live;
     }
     | inr s ↦ absurd (let e = s.memory in cc)
   ]
 
-  quits : IsAsked limits now after quit puts.Done → IsConversed limits start after ends.Quit
+  quits : IsAsked limits session now after quit put_results.Done → IsConversed limits session start after ends.Quit
   quits a = elim a.answered [
     | inl h ↦ record {
       read = c.read ++ a.read;
       written = c.written ++ h.output;
       answered = c.requests ++ quit ∷ [];
       output = c.written ++ h.output;
-      moves = taking a.read a.takes h.output (subst (λ (w : List ℕ). Appends now.outside.taken after.outside.taken w) h.put.put h.put.appended) h.put.never_falls;
-      counted = ap (λ (x : TurnsView). x.taken) (counts a.read a.takes);
-      within = bounded a.read a.takes;
-      progress = answered quit puts.Done a h;
+      moves = taking a.read a.reads h.output (subst (λ (w : List ℕ). Appends now.io.taken after.io.taken w) h.put.put h.put.appended) h.put.never_falls;
+      counted = ap (λ (x : TurnsView). x.taken) (counts a.read a.reads);
+      within = bounded a.read a.reads;
+      progress = answered quit put_results.Done a h;
       cause = tt;
-      how_far = (record { front = one_more quit puts.Done a; whole = inl (ends_in_quit c.requests) }, ends_in_quit c.requests, refl);
+      answered_and_written = (record { prefix = one_more quit put_results.Done a; whole = inl (ends_in_quit c.requests) }, ends_in_quit c.requests, refl);
     }
     | inr s ↦ absurd (let e = s.memory in cc)
   ]
 
-  write_fails : (request : PlainRequest) → IsAsked limits now after request puts.WriteFault → IsConversed limits start after ends.WriteFault
+  write_fails : (request : PlainRequest) → IsAsked limits session now after request put_results.WriteFault → IsConversed limits session start after ends.WriteFault
   write_fails request a = elim a.answered [
     | inl h ↦ record {
       read = c.read ++ a.read;
       written = c.written ++ h.put.written;
       answered = c.requests ++ request ∷ [];
       output = c.written ++ h.output;
-      moves = taking a.read a.takes h.put.written h.put.appended h.put.never_falls;
-      counted = ap (λ (x : TurnsView). x.taken) (counts a.read a.takes);
-      within = bounded a.read a.takes;
-      progress = answered request puts.WriteFault a h;
-      cause = risen_since start.outside.sink_faults now.outside.sink_faults after.outside.sink_faults c.moves.sink_never_falls h.put.put;
-      how_far = (one_more request puts.WriteFault a, (h.put.rest, ap (λ (w : List ℕ). c.written ++ w) h.put.front ∙ sym (append_assoc c.written h.put.written h.put.rest)));
+      moves = taking a.read a.reads h.put.written h.put.appended h.put.never_falls;
+      counted = ap (λ (x : TurnsView). x.taken) (counts a.read a.reads);
+      within = bounded a.read a.reads;
+      progress = answered request put_results.WriteFault a h;
+      cause = risen_since start.io.sink_faults now.io.sink_faults after.io.sink_faults c.moves.sink_never_falls h.put.put;
+      answered_and_written = (one_more request put_results.WriteFault a, (h.put.rest, ap (λ (w : List ℕ). c.written ++ w) h.put.prefix ∙ sym (append_assoc c.written h.put.written h.put.rest)));
     }
     | inr s ↦ absurd (let e = s.memory in cc)
   ]
 
-  no_memory_to_reply : (request : PlainRequest) → IsAsked limits now after request puts.Memory → IsConversed limits start after ends.Memory
+  no_memory_to_reply : (request : PlainRequest) → IsAsked limits session now after request put_results.Memory → IsConversed limits session start after ends.Memory
   no_memory_to_reply request a = elim a.answered [
     | inl h ↦ record {
       read = c.read ++ a.read;
       written = c.written ++ h.put.written;
       answered = c.requests ++ request ∷ [];
       output = c.written ++ h.output;
-      moves = taking a.read a.takes h.put.written h.put.appended h.put.never_falls;
-      counted = ap (λ (x : TurnsView). x.taken) (counts a.read a.takes);
-      within = bounded a.read a.takes;
-      progress = answered request puts.Memory a h;
+      moves = taking a.read a.reads h.put.written h.put.appended h.put.never_falls;
+      counted = ap (λ (x : TurnsView). x.taken) (counts a.read a.reads);
+      within = bounded a.read a.reads;
+      progress = answered request put_results.Memory a h;
       cause = tt;
-      how_far = (one_more request puts.Memory a, (h.put.rest, ap (λ (w : List ℕ). c.written ++ w) h.put.front ∙ sym (append_assoc c.written h.put.written h.put.rest)));
+      answered_and_written = (one_more request put_results.Memory a, (h.put.rest, ap (λ (w : List ℕ). c.written ++ w) h.put.prefix ∙ sym (append_assoc c.written h.put.written h.put.rest)));
     }
     | inr s ↦ record {
       read = c.read ++ a.read;
       written = c.written ++ [];
       answered = c.requests;
       output = c.written ++ [];
-      moves = taking a.read a.takes [] (rw s.sink_stays (appends_nothing now.outside.taken)) (omega (arith, s.faults_stay));
-      counted = ap (λ (x : TurnsView). x.taken) (counts a.read a.takes);
-      within = bounded a.read a.takes;
+      moves = taking a.read a.reads [] (rw s.sink_stays (appends_nothing now.io.taken)) (omega (arith, s.faults_stay));
+      counted = ap (λ (x : TurnsView). x.taken) (counts a.read a.reads);
+      within = bounded a.read a.reads;
       progress = rw (s.history_stays, s.points_stay, append-nil c.written) c.progress;
       cause = tt;
-      how_far = (front a.read a.takes, ([], sym (append-nil (c.written ++ []))));
+      answered_and_written = (prefix a.read a.reads, ([], sym (append-nil (c.written ++ []))));
     }
   ]
 
@@ -295,84 +295,84 @@ module _ (limits : LimitsView) (start now after : Stand) (c : IsConversing limit
 
   module _ (taken : Taken) (n : IsNotAsked now after taken) where
     abbrev unasked_stream : List ℕ
-    unasked_stream = stream n.read n.takes
+    unasked_stream = stream n.read n.reads
 
-    nothing_more : Moves start.outside after.outside (c.read ++ n.read) c.written
-    nothing_more = subst (λ (w : List ℕ). Moves start.outside after.outside (c.read ++ n.read) w) (append-nil c.written)
-        (taking n.read n.takes [] (rw n.taken_stays (appends_nothing now.outside.taken)) (omega (arith, n.faults_stay)))
+    nothing_more : Moves start.io after.io (c.read ++ n.read) c.written
+    nothing_more = subst (λ (w : List ℕ). Moves start.io after.io (c.read ++ n.read) w) (append-nil c.written)
+        (taking n.read n.reads [] (rw n.taken_stays (appends_nothing now.io.taken)) (omega (arith, n.faults_stay)))
 
-    still : Progress limits after.history after.points c.requests c.written
+    still : Progress limits session start.history after.history after.points c.requests c.written
     still = rw (n.history_stays, n.points_stay) c.progress
 
-    ended : (end : SessionEnd) → Cause end unasked_stream start.outside after.outside → HowFar end unasked_stream c.requests c.written c.written → IsConversed limits start after end
-    ended end cause how_far = record {
+    ends_so : (end : SessionEnd) → Cause end unasked_stream start.io after.io → AnsweredAndWritten end unasked_stream c.requests c.written c.written → IsConversed limits session start after end
+    ends_so end cause answered_and_written = record {
       read = c.read ++ n.read;
       written = c.written;
       answered = c.requests;
       output = c.written;
       moves = nothing_more;
-      counted = ap (λ (x : TurnsView). x.taken) (counts n.read n.takes);
-      within = bounded n.read n.takes;
+      counted = ap (λ (x : TurnsView). x.taken) (counts n.read n.reads);
+      within = bounded n.read n.reads;
       progress = still;
       cause = cause;
-      how_far = how_far;
+      answered_and_written = answered_and_written;
     }
 
-    waits_none : Waits (with_bytes now.feed n.read) after.feed → BeginsWithNone IsSpelled (now.feed.held ++ n.read)
-    waits_none w = rw c.greeted at w.front.none
+    waits_none : Waits (with_piece now.feed n.read) after.feed → HasNoSpelledPrefix IsSpelled (now.feed.held ++ n.read)
+    waits_none w = rw c.greeted at w.prefix.none
 
-    waits_open : Waits (with_bytes now.feed n.read) after.feed → IsOpenInput unasked_stream
-    waits_open w = waiting_is_open unasked_stream c.requests (with_bytes now.feed n.read) after.feed (given n.read n.takes) c.no_quits w
+    waits_open : Waits (with_piece now.feed n.read) after.feed → IsOpenInput unasked_stream
+    waits_open w = waiting_is_open unasked_stream c.requests (with_piece now.feed n.read) after.feed (given n.read n.reads) c.no_quits w
 
-    waits_whole : Waits (with_bytes now.feed n.read) after.feed → AreWholeRequests unasked_stream c.requests
-    waits_whole w = whole n.read n.takes (waits_none w)
+    waits_whole : Waits (with_piece now.feed n.read) after.feed → AreWholeRequests unasked_stream c.requests
+    waits_whole w = whole n.read n.reads (waits_none w)
 
-  comes_to_end : IsNotAsked now after takens.End → IsConversed limits start after ends.End
+  comes_to_end : IsNotAsked now after take_answers.End → IsConversed limits session start after ends.End
   comes_to_end n =
       let w = n.comes.0 in
       let held : now.feed.held ++ n.read ≡ [] = sym (ap (λ (f : FeedView). f.held) w.stays) ∙ n.comes.3 in
-      ended takens.End n ends.End (n.comes.1, below n.read n.takes n.comes.2)
-      (given_is_input (stream n.read n.takes) c.requests (with_bytes now.feed n.read) (given n.read n.takes) (none_quits c.requests c.no_quits) c.greeted held, refl)
+      ends_so take_answers.End n ends.End (n.comes.1, below n.read n.reads n.comes.2)
+      (given_is_input (stream n.read n.reads) c.requests (with_piece now.feed n.read) (given n.read n.reads) (none_quits c.requests c.no_quits) c.greeted held, refl)
 
-  is_malformed : (at : ℕ) → IsNotAsked now after (takens.Malformed at) → IsConversed limits start after (ends.Malformed at)
+  is_malformed : (at : ℕ) → IsNotAsked now after (take_answers.Malformed at) → IsConversed limits session start after (ends.Malformed at)
   is_malformed at n =
-      ended (takens.Malformed at) n (ends.Malformed at)
-      (wrong_is_malformed (stream n.read n.takes) c.requests (with_bytes now.feed n.read) after.feed at (given n.read n.takes) c.no_quits (short n.read n.takes) n.comes)
-      (whole n.read n.takes (rw c.greeted at n.comes.bad.none), refl)
+      ends_so (take_answers.Malformed at) n (ends.Malformed at)
+      (wrong_is_malformed (stream n.read n.reads) c.requests (with_piece now.feed n.read) after.feed at (given n.read n.reads) c.no_quits (short n.read n.reads) n.comes)
+      (whole n.read n.reads (rw c.greeted at n.comes.bad.none), refl)
 
   -- what is held reaches to the end of what was read
-  cut_off_at : (at : ℕ) (n : IsNotAsked now after (takens.Truncated at)) → at ≡ length (stream n.read n.takes)
+  cut_off_at : (at : ℕ) (n : IsNotAsked now after (take_answers.Truncated at)) → at ≡ length (stream n.read n.reads)
   cut_off_at at n =
       let w = n.comes.0 in
-      let g = given n.read n.takes in
-      let whole_length : length (stream n.read n.takes) ≡ length (given_bytes now.feed.greeted c.requests) + length (now.feed.held ++ n.read) = ap length g.parts ∙ length-append (given_bytes now.feed.greeted c.requests) (now.feed.held ++ n.read) in
+      let g = given n.read n.reads in
+      let whole_length : length (stream n.read n.reads) ≡ length (given_bytes now.feed.greeted c.requests) + length (now.feed.held ++ n.read) = ap length g.parts ∙ length-append (given_bytes now.feed.greeted c.requests) (now.feed.held ++ n.read) in
       let place : now.feed.offset ≡ later 0 (length (given_bytes now.feed.greeted c.requests)) = g.place in
-      n.comes.4 ∙ ap (λ (f : FeedView). later f.offset (length f.held)) w.stays ∙ omega (arith, whole_length, place, short n.read n.takes)
+      n.comes.4 ∙ ap (λ (f : FeedView). later f.offset (length f.held)) w.stays ∙ omega (arith, whole_length, place, short n.read n.reads)
 
-  is_truncated : (at : ℕ) → IsNotAsked now after (takens.Truncated at) → IsConversed limits start after (ends.Truncated at)
+  is_truncated : (at : ℕ) → IsNotAsked now after (take_answers.Truncated at) → IsConversed limits session start after (ends.Truncated at)
   is_truncated at n =
       let w = n.comes.0 in
       let some : now.feed.held ++ n.read ≢ [] = λ e. n.comes.3 (ap (λ (f : FeedView). f.held) w.stays ∙ e) in
-      ended (takens.Truncated at) n (ends.Truncated at)
-      (waiting_is_truncated (stream n.read n.takes) c.requests (with_bytes now.feed n.read) after.feed (given n.read n.takes) c.no_quits w some, n.comes.1, below n.read n.takes n.comes.2, cut_off_at at n)
-      (waits_whole (takens.Truncated at) n w, refl)
+      ends_so (take_answers.Truncated at) n (ends.Truncated at)
+      (waiting_is_truncated (stream n.read n.reads) c.requests (with_piece now.feed n.read) after.feed (given n.read n.reads) c.no_quits w some, n.comes.1, below n.read n.reads n.comes.2, cut_off_at at n)
+      (waits_whole (take_answers.Truncated at) n w, refl)
 
-  read_fails : IsNotAsked now after takens.ReadFault → IsConversed limits start after ends.ReadFault
+  read_fails : IsNotAsked now after take_answers.ReadFault → IsConversed limits session start after ends.ReadFault
   read_fails n =
-      ended takens.ReadFault n ends.ReadFault
-      (waits_open takens.ReadFault n n.comes.0, below n.read n.takes n.comes.1, risen_since start.outside.source_faults now.outside.source_faults after.outside.source_faults c.moves.source_never_falls n.comes.2)
-      (waits_whole takens.ReadFault n n.comes.0, refl)
+      ends_so take_answers.ReadFault n ends.ReadFault
+      (waits_open take_answers.ReadFault n n.comes.0, below n.read n.reads n.comes.1, risen_since start.io.source_faults now.io.source_faults after.io.source_faults c.moves.source_never_falls n.comes.2)
+      (waits_whole take_answers.ReadFault n n.comes.0, refl)
 
-  no_memory_to_take : IsNotAsked now after takens.Memory → IsConversed limits start after ends.Memory
-  no_memory_to_take n = ended takens.Memory n ends.Memory tt (front n.read n.takes, ([], sym (append-nil c.written)))
+  no_memory_to_take : IsNotAsked now after take_answers.Memory → IsConversed limits session start after ends.Memory
+  no_memory_to_take n = ends_so take_answers.Memory n ends.Memory tt (prefix n.read n.reads, ([], sym (append-nil c.written)))
 
-  is_used_up : IsNotAsked now after takens.Budget → IsConversed limits start after ends.Budget
+  is_used_up : IsNotAsked now after take_answers.Budget → IsConversed limits session start after ends.Budget
   is_used_up n =
-      let all = counts n.read n.takes in
-      let enough : most_input ≤ length (stream n.read n.takes) = rw all at n.comes.1 in
-      ended takens.Budget n ends.Budget (waits_open takens.Budget n n.comes.0, enough) (waits_whole takens.Budget n n.comes.0, refl)
+      let all = counts n.read n.reads in
+      let enough : most_input ≤ length (stream n.read n.reads) = rw all at n.comes.1 in
+      ends_so take_answers.Budget n ends.Budget (waits_open take_answers.Budget n n.comes.0, enough) (waits_whole take_answers.Budget n n.comes.0, refl)
 
-  pub comes_to : (end : SessionEnd) → IsRound limits now after (Some end) → IsConversed limits start after end
+  pub comes_to : (end : SessionEnd) → IsRound limits session now after (Some end) → IsConversed limits session start after end
   comes_to ends.Quit round = quits round
   comes_to ends.End round = comes_to_end round
   comes_to (ends.Malformed at) round = is_malformed at round
@@ -393,27 +393,27 @@ request_filled r bytes used e = at_least used bytes e
     at_least zero bs is = absurd (omega (arith, spelling_filled r, ap length is))
     at_least (suc n) bs is = omega arith
 
-abbrev pub to_come : Stand → ℕ
+abbrev pub to_come : SessionState → ℕ
 to_come s = (most_input + 4096 - s.turns.taken) + length s.feed.held
 
-less_to_come : (limits : LimitsView) (start now after : Stand) → IsConversing limits start now → IsRound limits now after None → to_come after < to_come now
-less_to_come limits start now after c ((request, no_quit, a), live) =
-    let counted = ap (λ (x : TurnsView). x.taken) (counts limits start now after c a.read a.takes) in
-    let earlier = before limits start now after c a.read a.takes in
-    let more = longer limits start now after c a.read a.takes in
-    let most = bounded limits start now after c a.read a.takes in
+less_to_come : (limits : LimitsView) (session : ℕ) (start now after : SessionState) → IsConversing limits session start now → IsRound limits session now after None → to_come after < to_come now
+less_to_come limits session start now after c ((request, no_quit, a), live) =
+    let counted = ap (λ (x : TurnsView). x.taken) (counts limits session start now after c a.read a.reads) in
+    let earlier = before limits session start now after c a.read a.reads in
+    let more = longer limits session start now after c a.read a.reads in
+    let most = bounded limits session start now after c a.read a.reads in
     let some = request_filled request (now.feed.held ++ a.read) a.gives.used a.gives.read.spells.spelled in
     let held : length after.feed.held ≡ length (now.feed.held ++ a.read) - a.gives.used = ap (λ (f : FeedView). length f.held) a.gives.after_is ∙ length-drop a.gives.used (now.feed.held ++ a.read) in
     omega (arith, counted, earlier, more, most, some, held, length-append now.feed.held a.read, a.gives.read.within)
 
 -- ---- the same, for a round under limits that are the session's
 
-module _ (limits own : LimitsView) (same : own ≡ limits) (start now after : Stand) (c : IsConversing limits start now) where
-  pub goes_on_under : IsRound own now after None → IsConversing limits start after
-  goes_on_under round = goes_on limits start now after c (subst (λ (l : LimitsView). IsRound l now after None) same round)
+module _ (limits own : LimitsView) (same : own ≡ limits) (session : ℕ) (start now after : SessionState) (c : IsConversing limits session start now) where
+  pub goes_on_under : IsRound own session now after None → IsConversing limits session start after
+  goes_on_under round = goes_on limits session start now after c (subst (λ (l : LimitsView). IsRound l session now after None) same round)
 
-  pub less_under : IsRound own now after None → to_come after < to_come now
-  less_under round = less_to_come limits start now after c (subst (λ (l : LimitsView). IsRound l now after None) same round)
+  pub less_under : IsRound own session now after None → to_come after < to_come now
+  less_under round = less_to_come limits session start now after c (subst (λ (l : LimitsView). IsRound l session now after None) same round)
 
-  pub comes_to_under : (end : SessionEnd) → IsRound own now after (Some end) → IsConversed limits start after end
-  comes_to_under end round = comes_to limits start now after c end (subst (λ (l : LimitsView). IsRound l now after (Some end)) same round)
+  pub comes_to_under : (end : SessionEnd) → IsRound own session now after (Some end) → IsConversed limits session start after end
+  comes_to_under end round = comes_to limits session start now after c end (subst (λ (l : LimitsView). IsRound l session now after (Some end)) same round)

@@ -1,8 +1,9 @@
-pub mod Fronts
+pub mod Streams
 pub mod Progresses
 pub mod Serials
 pub mod Turns
 pub mod WordForms
 pub mod Conversations
-pub mod Held
+pub mod EndedSessions
 pub mod Complete
+pub mod Rounds

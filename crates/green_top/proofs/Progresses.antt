@@ -1,8 +1,9 @@
 -- A session goes on by one exchange, and ends.
-use Rattle.std.proofs.Common.{◌≡◌, ℕ, ◌-◌, ◌≤◌, eqb, false, List, [], ◌∷◌, ◌++◌, length, take, All, Option, Some, None, refl, ap, ◌∙◌, sym, subst, inl, inr, ◌⊎◌, arith, append_assoc, le_trans}
+use Rattle.std.proofs.Common.{◌≡◌, ℕ, ◌+◌, ◌-◌, ◌≤◌, eqb, false, List, [], ◌∷◌, ◌++◌, length, take, All, Option, Some, None, refl, ap, ◌∙◌, sym, subst, inl, inr, ◌⊎◌, arith, append_assoc, le_trans}
 use Rattle.std.specs.Prelude.{MatchOption, codes}
 use Rattle.std.specs.List.{flat_map, AllByRecursion}
 use Rattle.std.proofs.Math.Seq.{take-length}
+use Rattle.std.proofs.lemmas.Bool.{eq-eqb}
 use Rattle.std.proofs.lemmas.List.{append-nil, map_push, length-append}
 use Rattle.std.proofs.lemmas.List.Elements.{All-push, All-weaker, All-nil, filter-append}
 use Rattle.std.proofs.lemmas.List.Sorted.{IsNonDecreasingBy-push, IsNonDecreasingBy-short}
@@ -10,14 +11,18 @@ use Rattle.febe_data.specs.declared.refusal.Refusal.{Refusal}
 use Rattle.febe_data.specs.LimitsView.{LimitsView}
 use Rattle.febe_data.specs.Plain.{PlainRequest, PlainReply, PlainEntry}
 use Rattle.febe_reply.specs.ReplyGrammar.{spell_reply}
-use Rattle.flat_world.specs.Apply.{world_of}
-use Rattle.flat_world.specs.History.{entries_of, restart_entry}
-use Rattle.flat_world.specs.Effects.{Effect, effect}
-use Rattle.flat_world.specs.Legal.{IsLegal, IsServed, IsRefused, IsAnswered, IsDone, IsDiskFault, Exchange, TookPlace, wanted_after}
+use Rattle.world_rules.specs.World.{empty_world}
+use Rattle.world_rules.specs.Placed.{AllPlaced}
+use Rattle.world_rules.specs.Apply.{world_of}
+use Rattle.world_rules.specs.History.{entries_of}
+use Rattle.world_rules.specs.Effects.{Effect, effect}
+use Rattle.world_rules.specs.Legal.{IsLegal, IsServed, IsRefused, IsQueryAnswered, IsDone, IsDiskFault, Exchange, TookPlace, wanted_after, entry_after}
 use Rattle.green_store.specs.Sessions.{begin_entry}
-use Rattle.green_top.specs.Transcript.{output_of, BeginsBefore, IsEnding, IsCalm, IsTold, InTurn, Transcript}
-use Rattle.green_top.specs.Progress.{Answers, Progress}
-use Rattle.green_store.proofs.Places.{placed_goes_on}
+use Rattle.world_rules.specs.Serials.{CountFromOne}
+use Rattle.green_top.specs.Transcript.{output_of, BeginsBefore, IsEnding, HasNoDiskFault, HasValidReply, InTurn, Transcript}
+use Rattle.green_top.specs.inside.Opening.{Begins}
+use Rattle.green_top.specs.inside.Progress.{AnswerState, Answers, Progress}
+use Rattle.green_store.proofs.Places.{placed_push, placed_goes_on}
 use Rattle.green_top.proofs.Serials.{own_behind, serials_go_on, serials_end}
 use Rattle.green_top.proofs.Turns.{turn_before, turn_push}
 
@@ -48,13 +53,13 @@ each_push : (limits : LimitsView) (session : ℕ) (h : List PlainEntry) (es : Li
 each_push limits session h [] e all last = (last, tt)
 each_push limits session h (x ∷ es) e all last = (all.0, each_push limits session h es e all.1 last)
 
-calm_push : (es : List Exchange) (e : Exchange) → AllByRecursion IsCalm es → IsCalm e → AllByRecursion IsCalm (es ++ e ∷ [])
-calm_push [] e all last = (last, tt)
-calm_push (x ∷ es) e all last = (all.0, calm_push es e all.1 last)
+no_faults_push : (es : List Exchange) (e : Exchange) → AllByRecursion HasNoDiskFault es → HasNoDiskFault e → AllByRecursion HasNoDiskFault (es ++ e ∷ [])
+no_faults_push [] e all last = (last, tt)
+no_faults_push (x ∷ es) e all last = (all.0, no_faults_push es e all.1 last)
 
-told_push : (es : List Exchange) (e : Exchange) → AllByRecursion IsTold es → IsTold e → AllByRecursion IsTold (es ++ e ∷ [])
-told_push [] e all last = (last, tt)
-told_push (x ∷ es) e all last = (all.0, told_push es e all.1 last)
+valid_push : (es : List Exchange) (e : Exchange) → AllByRecursion HasValidReply es → HasValidReply e → AllByRecursion HasValidReply (es ++ e ∷ [])
+valid_push [] e all last = (last, tt)
+valid_push (x ∷ es) e all last = (all.0, valid_push es e all.1 last)
 
 flat_map_push : {X A : Type 0} (f : X → List A) (xs : List X) (x : X) → flat_map f (xs ++ x ∷ []) ≡ flat_map f xs ++ f x
 flat_map_push f [] x = append-nil (f x)
@@ -64,120 +69,170 @@ abbrev says : Exchange → List ℕ
 says e = spell_reply e.reply
 
 -- what a legal step adds is the session's own
-abbrev IsOwn : List PlainEntry → Type 0
-IsOwn entries = entries_of 1 entries ≡ entries
+abbrev pub IsOwn : ℕ → List PlainEntry → Type 0
+IsOwn session entries = entries_of session entries ≡ entries
 
-own_none : (added : List PlainEntry) → added ≡ [] → IsOwn added
-own_none added e = subst IsOwn (sym e) refl
+own_none : (session : ℕ) (added : List PlainEntry) → added ≡ [] → IsOwn session added
+own_none session added e = subst (IsOwn session) (sym e) refl
 
-own_served : (h : List PlainEntry) (request : PlainRequest) (reply : PlainReply) (added : List PlainEntry) (made : Option Effect)
-    → MatchOption made (IsAnswered h request reply added) (λ m. IsDone h 1 m reply added ⊎ IsDiskFault m reply added false) → IsOwn added
-own_served h request reply added None s = own_none added s.nothing
-own_served h request reply added (Some m) (inl s) = subst IsOwn (sym s.entry) refl
-own_served h request reply added (Some m) (inr s) = own_none added s.nothing
+pub own_one : (session : ℕ) (e : PlainEntry) → e.session ≡ session → IsOwn session (e ∷ [])
+own_one session e is = rw (eq-eqb e.session session is) refl
 
-own_given : (h : List PlainEntry) (request : PlainRequest) (reply : PlainReply) (added : List PlainEntry) (wanted : Option Refusal)
-    → MatchOption wanted (IsServed h 1 request reply added false) (λ refusal. IsRefused refusal reply added) → IsOwn added
-own_given h request reply added None s = own_served h request reply added (effect (world_of h) 1 request) s
-own_given h request reply added (Some refusal) s = own_none added s.nothing
+module _ (session : ℕ) (h : List PlainEntry) (request : PlainRequest) (reply : PlainReply) (added : List PlainEntry) where
+  own_served : (made : Option Effect) → MatchOption made (IsQueryAnswered h request reply added) (λ m. IsDone h session m reply added ⊎ IsDiskFault m reply added false) → IsOwn session added
+  own_served None s = own_none session added s.nothing
+  own_served (Some m) (inl s) = subst (IsOwn session) (sym s.entry) (own_one session (entry_after h session m) refl)
+  own_served (Some m) (inr s) = own_none session added s.nothing
 
-own_added : (limits : LimitsView) (h : List PlainEntry) (request : PlainRequest) (reply : PlainReply) (added : List PlainEntry) → IsLegal limits 1 h request reply added false → IsOwn added
-own_added limits h request reply added legal =
-    elim legal.given [ inl m ↦ own_none added m.nothing | inr g ↦ own_given h request reply added (wanted_after limits h 1 request) g ]
+  own_given : (wanted : Option Refusal) → MatchOption wanted (IsServed h session request reply added false) (λ refusal. IsRefused refusal reply added) → IsOwn session added
+  own_given None s = own_served (effect (world_of h) session request) s
+  own_given (Some refusal) s = own_none session added s.nothing
 
-own_append : (xs ys : List PlainEntry) → IsOwn xs → IsOwn ys → IsOwn (xs ++ ys)
-own_append xs ys p q = filter-append (λ (e : PlainEntry). eqb e.session 1) xs ys ∙ ap (λ (r : List PlainEntry). r ++ entries_of 1 ys) p ∙ ap (λ (r : List PlainEntry). xs ++ r) q
+  own_added : (limits : LimitsView) → IsLegal limits session h request reply added false → IsOwn session added
+  own_added limits legal = elim legal.given [ inl m ↦ own_none session added m.nothing | inr g ↦ own_given (wanted_after limits h session request) g ]
 
-entries_so_far : (limits : LimitsView) (h : List PlainEntry) (points : List ℕ) (answered : List PlainRequest) (output : List ℕ) (p : Progress limits h points answered output) → entries_of 1 h ≡ begin_entry 1 ∷ flat_map adds p.exchanges
-entries_so_far limits h points answered output p = ap (entries_of 1) p.history_is ∙ ap (λ (x : List PlainEntry). begin_entry 1 ∷ x) p.own
+own_append : (session : ℕ) (xs ys : List PlainEntry) → IsOwn session xs → IsOwn session ys → IsOwn session (xs ++ ys)
+own_append session xs ys p q =
+    filter-append (λ (e : PlainEntry). eqb e.session session) xs ys ∙ ap (λ (r : List PlainEntry). r ++ entries_of session ys) p ∙ ap (λ (r : List PlainEntry). xs ++ r) q
 
-pub progress_goes_on : (limits : LimitsView) (h : List PlainEntry) (points : List ℕ) (answered : List PlainRequest) (output : List ℕ) (request : PlainRequest) (after : List PlainEntry) (points' : List ℕ) (o : List ℕ)
-    → Progress limits h points answered output → Answers limits h points request after points' o → Progress limits after points' (answered ++ request ∷ []) (output ++ o)
-progress_goes_on limits h points answered output request after points' o p a =
-    let e : Exchange = record { request = request; reply = a.reply; point = length after; added = a.step.added; rose = false } in
-    let longer : length h ≤ length after = rw a.step.grows (omega (arith, length-append h a.step.added)) in
-    let here : TookPlace limits 1 after e = record { before = h; more = []; parts = a.step.grows ∙ sym (append-nil (h ++ a.step.added)); point_is = ap length a.step.grows; legal = a.step.legal } in
-    let earlier : AllByRecursion (TookPlace limits 1 after) p.exchanges = subst (λ (x : List PlainEntry). AllByRecursion (TookPlace limits 1 x) p.exchanges) (sym a.step.grows) (each_before limits 1 h a.step.added p.exchanges p.each) in
-    let all_within : All (λ point. point ≤ length after) points = All-weaker (λ point. point ≤ length h) (λ point. point ≤ length after) (λ x le. le_trans le longer) points p.within in
-    let own = own_added limits h request a.reply a.step.added a.step.legal in
-    let start : List PlainEntry = begin_entry 1 ∷ [] in
-    let turns : InTurn 1 after start p.exchanges = subst (λ (x : List PlainEntry). InTurn 1 x start p.exchanges) (sym a.step.grows) (turn_before limits 1 h a.step.added start p.exchanges p.each p.in_turn) in
-    let last : entries_of 1 (take (length after) after) ≡ (start ++ flat_map adds p.exchanges) ++ a.step.added =
-    ap (entries_of 1) (take-length after ∙ a.step.grows) ∙ sym (own_behind h a.step.added own) ∙ ap (λ (x : List PlainEntry). x ++ a.step.added) (entries_so_far limits h points answered output p) in
-    let two : 2 ≤ length after = omega (arith, ap length p.history_is) in
-    record {
-      exchanges = p.exchanges ++ e ∷ [];
-      requests_are = ap (λ (rs : List PlainRequest). rs ++ request ∷ []) p.requests_are ∙ sym (map_push asked p.exchanges e);
-      points_are = a.points_are ∙ ap (λ (ps : List ℕ). ps ++ length after ∷ []) p.points_are ∙ sym (map_push at_point p.exchanges e);
-      output_is = ap (λ (x : List ℕ). x ++ o) p.output_is ∙ ap (λ (x : List ℕ). output_of p.exchanges ++ x) a.output_is ∙ ap (λ (x : List ℕ). codes "P0~" ++ x) (sym (flat_map_push says p.exchanges e));
-      each = each_push limits 1 after p.exchanges e earlier here;
-      calm = calm_push p.exchanges e p.calm refl;
-      told = told_push p.exchanges e p.told a.valid;
-      history_is = a.step.grows ∙ ap (λ (x : List PlainEntry). x ++ a.step.added) p.history_is ∙ ap (λ (x : List PlainEntry). restart_entry ∷ begin_entry 1 ∷ x) (sym (flat_map_push adds p.exchanges e));
-      own = subst IsOwn (sym (flat_map_push adds p.exchanges e)) (own_append (flat_map adds p.exchanges) a.step.added p.own own);
-      serials = serials_go_on limits h request a.reply a.step.added after p.serials a.step.legal own a.step.grows;
-      in_turn = turn_push 1 after start p.exchanges e turns last;
-      placed = placed_goes_on limits 1 h request a.reply a.step.added after p.placed a.step.legal a.step.grows;
-      rising = rw a.points_are (IsNonDecreasingBy-push (λ n. n) points (length after) p.rising (λ d filled. all_within (length points - 1) d (omega arith)));
-      within = rw a.points_are (All-push (λ point. point ≤ length after) points (length after) all_within (omega arith));
-      above = rw a.points_are (All-push (λ point. 2 ≤ point) points (length after) p.above two);
+-- ---- one exchange more
+
+module _ (limits : LimitsView) (session : ℕ) (begun h : List PlainEntry) (points : List ℕ) (answered : List PlainRequest) (output : List ℕ) (p : Progress limits session begun h points answered output) where
+  pub entries_so_far : entries_of session h ≡ begin_entry session ∷ flat_map adds p.exchanges
+  entries_so_far =
+      ap (entries_of session) p.history_is ∙ filter-append (λ (e : PlainEntry). eqb e.session session) begun (flat_map adds p.exchanges)
+      ∙ ap (λ (x : List PlainEntry). x ++ entries_of session (flat_map adds p.exchanges)) p.first ∙ ap (λ (x : List PlainEntry). begin_entry session ∷ x) p.own
+
+  module _ (request : PlainRequest) (o : List ℕ) (before after : AnswerState) (here : before.history ≡ h) (noted : before.points ≡ points) (a : Answers limits session before after request o) where
+    grows : after.history ≡ h ++ a.step.added
+    grows = a.step.grows ∙ ap (λ (x : List PlainEntry). x ++ a.step.added) here
+
+    legal : IsLegal limits session h request a.reply a.step.added false
+    legal = subst (λ (x : List PlainEntry). IsLegal limits session x request a.reply a.step.added false) here a.step.legal
+
+    points_are : after.points ≡ points ++ length after.history ∷ []
+    points_are = a.points_are ∙ ap (λ (ps : List ℕ). ps ++ length after.history ∷ []) noted
+
+    abbrev one : Exchange
+    one = record { request = request; reply = a.reply; point = length after.history; added = a.step.added; rose = false }
+
+    longer : length h ≤ length after.history
+    longer = rw grows (omega (arith, length-append h a.step.added))
+
+    took_place : TookPlace limits session after.history one
+    took_place = record { before = h; more = []; parts = grows ∙ sym (append-nil (h ++ a.step.added)); point_is = ap length grows; legal = legal }
+
+    earlier : AllByRecursion (TookPlace limits session after.history) p.exchanges
+    earlier = subst (λ (x : List PlainEntry). AllByRecursion (TookPlace limits session x) p.exchanges) (sym grows) (each_before limits session h a.step.added p.exchanges p.each)
+
+    all_within : All (λ point. point ≤ length after.history) points
+    all_within = All-weaker (λ point. point ≤ length h) (λ point. point ≤ length after.history) (λ x le. le_trans le longer) points p.within
+
+    own : IsOwn session a.step.added
+    own = own_added session h request a.reply a.step.added limits legal
+
+    abbrev start : List PlainEntry
+    start = begin_entry session ∷ []
+
+    turns : InTurn session after.history start p.exchanges
+    turns = subst (λ (x : List PlainEntry). InTurn session x start p.exchanges) (sym grows) (turn_before limits session h a.step.added start p.exchanges p.each p.in_turn)
+
+    last : entries_of session (take (length after.history) after.history) ≡ (start ++ flat_map adds p.exchanges) ++ a.step.added
+    last = ap (entries_of session) (take-length after.history ∙ grows) ∙ sym (own_behind session h a.step.added own) ∙ ap (λ (x : List PlainEntry). x ++ a.step.added) entries_so_far
+
+    above_begun : length begun ≤ length after.history
+    above_begun = omega (arith, longer, ap length p.history_is, length-append begun (flat_map adds p.exchanges))
+
+    pub progress_goes_on : Progress limits session begun after.history after.points (answered ++ request ∷ []) (output ++ o)
+    progress_goes_on = record {
+      exchanges = p.exchanges ++ one ∷ [];
+      requests_are = ap (λ (rs : List PlainRequest). rs ++ request ∷ []) p.requests_are ∙ sym (map_push asked p.exchanges one);
+      points_are = points_are ∙ ap (λ (ps : List ℕ). ps ++ length after.history ∷ []) p.points_are ∙ sym (map_push at_point p.exchanges one);
+      output_is = ap (λ (x : List ℕ). x ++ o) p.output_is ∙ ap (λ (x : List ℕ). output_of p.exchanges ++ x) a.output_is ∙ ap (λ (x : List ℕ). codes "P0~" ++ x) (sym (flat_map_push says p.exchanges one));
+      each = each_push limits session after.history p.exchanges one earlier took_place;
+      no_disk_faults = no_faults_push p.exchanges one p.no_disk_faults refl;
+      valid_replies = valid_push p.exchanges one p.valid_replies a.valid;
+      first = p.first;
+      history_is = grows ∙ ap (λ (x : List PlainEntry). x ++ a.step.added) p.history_is ∙ append_assoc begun (flat_map adds p.exchanges) a.step.added ∙ ap (λ (x : List PlainEntry). begun ++ x) (sym (flat_map_push adds p.exchanges one));
+      own = subst (IsOwn session) (sym (flat_map_push adds p.exchanges one)) (own_append session (flat_map adds p.exchanges) a.step.added p.own own);
+      serials = serials_go_on session h request a.reply a.step.added p.serials limits after.history legal own grows;
+      in_turn = turn_push session after.history start p.exchanges one turns last;
+      placed = placed_goes_on limits session h request a.reply a.step.added after.history p.placed legal grows;
+      rising = rw points_are (IsNonDecreasingBy-push (λ n. n) points (length after.history) p.rising (λ d filled. all_within (length points - 1) d (omega arith)));
+      within = rw points_are (All-push (λ point. point ≤ length after.history) points (length after.history) all_within (omega arith));
+      above = rw points_are (All-push (λ point. length begun ≤ point) points (length after.history) p.above above_begun);
     }
 
-pub progress_begins : (limits : LimitsView) → Progress limits (restart_entry ∷ begin_entry 1 ∷ []) [] [] (codes "P0~")
-progress_begins limits = record {
-  exchanges = [];
-  requests_are = refl;
-  points_are = refl;
-  output_is = refl;
-  each = tt;
-  calm = tt;
-  told = tt;
-  history_is = refl;
-  own = refl;
-  serials = refl;
-  in_turn = tt;
-  placed = (tt, (tt, tt));
-  rising = IsNonDecreasingBy-short (λ n. n) [] (omega arith);
-  within = All-nil (λ point. point ≤ 2);
-  above = All-nil (λ point. 2 ≤ point);
-}
+-- ---- the session begins
 
--- ---- the transcript of the whole
+pub first_of : (session : ℕ) (opened begun : List PlainEntry) → Begins session opened begun → entries_of session begun ≡ begin_entry session ∷ []
+first_of session opened begun b =
+    ap (entries_of session) b.grows ∙ filter-append (λ (e : PlainEntry). eqb e.session session) opened (begin_entry session ∷ [])
+    ∙ ap (λ (x : List PlainEntry). x ++ entries_of session (begin_entry session ∷ [])) b.no_entry ∙ own_one session (begin_entry session) refl
 
-begun : (limits : LimitsView) (h : List PlainEntry) (points : List ℕ) (answered : List PlainRequest) (output : List ℕ) (p : Progress limits h points answered output) (more : List PlainEntry) → BeginsBefore 1 (h ++ more) points
-begun limits h points answered output p more = record {
-  before = restart_entry ∷ [];
-  more = flat_map adds p.exchanges ++ more;
-  parts = ap (λ (x : List PlainEntry). x ++ more) p.history_is;
-  above = p.above;
-}
+pub progress_begins : (limits : LimitsView) (session : ℕ) (opened begun : List PlainEntry) → Begins session opened begun → Progress limits session begun begun [] [] (codes "P0~")
+progress_begins limits session opened begun b =
+    let first = first_of session opened begun b in
+    record {
+      exchanges = [];
+      requests_are = refl;
+      points_are = refl;
+      output_is = refl;
+      each = tt;
+      no_disk_faults = tt;
+      valid_replies = tt;
+      first = first;
+      history_is = sym (append-nil begun);
+      own = refl;
+      serials = subst CountFromOne (sym first) refl;
+      in_turn = tt;
+      placed = subst (AllPlaced empty_world) (sym b.grows) (placed_push empty_world opened (begin_entry session) b.placed tt);
+      rising = IsNonDecreasingBy-short (λ n. n) [] (omega arith);
+      within = All-nil (λ point. point ≤ length begun);
+      above = All-nil (λ point. length begun ≤ point);
+    }
 
-pub transcript_of : (limits : LimitsView) (h : List PlainEntry) (points : List ℕ) (answered : List PlainRequest) (output : List ℕ) (more : List PlainEntry) → Progress limits h points answered output
-    → IsEnding 1 (entries_of 1 h) more → entries_of 1 more ≡ more → Transcript limits 1 (h ++ more) answered points output
-transcript_of limits h points answered output more p ending own = record {
-  exchanges = p.exchanges;
-  requests_are = p.requests_are;
-  points_are = p.points_are;
-  output_is = p.output_is;
-  each = each_before limits 1 h more p.exchanges p.each;
-  calm = p.calm;
-  told = p.told;
-  rising = p.rising;
-  begun = begun limits h points answered output p more;
-  entries = record {
-    own = entries_of 1 h;
-    ending = more;
-    own_are = entries_so_far limits h points answered output p;
-    is_ending = ending;
-    parts = filter-append (λ (e : PlainEntry). eqb e.session 1) h more ∙ ap (λ (x : List PlainEntry). entries_of 1 h ++ x) own;
-    serials = serials_end h more p.serials ending own;
-    in_turn = turn_before limits 1 h more (begin_entry 1 ∷ []) p.exchanges p.each p.in_turn;
-  };
-}
+-- ---- the whole
 
--- a history of one session is its Restart and the session's entries
-pub history_of_one : (limits : LimitsView) (h : List PlainEntry) (points : List ℕ) (answered : List PlainRequest) (output : List ℕ) (more : List PlainEntry) → Progress limits h points answered output → entries_of 1 more ≡ more
-    → h ++ more ≡ restart_entry ∷ entries_of 1 (h ++ more)
-history_of_one limits h points answered output more p own =
-    ap (λ (x : List PlainEntry). x ++ more) p.history_is
-    ∙ ap (λ (x : List PlainEntry). restart_entry ∷ x) (sym (filter-append (λ (e : PlainEntry). eqb e.session 1) h more ∙ ap (λ (x : List PlainEntry). x ++ entries_of 1 more) (entries_so_far limits h points answered output p) ∙ ap (λ (x : List PlainEntry). (begin_entry 1 ∷ flat_map adds p.exchanges) ++ x) own))
+module _ (limits : LimitsView) (session : ℕ) (opened begun h : List PlainEntry) (b : Begins session opened begun) (points : List ℕ) (answered : List PlainRequest) (output : List ℕ) (p : Progress limits session begun h points answered output) where
+  -- the history behind the one that the back end opened with
+  parts : (more : List PlainEntry) → h ++ more ≡ opened ++ (begin_entry session ∷ (flat_map adds p.exchanges ++ more))
+  parts more =
+      ap (λ (x : List PlainEntry). x ++ more) (p.history_is ∙ ap (λ (x : List PlainEntry). x ++ flat_map adds p.exchanges) b.grows)
+      ∙ append_assoc (opened ++ begin_entry session ∷ []) (flat_map adds p.exchanges) more ∙ append_assoc opened (begin_entry session ∷ []) (flat_map adds p.exchanges ++ more)
+
+  begins_before : (more : List PlainEntry) → BeginsBefore session (h ++ more) points
+  begins_before more = record {
+    before = opened;
+    more = flat_map adds p.exchanges ++ more;
+    parts = parts more;
+    above = All-weaker (λ point. length begun ≤ point) (λ point. length opened + 1 ≤ point) (λ x le. omega (arith, le, ap length b.grows, length-append opened (begin_entry session ∷ []))) points p.above;
+  }
+
+  -- the session's entries are what stands behind it
+  pub entries_behind : (more : List PlainEntry) → IsOwn session more → h ++ more ≡ opened ++ entries_of session (h ++ more)
+  entries_behind more own =
+      parts more
+      ∙ ap (λ (x : List PlainEntry). opened ++ x) (sym (filter-append (λ (e : PlainEntry). eqb e.session session) h more ∙ ap (λ (x : List PlainEntry). x ++ entries_of session more) (entries_so_far limits session begun h points answered output p) ∙ ap (λ (x : List PlainEntry). (begin_entry session ∷ flat_map adds p.exchanges) ++ x) own))
+
+  pub transcript_of : (more : List PlainEntry) → IsEnding session (entries_of session h) more → IsOwn session more → Transcript limits session (h ++ more) answered points output
+  transcript_of more ending own = record {
+    exchanges = p.exchanges;
+    requests_are = p.requests_are;
+    points_are = p.points_are;
+    output_is = p.output_is;
+    each = each_before limits session h more p.exchanges p.each;
+    no_disk_faults = p.no_disk_faults;
+    valid_replies = p.valid_replies;
+    rising = p.rising;
+    begun = begins_before more;
+    entries = record {
+      own = entries_of session h;
+      ending = more;
+      own_are = entries_so_far limits session begun h points answered output p;
+      is_ending = ending;
+      parts = filter-append (λ (e : PlainEntry). eqb e.session session) h more ∙ ap (λ (x : List PlainEntry). entries_of session h ++ x) own;
+      serials = serials_end session h more p.serials ending own;
+      in_turn = turn_before limits session h more (begin_entry session ∷ []) p.exchanges p.each p.in_turn;
+    };
+  }

@@ -4,8 +4,8 @@ use Rattle.std.specs.List.{flat_map, AllByRecursion}
 use Rattle.std.proofs.lemmas.List.{append-nil, length-append, take-append-le}
 use Rattle.febe_data.specs.LimitsView.{LimitsView}
 use Rattle.febe_data.specs.Plain.{PlainEntry}
-use Rattle.flat_world.specs.History.{entries_of}
-use Rattle.flat_world.specs.Legal.{Exchange, TookPlace}
+use Rattle.world_rules.specs.History.{entries_of}
+use Rattle.world_rules.specs.Legal.{Exchange, TookPlace}
 use Rattle.green_top.specs.Transcript.{InTurn}
 
 point_within : (limits : LimitsView) (session : ℕ) (h : List PlainEntry) (e : Exchange) → TookPlace limits session h e → e.point ≤ length h

@@ -1,11 +1,12 @@
 -- What one call of the top does.
-use Rattle.std.specs.Prelude.{◌≡◌, ◌⊎◌, ℕ, List, []}
+use Rattle.std.specs.Prelude.{◌≡◌, ◌⊎◌, ℕ, List, [], ◌∷◌}
 use Rattle.febe_data.specs.LimitsView.{LimitsView}
 use Rattle.febe_data.specs.Plain.{plain_history}
+use Rattle.world_rules.specs.History.{restart_entry}
 use Rattle.green_top.specs.declared.report.Report.{Report}
 use Rattle.green_top.specs.declared.session_end.SessionEnd.{SessionEnd}
 use Rattle.green_top.specs.declared.session_end.SessionEnd.TheVariants as ends
-use Rattle.green_top.specs.Outside.{Outside}
+use Rattle.green_top.specs.IoState.{IoState}
 use Rattle.green_top.specs.Outcome.{IsRun}
 use Rattle.green_top.specs.Words.{AreWords, AreNoWords}
 
@@ -32,7 +33,7 @@ abbrev pub WhyNothing : List (List ℕ) → ℕ → Type 0
 WhyNothing words status = (AreNoWords words × (status ≡ 2)) ⊎ (((limits : LimitsView) × AreWords words limits) × (status ≡ 9))
 
 -- nothing was opened, read or written
-pub record NothingOpened (words : List (List ℕ)) (before after : Outside) (report : Report) (status : ℕ) : Type 0 where
+pub record NothingOpened (words : List (List ℕ)) (before after : IoState) (report : Report) (status : ℕ) : Type 0 where
   pub why : WhyNothing words status
   pub stays : after ≡ before
   pub history_is : report.history.items ≡ []
@@ -41,17 +42,17 @@ pub record NothingOpened (words : List (List ℕ)) (before after : Outside) (rep
   pub counted : report.bytes_read ≡ 0
   pub no_place : report.place ≡ 0
 
--- a back end began with one entry, under the limits of the words, and its session ended so
-pub record Opened (words : List (List ℕ)) (before after : Outside) (report : Report) (status : ℕ) : Type 0 where
+-- a back end opened with one entry, a restart, under the limits of the words, and its session ended so
+pub record Opened (words : List (List ℕ)) (before after : IoState) (report : Report) (status : ℕ) : Type 0 where
   pub limits : LimitsView
   pub end : SessionEnd
   pub words_are : AreWords words limits
   pub status_is : status ≡ status_of end
   pub place_is : report.place ≡ place_of end
   pub opened_is : report.opened ≡ 1
-  pub run : IsRun limits before after (plain_history report.history.items) report.points.items report.bytes_read end
+  pub run : IsRun limits (restart_entry ∷ []) before after (plain_history report.history.items) report.points.items report.bytes_read end
 
 -- A call from this source and sink to those left the report and answered the status.
-abbrev pub IsBatch : List (List ℕ) → Outside → Outside → Report → ℕ → Type 0
+abbrev pub IsBatch : List (List ℕ) → IoState → IoState → Report → ℕ → Type 0
 IsBatch words before after report status =
     NothingOpened words before after report status ⊎ Opened words before after report status

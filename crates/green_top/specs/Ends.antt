@@ -7,9 +7,9 @@ use Rattle.febe_wire.specs.Sessions.{IsInputOf, EndsInQuit, IsMalformedAt, IsTru
 use Rattle.febe_feed.specs.Inputs.{IsOpenInput}
 use Rattle.green_top.specs.declared.session_end.SessionEnd.{SessionEnd}
 use Rattle.green_top.specs.declared.session_end.SessionEnd.TheVariants as ends
-use Rattle.green_top.specs.Outside.{Outside}
-use Rattle.green_top.specs.Requests.{IsNotGreeted, BeginWithRequests, AreWholeRequests}
-use Rattle.green_top.specs.Transcript.{IsFrontOf}
+use Rattle.green_top.specs.IoState.{IoState}
+use Rattle.green_top.specs.Requests.{IsNotGreeted, HasRequestPrefix, AreWholeRequests}
+use Rattle.green_top.specs.Transcript.{IsPrefixOf}
 
 -- once a session has given so many bytes, no more are read
 abbrev pub most_input : ℕ
@@ -17,7 +17,7 @@ most_input = 2 ^ 40
 
 -- Why a session ended, after these bytes were read. A read is made only where fewer bytes than the most were
 -- read before. A back end that has just begun has a number for its first session.
-abbrev pub Cause : SessionEnd → List ℕ → Outside → Outside → Type 0
+abbrev pub Cause : SessionEnd → List ℕ → IoState → IoState → Type 0
 Cause ends.Quit read before after = Unit {0}
 Cause ends.End read before after = IsAtEnd after.left × (length read < most_input)
 Cause (ends.Malformed at) read before after = IsMalformedAt read at
@@ -29,13 +29,13 @@ Cause ends.Budget read before after = IsOpenInput read × (most_input ≤ length
 Cause ends.NoNumber read before after = ⊥
 
 -- how many of the requests read were answered with this output, and how much of it was written
-abbrev pub HowFar : SessionEnd → List ℕ → List PlainRequest → List ℕ → List ℕ → Type 0
-HowFar ends.Quit read answered output written = AreWholeRequests read answered × EndsInQuit answered × (written ≡ output)
-HowFar ends.End read answered output written = IsInputOf answered read × (written ≡ output)
-HowFar ends.WriteFault read answered output written = BeginWithRequests read answered × IsFrontOf written output
-HowFar ends.Memory read answered output written = BeginWithRequests read answered × IsFrontOf written output
-HowFar ends.NoNumber read answered output written = ⊥
-HowFar other read answered output written = AreWholeRequests read answered × (written ≡ output)
+abbrev pub AnsweredAndWritten : SessionEnd → List ℕ → List PlainRequest → List ℕ → List ℕ → Type 0
+AnsweredAndWritten ends.Quit read answered output written = AreWholeRequests read answered × EndsInQuit answered × (written ≡ output)
+AnsweredAndWritten ends.End read answered output written = IsInputOf answered read × (written ≡ output)
+AnsweredAndWritten ends.WriteFault read answered output written = HasRequestPrefix read answered × IsPrefixOf written output
+AnsweredAndWritten ends.Memory read answered output written = HasRequestPrefix read answered × IsPrefixOf written output
+AnsweredAndWritten ends.NoNumber read answered output written = ⊥
+AnsweredAndWritten other read answered output written = AreWholeRequests read answered × (written ≡ output)
 
 -- a session that ended so never began: nothing came, or no greeting, or there was no memory
 abbrev pub NeverBegan : SessionEnd → List ℕ → Type 0

@@ -6,26 +6,26 @@ use Rattle.febe_data.specs.LimitsView.{LimitsView}
 use Rattle.febe_data.specs.Plain.{PlainRequest, PlainEntry, ended}
 use Rattle.febe_data.specs.Validity.{IsReply}
 use Rattle.febe_reply.specs.ReplyGrammar.{spell_reply}
-use Rattle.flat_world.specs.History.{entries_of, is_live}
-use Rattle.flat_world.specs.Legal.{Exchange, TookPlace}
-use Rattle.flat_world.specs.Laws.{numbers_from}
+use Rattle.world_rules.specs.History.{entries_of, is_live}
+use Rattle.world_rules.specs.Legal.{Exchange, TookPlace}
+use Rattle.world_rules.specs.Serials.{CountFromOne}
 use Rattle.green_store.specs.Sessions.{begin_entry}
 
--- the front is what the whole begins with
-abbrev pub IsFrontOf : List ℕ → List ℕ → Type 0
-IsFrontOf front whole = (rest : List ℕ) × (whole ≡ front ++ rest)
+-- the first bytes are a prefix of the whole
+abbrev pub IsPrefixOf : List ℕ → List ℕ → Type 0
+IsPrefixOf prefix whole = (rest : List ℕ) × (whole ≡ prefix ++ rest)
 
 -- what a session is greeted with, and then its replies
 abbrev pub output_of : List Exchange → List ℕ
 output_of exchanges = codes "P0~" ++ flat_map (λ (e : Exchange). spell_reply e.reply) exchanges
 
 -- no count of disk faults rose in the exchange, so its reply is no disk fault
-abbrev pub IsCalm : Exchange → Type 0
-IsCalm exchange = exchange.rose ≡ false
+abbrev pub HasNoDiskFault : Exchange → Type 0
+HasNoDiskFault exchange = exchange.rose ≡ false
 
 -- the reply of an exchange is one that the grammar can spell
-abbrev pub IsTold : Exchange → Type 0
-IsTold exchange = IsReply exchange.reply
+abbrev pub HasValidReply : Exchange → Type 0
+HasValidReply exchange = IsReply exchange.reply
 
 -- the session's Begin stands in the history, and no point is below its place
 pub record BeginsBefore (session : ℕ) (history : List PlainEntry) (points : List ℕ) : Type 0 where
@@ -38,10 +38,6 @@ pub record BeginsBefore (session : ℕ) (history : List PlainEntry) (points : Li
 abbrev pub IsEnding : ℕ → List PlainEntry → List PlainEntry → Type 0
 IsEnding session own ending = (ending ≡ []) ⊎ ((is_live own session ≡ true) × (ending ≡ record { session = session; serial = length own + 1; change = ended } ∷ []))
 
--- the serial of each entry is its place among these, from 1
-abbrev pub AreSerials : List PlainEntry → Type 0
-AreSerials entries = map (λ (e : PlainEntry). e.serial) entries ≡ numbers_from 1 (length entries)
-
 -- At the point of each exchange the session's entries are its own ones so far, and what this exchange added:
 -- none is answered before the one in front of it was, or after the one behind it.
 abbrev pub InTurn : ℕ → List PlainEntry → List PlainEntry → List Exchange → Type 0
@@ -49,15 +45,15 @@ InTurn session history own [] = ⊤
 InTurn session history own (exchange ∷ exchanges) =
     (entries_of session (take exchange.point history) ≡ own ++ exchange.added) × InTurn session history (own ++ exchange.added) exchanges
 
--- The session's entries are its Begin, then what each exchange added, in their order, then an End where none
--- of these was one. Their serials count them, so none of them is another one's copy.
+-- The session's entries are its Begin, then what each exchange added, in their order, then at most an End, and only
+-- where none of these was one. Their serials count them, so none of them is another one's copy.
 pub record EntriesAre (session : ℕ) (history : List PlainEntry) (exchanges : List Exchange) : Type 0 where
   pub own : List PlainEntry
   pub ending : List PlainEntry
   pub own_are : own ≡ begin_entry session ∷ flat_map (λ (e : Exchange). e.added) exchanges
   pub is_ending : IsEnding session own ending
   pub parts : entries_of session history ≡ own ++ ending
-  pub serials : AreSerials (entries_of session history)
+  pub serials : CountFromOne (entries_of session history)
   pub in_turn : InTurn session history (begin_entry session ∷ []) exchanges
 
 -- The requests were answered at these points, with this output: each exchange took place in the history, its
@@ -68,8 +64,8 @@ pub record Transcript (limits : LimitsView) (session : ℕ) (history : List Plai
   pub points_are : points ≡ map (λ (e : Exchange). e.point) exchanges
   pub output_is : output ≡ output_of exchanges
   pub each : AllByRecursion (TookPlace limits session history) exchanges
-  pub calm : AllByRecursion IsCalm exchanges
-  pub told : AllByRecursion IsTold exchanges
+  pub no_disk_faults : AllByRecursion HasNoDiskFault exchanges
+  pub valid_replies : AllByRecursion HasValidReply exchanges
   pub rising : IsNonDecreasing points
   pub begun : BeginsBefore session history points
   pub entries : EntriesAre session history exchanges

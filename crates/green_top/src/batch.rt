@@ -1,6 +1,6 @@
 //! One run of the program.
 ghost use Rattle.std.specs.Prelude.{◌≡◌, map, string_bytes};
-ghost use Rattle.green_top.specs.Outside.{outside};
+ghost use Rattle.green_top.specs.IoState.{io_state};
 ghost use Rattle.green_top.specs.Batch.{IsBatch};
 
 use crate::report::Report;
@@ -33,8 +33,8 @@ pub fn run_batch<S: Source, K: Sink>(
     report: &mut Report,
 ) -> u8
     ensures batch { IsBatch (map string_bytes words.now)
-        (outside (S.left source.old) (S.fault_count source.old) (K.taken sink.old) (K.fault_count sink.old))
-        (outside (S.left source.new) (S.fault_count source.new) (K.taken sink.new) (K.fault_count sink.new)) report.new result }
+        (io_state (S.left source.old) (S.fault_count source.old) (K.taken sink.old) (K.fault_count sink.old))
+        (io_state (S.left source.new) (S.fault_count source.new) (K.taken sink.new) (K.fault_count sink.new)) report.new result }
 {
     *report = Report::new(alloc);
     let Some(limits) = limits_in(words) else {

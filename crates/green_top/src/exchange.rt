@@ -2,12 +2,12 @@
 ghost use Rattle.std.specs.Prelude.{◌≡◌, ◌≢◌, ◌↔◌, true, IsTrue};
 ghost use Rattle.febe_data.specs.Plain.{plain_request, quit};
 ghost use Rattle.febe_data.specs.Validity.{IsRequest};
-ghost use Rattle.flat_world.specs.History.{is_live};
-ghost use Rattle.green_session.specs.Taking.{IsTaken};
-ghost use Rattle.green_top.specs.Next.{NextIs};
-ghost use Rattle.green_top.specs.Outside.{outside};
-ghost use Rattle.green_top.specs.Progress.{IsAnswered};
-ghost use Rattle.green_top.specs.Conversation.{stand, IsRound};
+ghost use Rattle.world_rules.specs.History.{is_live};
+ghost use Rattle.green_session.specs.Taking.{read_state, IsTaken};
+ghost use Rattle.green_top.specs.inside.Next.{NextIs};
+ghost use Rattle.green_top.specs.IoState.{io_state};
+ghost use Rattle.green_top.specs.inside.Progress.{answer_state, HandlesRequest};
+ghost use Rattle.green_top.specs.inside.Conversation.{session_state, IsRound};
 
 use crate::session_end::SessionEnd;
 use febe_data::{List, Request};
@@ -17,9 +17,6 @@ use green_session::{Put, Taken, Turns, put_reply, take_request};
 use green_store::{Step, StepAnswer, Store};
 use std::alloc::Global;
 
-/// The number of the session of a back end that has just begun.
-pub(crate) const FIRST_SESSION: u64 = 1;
-
 /// What comes next: the greeting, a request, or what ends the session.
 pub(crate) fn take_next<S: Source>(
     alloc: Global,
@@ -27,7 +24,7 @@ pub(crate) fn take_next<S: Source>(
     feed: &mut Feed,
     turns: &mut Turns,
 ) -> Result<Option<Request>, SessionEnd>
-    ensures next { NextIs (IsTaken (S.left source.old) (S.left source.new) (S.fault_count source.old) (S.fault_count source.new) feed.old feed.new turns.old turns.new) result }
+    ensures next { NextIs (IsTaken (read_state (S.left source.old) (S.fault_count source.old) feed.old turns.old) (read_state (S.left source.new) (S.fault_count source.new) feed.new turns.new)) result }
 {
     match take_request(alloc, source, feed, turns) {
         Taken::Greeting => Ok(None),
@@ -47,29 +44,28 @@ fn is_quit(request: &Request) -> bool
     matches!(request, Request::Quit)
 }
 
-/// Answers a request, notes its point and writes its reply. Room for the point is taken first, so that no
+/// Answers a request of the session, notes its point and writes its reply. Room for the point is taken first, so that no
 /// entry stands without its point.
 fn answer_one<K: Sink>(
     alloc: Global,
     store: &mut Store,
+    session: u64,
     request: Request,
     sink: &mut K,
     points: &mut List<u64>,
 ) -> Put
-    requires live { is_live store.old.history 1 ≡ true }
+    requires live { is_live store.old.history session ≡ true }
     requires valid { IsRequest (plain_request request) }
-    ensures answered { IsAnswered store.old.limits store.old.history points.old.items (plain_request request) store.new.history points.new.items
-        (K.taken sink.old) (K.taken sink.new) (K.fault_count sink.old) (K.fault_count sink.new) result }
+    ensures answered { HandlesRequest store.old.limits session
+        (answer_state store.old.history points.old.items (K.taken sink.old) (K.fault_count sink.old))
+        (answer_state store.new.history points.new.items (K.taken sink.new) (K.fault_count sink.new)) (plain_request request) result }
     ensures limits { store.new.limits ≡ store.old.limits }
-    ensures stays { plain_request request ≢ quit → is_live store.new.history 1 ≡ true }
+    ensures stays { plain_request request ≢ quit → is_live store.new.history session ≡ true }
 {
     if points.reserve(1).is_err() {
         return Put::Memory;
     }
-    let step = Step::Ask {
-        session: FIRST_SESSION,
-        request,
-    };
+    let step = Step::Ask { session, request };
     let StepAnswer::Reply { reply, point } = store.step(alloc, step) else {
         unreachable!();
     };
@@ -77,21 +73,22 @@ fn answer_one<K: Sink>(
     put_reply(alloc, sink, &reply)
 }
 
-/// Takes one request, answers it and writes its reply, or tells what ends the session.
+/// Takes one request of the session, answers it and writes its reply, or tells what ends the session.
 pub(crate) fn answer_next<S: Source, K: Sink>(
     alloc: Global,
     store: &mut Store,
+    session: u64,
     source: &mut S,
     sink: &mut K,
     feed: &mut Feed,
     turns: &mut Turns,
     points: &mut List<u64>,
 ) -> Option<SessionEnd>
-    requires live { is_live store.old.history 1 ≡ true }
+    requires live { is_live store.old.history session ≡ true }
     requires greeted { feed.old.greeted ≡ true }
-    ensures round { IsRound store.old.limits
-        (stand store.old.history points.old.items feed.old turns.old (outside (S.left source.old) (S.fault_count source.old) (K.taken sink.old) (K.fault_count sink.old)))
-        (stand store.new.history points.new.items feed.new turns.new (outside (S.left source.new) (S.fault_count source.new) (K.taken sink.new) (K.fault_count sink.new))) result }
+    ensures round { IsRound store.old.limits session
+        (session_state store.old.history points.old.items feed.old turns.old (io_state (S.left source.old) (S.fault_count source.old) (K.taken sink.old) (K.fault_count sink.old)))
+        (session_state store.new.history points.new.items feed.new turns.new (io_state (S.left source.new) (S.fault_count source.new) (K.taken sink.new) (K.fault_count sink.new))) result }
     ensures limits { store.new.limits ≡ store.old.limits }
 {
     let request = match take_next(alloc, source, feed, turns) {
@@ -100,7 +97,7 @@ pub(crate) fn answer_next<S: Source, K: Sink>(
         Err(end) => return Some(end),
     };
     let quits = is_quit(&request);
-    match answer_one(alloc, store, request, sink, points) {
+    match answer_one(alloc, store, session, request, sink, points) {
         Put::Done if quits => Some(SessionEnd::Quit),
         Put::Done => None,
         Put::WriteFault => Some(SessionEnd::WriteFault),

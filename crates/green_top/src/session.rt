@@ -1,12 +1,12 @@
 //! One session from a source to a sink.
 ghost use Rattle.std.specs.Prelude.{◌≡◌, ◌∷◌, []};
 ghost use Rattle.febe_data.specs.Plain.{plain_history};
-ghost use Rattle.flat_world.specs.History.{restart_entry};
-ghost use Rattle.green_top.specs.Outside.{outside};
+ghost use Rattle.world_rules.specs.History.{restart_entry};
+ghost use Rattle.green_top.specs.IoState.{io_state};
 ghost use Rattle.green_top.specs.Outcome.{IsRun};
-ghost use Rattle.green_top.specs.Conversation.{stand, IsGreeted, HasBegun, IsConversed, IsSession};
+ghost use Rattle.green_top.specs.inside.Conversation.{session_state, IsGreeted, HasBegun, IsConversed, IsSession};
 
-use crate::exchange::{FIRST_SESSION, answer_next, take_next};
+use crate::exchange::{answer_next, take_next};
 use crate::report::Report;
 use crate::session_end::SessionEnd;
 use febe_data::List;
@@ -23,16 +23,17 @@ pub const MOST_INPUT: u64 = 1_099_511_627_776;
 fn converse<S: Source, K: Sink>(
     alloc: Global,
     store: &mut Store,
+    session: u64,
     source: &mut S,
     sink: &mut K,
     feed: &mut Feed,
     turns: &mut Turns,
     points: &mut List<u64>,
 ) -> SessionEnd
-    requires begun { HasBegun (stand store.old.history points.old.items feed.old turns.old (outside (S.left source.old) (S.fault_count source.old) (K.taken sink.old) (K.fault_count sink.old))) }
-    ensures conversed { IsConversed store.old.limits
-        (stand store.old.history points.old.items feed.old turns.old (outside (S.left source.old) (S.fault_count source.old) (K.taken sink.old) (K.fault_count sink.old)))
-        (stand store.new.history points.new.items feed.new turns.new (outside (S.left source.new) (S.fault_count source.new) (K.taken sink.new) (K.fault_count sink.new))) result }
+    requires begun { HasBegun session (session_state store.old.history points.old.items feed.old turns.old (io_state (S.left source.old) (S.fault_count source.old) (K.taken sink.old) (K.fault_count sink.old))) }
+    ensures conversed { IsConversed store.old.limits session
+        (session_state store.old.history points.old.items feed.old turns.old (io_state (S.left source.old) (S.fault_count source.old) (K.taken sink.old) (K.fault_count sink.old)))
+        (session_state store.new.history points.new.items feed.new turns.new (io_state (S.left source.new) (S.fault_count source.new) (K.taken sink.new) (K.fault_count sink.new))) result }
     ensures limits { store.new.limits ≡ store.old.limits }
 {
     match put_bytes(sink, b"P0~") {
@@ -41,7 +42,7 @@ fn converse<S: Source, K: Sink>(
         Put::Memory => unreachable!(),
     }
     loop {
-        let end = answer_next(alloc, store, source, sink, feed, turns, points);
+        let end = answer_next(alloc, store, session, source, sink, feed, turns, points);
         if let Some(end) = end {
             return end;
         }
@@ -49,7 +50,7 @@ fn converse<S: Source, K: Sink>(
 }
 
 /// Begins a session that has sent its greeting, and ends it whatever came of it.
-fn hold<S: Source, K: Sink>(
+fn run_session<S: Source, K: Sink>(
     alloc: Global,
     store: &mut Store,
     source: &mut S,
@@ -60,25 +61,20 @@ fn hold<S: Source, K: Sink>(
 ) -> SessionEnd
     requires fresh { store.old.history ≡ restart_entry ∷ [] }
     requires no_points { points.old.items ≡ [] }
-    requires greeted { IsGreeted (stand store.old.history points.old.items feed.old turns.old (outside (S.left source.old) (S.fault_count source.old) (K.taken sink.old) (K.fault_count sink.old))) }
+    requires greeted { IsGreeted (session_state store.old.history points.old.items feed.old turns.old (io_state (S.left source.old) (S.fault_count source.old) (K.taken sink.old) (K.fault_count sink.old))) }
     ensures session { IsSession store.old.limits
-        (stand store.old.history points.old.items feed.old turns.old (outside (S.left source.old) (S.fault_count source.old) (K.taken sink.old) (K.fault_count sink.old)))
-        (stand store.new.history points.new.items feed.new turns.new (outside (S.left source.new) (S.fault_count source.new) (K.taken sink.new) (K.fault_count sink.new))) result }
+        (session_state store.old.history points.old.items feed.old turns.old (io_state (S.left source.old) (S.fault_count source.old) (K.taken sink.old) (K.fault_count sink.old)))
+        (session_state store.new.history points.new.items feed.new turns.new (io_state (S.left source.new) (S.fault_count source.new) (K.taken sink.new) (K.fault_count sink.new))) result }
 {
-    match store.step(alloc, Step::Begin) {
-        StepAnswer::Begun { .. } => {}
+    let session = match store.step(alloc, Step::Begin) {
+        StepAnswer::Begun { session } => session,
         StepAnswer::NoNumber => return SessionEnd::NoNumber,
         StepAnswer::Memory => return SessionEnd::Memory,
         _ => unreachable!(),
-    }
-    let end = converse(alloc, store, source, sink, feed, turns, points);
+    };
+    let end = converse(alloc, store, session, source, sink, feed, turns, points);
     // After a quit the session is not live, and nothing is left to be done.
-    let _ = store.step(
-        alloc,
-        Step::End {
-            session: FIRST_SESSION,
-        },
-    );
+    let _ended = store.step(alloc, Step::End { session });
     end
 }
 
@@ -92,9 +88,9 @@ pub(crate) fn serve<S: Source, K: Sink>(
 ) -> SessionEnd
     requires fresh { store.old.history ≡ restart_entry ∷ [] }
     requires no_points { report.old.points.items ≡ [] }
-    ensures run { IsRun store.old.limits
-        (outside (S.left source.old) (S.fault_count source.old) (K.taken sink.old) (K.fault_count sink.old))
-        (outside (S.left source.new) (S.fault_count source.new) (K.taken sink.new) (K.fault_count sink.new))
+    ensures run { IsRun store.old.limits (restart_entry ∷ [])
+        (io_state (S.left source.old) (S.fault_count source.old) (K.taken sink.old) (K.fault_count sink.old))
+        (io_state (S.left source.new) (S.fault_count source.new) (K.taken sink.new) (K.fault_count sink.new))
         store.new.history report.new.points.items report.new.bytes_read result }
 {
     let mut feed = Feed::new(alloc);
@@ -108,7 +104,7 @@ pub(crate) fn serve<S: Source, K: Sink>(
         }
     }
     let points = &mut report.points;
-    let end = hold(alloc, store, source, sink, &mut feed, &mut turns, points);
+    let end = run_session(alloc, store, source, sink, &mut feed, &mut turns, points);
     report.bytes_read = turns.taken();
     end
 }

@@ -8,3 +8,10 @@ pub mod ByPlaces
 pub mod Addresses
 pub mod Spans
 pub mod AccountTest
+pub mod Before
+pub mod SumOrder
+pub mod Reaches
+pub mod ReachSteps
+pub mod JustBefore
+pub mod Widths
+pub mod Alls

@@ -5,13 +5,13 @@ use Rattle.std.proofs.lemmas.Grind.{common_steps}
 use Rattle.std.proofs.lemmas.Bool.Decides.{nat_tests}
 use Rattle.std.proofs.lemmas.List.Elements.{All-cons, All-head, All-tail, All-drop}
 use Rattle.tumbler.proofs.Order.{upto_cases}
-use Rattle.tumbler.specs.Places.{place, EndsWell, ArePlaces, IsTumbler, IsUpTo, sum, Fits, after_zero, difference}
+use Rattle.tumbler.specs.Places.{place, place_bound, EndsWell, ArePlaces, IsTumbler, IsUpTo, sum, Fits, after_zero, difference}
 
 abbrev pub AreSmall : List ℕ → Type 0
-AreSmall = All (λ p. p < 2 ^ 32)
+AreSmall = All (λ p. p < place_bound)
 
 -- a place of small places is small, also past their end
-pub place-small : (a : List ℕ) (k : ℕ) → AreSmall a → place a k < 2 ^ 32
+pub place-small : (a : List ℕ) (k : ℕ) → AreSmall a → place a k < place_bound
 place-small a k h = grind (arith, common_steps, h k 0)
 
 -- ---- that the last place is not 0

@@ -1,7 +1,8 @@
 -- The laws of tumblers: their order, sums and differences.
-use Rattle.std.specs.Prelude.{◌≡◌, ◌≢◌, ℕ, true, ◌+◌, ◌-◌, ◌<◌, ◌↔◌, List, [], length}
+use Rattle.std.specs.Prelude.{◌≡◌, ◌≢◌, ℕ, true, ◌+◌, ◌-◌, ◌<◌, ◌↔◌, List, [], ◌∷◌, ◌++◌, map, length, All}
 use Rattle.tumbler.specs.Address.{IsAccount, account_test}
-use Rattle.tumbler.specs.Places.{place, EndsWell, IsTumbler, IsBefore, IsUpTo, sum, Fits, difference}
+use Rattle.tumbler.specs.Places.{place, place_bound, EndsWell, IsTumbler, IsBefore, IsUpTo, sum, Fits, difference, just_before}
+use Rattle.tumbler.specs.Reach.{lead, greater, reach, HasRoom}
 
 -- what leads from a to b is a tumbler, and adding it to a fits and gives b
 pub record LeadsTo (a b : List ℕ) : Type 0 where
@@ -40,6 +41,14 @@ SumComesAfter = (a d : List ℕ) → EndsWell d → d ≢ [] → IsBefore a (sum
 -- a sum of tumblers that fits is a tumbler
 abbrev pub SumIsATumbler : Type 0
 SumIsATumbler = (a d : List ℕ) → IsTumbler a → IsTumbler d → Fits a d → IsTumbler (sum a d)
+
+-- for tumblers, a displacement fits exactly where the sum is a tumbler
+abbrev pub FitsExactly : Type 0
+FitsExactly = (a d : List ℕ) → IsTumbler a → IsTumbler d → (Fits a d ↔ IsTumbler (sum a d))
+
+-- where a is up to b, what leads from a to b plus e is what leads from a to b, plus e
+abbrev pub DifferenceOfSum : Type 0
+DifferenceOfSum = (a b e : List ℕ) → IsUpTo a b → EndsWell e → difference (sum b e) a ≡ sum (difference b a) e
 
 -- at the first place where a and b differ, a has the lesser
 pub record IsFirstLess (a b : List ℕ) : Type 0 where
@@ -86,3 +95,25 @@ DifferenceByPlaces = (a b : List ℕ) (k : ℕ) → IsUpTo a b → IsFirstOther 
 -- the test of an account is true exactly of accounts
 abbrev pub AccountTested : Type 0
 AccountTested = (places : List ℕ) → (account_test places ≡ true) ↔ IsAccount places
+
+-- a base leaves room for the reach of some places exactly where each of them fits after it
+abbrev pub ReachIsExact : Type 0
+ReachIsExact = (a : List ℕ) (several : List (List ℕ)) → All (λ p. p < place_bound) a → (All (Fits a) several ↔ HasRoom a (reach several))
+
+-- moved by d, and with d itself beside them, places reach what they did plus the lead of d
+abbrev pub ReachIsMoved : Type 0
+ReachIsMoved = (d : List ℕ) (several : List (List ℕ)) → reach (d ∷ map (sum d) several) ≡ sum (reach several) (lead d)
+
+-- the reach of two lists of places is place by place the greater one
+abbrev pub ReachIsJoined : Type 0
+ReachIsJoined = (several more : List (List ℕ)) → reach (several ++ more) ≡ greater (reach several) (reach more)
+
+-- a is a tumbler that is up to b, and before b where b is not zero
+pub record StandsBefore (a b : List ℕ) : Type 0 where
+  pub is_tumbler : IsTumbler a
+  pub up_to : IsUpTo a b
+  pub before : b ≢ [] → IsBefore a b
+
+-- the place just before a tumbler stands before it
+abbrev pub JustBeforeStands : Type 0
+JustBeforeStands = (b : List ℕ) → IsTumbler b → StandsBefore (just_before b) b

@@ -1,5 +1,6 @@
 pub mod ListView
 pub mod Places
+pub mod Reach
 pub mod Span
 pub mod Address
 pub mod Laws

@@ -3,6 +3,12 @@ ghost use Rattle.std.specs.Prelude.{◌≡◌, ◌≢◌, ℕ, ◌+◌, ◌-◌,
 ghost use Rattle.tumbler.specs.Address.{IsField, IsAccount, IsDocument, IsDocumentOf, IsMadeIn};
 ghost use Rattle.tumbler.specs.Places.{EndsWell};
 
+/// The most places that an account's address has.
+const MOST_ACCOUNT_PLACES: usize = 12;
+
+/// The most places that a document's address has.
+pub const MOST_DOCUMENT_PLACES: usize = 20;
+
 /// The places before the first 0 and those after it, or nothing where there is no 0.
 fn split_at_zero(places: &[u32]) -> Option<(&[u32], &[u32])>
     ensures parts { IfSome result (λ parts. places.now ≡ parts.0.now ++ 0 ∷ parts.1.now) }
@@ -32,7 +38,7 @@ pub(crate) fn is_account(places: &[u32]) -> bool
     let Some((node, user)) = split_at_zero(places) else {
         return false;
     };
-    if places.len() > 12 || node.is_empty() {
+    if places.len() > MOST_ACCOUNT_PLACES || node.is_empty() {
         return false;
     }
     is_field(user)
@@ -50,7 +56,7 @@ pub(crate) fn account_len(places: &[u32]) -> Option<usize>
         return None;
     };
     let n = node.len() + 1 + user.len();
-    if places.len() > 20 {
+    if places.len() > MOST_DOCUMENT_PLACES {
         return None;
     }
     if !is_account(places.split_at(n).0) {

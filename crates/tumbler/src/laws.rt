@@ -1,5 +1,5 @@
 //! The laws of tumblers. Each is a function that does nothing, whose contract says the law.
-ghost use Rattle.tumbler.specs.Laws.{DifferenceAddsBack, DifferenceUndoesSum, SumsAssociate, SumsFitTogether, SumsKeepOrder, SumsCancel, SumComesAfter, SumIsATumbler, OrderByPlaces, SumByPlaces, DifferenceByPlaces, AccountTested};
+ghost use Rattle.tumbler.specs.Laws.{DifferenceAddsBack, DifferenceUndoesSum, SumsAssociate, SumsFitTogether, SumsKeepOrder, SumsCancel, SumComesAfter, SumIsATumbler, OrderByPlaces, SumByPlaces, DifferenceByPlaces, FitsExactly, DifferenceOfSum, ReachIsExact, ReachIsMoved, ReachIsJoined, JustBeforeStands, AccountTested};
 
 /// For tumblers a and b with a up to b, the difference of b and a is a tumbler, and adding it
 /// to a fits and gives b.
@@ -60,6 +60,38 @@ pub fn sum_by_places()
 /// the difference of their places there, and has b's places after it. It is as long as b.
 pub fn difference_by_places()
     ensures { DifferenceByPlaces }
+{}
+
+/// For tumblers, a displacement fits exactly where the sum is a tumbler.
+pub fn fits_exactly()
+    ensures { FitsExactly }
+{}
+
+/// What leads from a to b plus a displacement is what leads from a to b, plus that displacement, if
+/// it does not end in 0.
+pub fn difference_of_sum()
+    ensures { DifferenceOfSum }
+{}
+
+/// Several places fit after a base exactly where the base has room for their reach.
+pub fn reach_is_exact()
+    ensures { ReachIsExact }
+{}
+
+/// Places that are moved by a displacement reach, with the displacement itself, as far as they did
+/// and the displacement's lead more.
+pub fn reach_is_moved()
+    ensures { ReachIsMoved }
+{}
+
+/// Two lists of places together reach as far as either of them at each index.
+pub fn reach_is_joined()
+    ensures { ReachIsJoined }
+{}
+
+/// The place just before a tumbler is a tumbler, and comes before it unless that is zero.
+pub fn just_before_stands()
+    ensures { JustBeforeStands }
 {}
 
 /// The test of an account, by what stands before and after its first 0, is true exactly of accounts.

@@ -11,6 +11,7 @@ mod span;
 mod tests;
 mod tumbler;
 
+pub use address::MOST_DOCUMENT_PLACES;
 pub use list::{List, Text};
 pub use memory::Memory;
 pub use span::Span;

@@ -36,7 +36,7 @@ impl Span {
         requires { SpanFits self.now }
         ensures { IsTrue result ↔ IsIn x.now self.now }
     {
-        if x.precedes(&self.start) {
+        if x.is_before(&self.start) {
             return false;
         }
         self.ends_after(x)
@@ -48,7 +48,7 @@ impl Span {
         requires other_fits { SpanFits other.now }
         ensures { IsTrue result ↔ Share self.now other.now }
     {
-        if self.start.precedes(&other.start) {
+        if self.start.is_before(&other.start) {
             return self.ends_after(&other.start) && other.ends_after(&other.start);
         }
         self.ends_after(&self.start) && other.ends_after(&self.start)
@@ -59,6 +59,6 @@ impl Span {
         ensures after { IsTrue result ↔ IsBefore x.now (end_of self.now) }
         ensures tumbler { IsTumbler x.now }
     {
-        x.precedes(&self.start.add(&self.width))
+        x.is_before(&self.start.add(&self.width))
     }
 }

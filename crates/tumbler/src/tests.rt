@@ -55,6 +55,50 @@ fn adds_and_takes_away(rt: HostRuntime) -> Result<(), Fail> {
 }
 
 #[test]
+fn tells_how_far_places_may_be_moved(rt: HostRuntime) -> Result<(), Fail> {
+    let alloc = rt.alloc();
+    let second = Tumbler::from_places(alloc, &[0, 0, 3, 1])?.lead();
+    assert_eq!(rt; second.places(), [0, 0, 3].as_slice());
+    let first = Tumbler::from_places(alloc, &[1, 0, 9])?.lead();
+    let reach = first.greater(&second);
+    assert_eq!(rt; reach.places(), [1, 0, 3].as_slice());
+    for (base, has_room) in [
+        ([5, 7, 4294967292].as_slice(), true),
+        ([5, 7, 4294967293].as_slice(), false),
+        ([4294967294].as_slice(), true),
+        ([4294967295].as_slice(), false),
+        ([].as_slice(), true),
+    ] {
+        let base = Tumbler::from_places(alloc, base)?;
+        assert_eq!(rt; base.has_room(&reach), has_room, "{base:?}");
+    }
+    Ok(())
+}
+
+#[test]
+fn places_beside_others(rt: HostRuntime) -> Result<(), Fail> {
+    let alloc = rt.alloc();
+    for (places, before) in [
+        ([1, 2].as_slice(), [1, 1].as_slice()),
+        ([1, 1, 0, 1].as_slice(), [1, 1].as_slice()),
+        ([1, 0, 5].as_slice(), [1, 0, 4].as_slice()),
+        ([0, 0, 1].as_slice(), [].as_slice()),
+        ([].as_slice(), [].as_slice()),
+    ] {
+        let tumbler = Tumbler::from_places(alloc, places)?;
+        assert_eq!(rt; tumbler.just_before().places(), before, "{places:?}");
+    }
+    let alloc = Tumbler::zero(alloc).allocator();
+    assert_eq!(rt;
+        Tumbler::width(alloc, 4, 7).places(),
+        [0, 0, 0, 7].as_slice()
+    );
+    assert_eq!(rt; Tumbler::width(alloc, 4, 0), Tumbler::zero(alloc));
+    assert_eq!(rt; Tumbler::width(alloc, 0, 7), Tumbler::zero(alloc));
+    Ok(())
+}
+
+#[test]
 fn refuses_what_is_no_tumbler(rt: HostRuntime) -> Result<(), Fail> {
     let alloc = rt.alloc();
     assert!(rt; Tumbler::from_places(alloc, &[1, 0]).is_err());

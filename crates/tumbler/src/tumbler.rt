@@ -2,11 +2,15 @@
 ghost use Rattle.std.specs.Prelude.{◌≡◌, ◌≢◌, ℕ, ◌+◌, ◌-◌, ◌^◌, ◌<◌, ◌≤◌, ◌↔◌, ◌==◌, ◌⊎◌, List, [], ◌∷◌, ◌++◌, length, take, drop, All, IsTrue, IsOk, IsErr, IfOk, OnErr, IfSome, IfNone, replicate, slice_index, refl};
 ghost use Rattle.std.specs.Ordering.{nat_cmp, as_partial_cmp};
 ghost use Rattle.std.specs.Cmp.Lexicographic.{slice_cmp, nat_list_cmp_total, texts_ties, texts_po};
-ghost use Rattle.tumbler.specs.Places.{place, IsTumbler, EndsWell, IsBefore, IsUpTo, sum, Fits, difference};
+ghost use Rattle.tumbler.specs.Places.{most_places, place, IsTumbler, EndsWell, IsBefore, IsUpTo, comes_before, sum, Fits, difference, width_at, trimmed, just_before};
+ghost use Rattle.tumbler.specs.Reach.{lead, greater, HasRoom};
 ghost use Rattle.tumbler.specs.Address.{IsAccount, IsDocument, IsDocumentOf, IsMadeIn};
 
 use crate::address;
-use crate::arithmetic::{difference_of, sum_fits, sum_of};
+use crate::arithmetic::{
+    difference_of, greater_of, last_at, lead_len, room_for, sum_fits, sum_of, trimmed_len,
+    with_last,
+};
 use smallvec::SmallVec;
 use std::alloc::Global;
 use std::cmp::Ordering;
@@ -29,7 +33,7 @@ pub struct Tumbler {
 impl Model for Tumbler {
     ghost use Rattle.std.specs.Prelude.{◌≡◌, ℕ, List};
     ghost use Rattle.std.specs.Coded.{coded_list, coded_ℕ};
-    ghost use Rattle.tumbler.specs.Places.{IsTumbler};
+    ghost use Rattle.tumbler.specs.Places.{IsTumbler, most_places};
 
     ghost Value = { List ℕ };
 
@@ -37,9 +41,9 @@ impl Model for Tumbler {
 
     ghost view = { λ t. t.held.items };
 
-    ghost invariant = { λ t. (t.held.capacity ≡ 24) × IsTumbler t.held.items };
+    ghost invariant = { λ t. (t.held.capacity ≡ most_places) × IsTumbler t.held.items };
 
-    ghost inverse = { λ places. record { held = record { items = places; capacity = 24 } } };
+    ghost inverse = { λ places. record { held = record { items = places; capacity = most_places } } };
 
     ghost use Rattle.std.proofs.Common.{ap, sym};
 
@@ -71,7 +75,7 @@ impl Tumbler {
     /// The tumbler of these places.
     pub fn from_places(alloc: Global, places: &[u32]) -> Result<Tumbler, BadTumbler>
         ensures value { IfOk result (λ tumbler. tumbler ≡ places.now) }
-        ensures refused { IsErr result ↔ ((24 < length places.now) ⊎ ((0 < length places.now) × (place places.now (length places.now - 1) ≡ 0))) }
+        ensures refused { IsErr result ↔ ((most_places < length places.now) ⊎ ((0 < length places.now) × (place places.now (length places.now - 1) ≡ 0))) }
     {
         if places.len() > MOST_PLACES {
             return Err(BadTumbler);
@@ -91,6 +95,22 @@ impl Tumbler {
         Tumbler {
             held: SmallVec::from_slice(*self.held.allocator(), self.held.as_slice()).unwrap(),
         }
+    }
+
+    /// Zeros, and `n` at the last of `long` places: the width of `n` places in a row that differ there.
+    /// It is zero where `n` is 0 or `long` is 0.
+    pub fn width(alloc: Global, long: usize, n: u32) -> Tumbler
+        requires { long ≤ most_places }
+        ensures { result ≡ width_at long n }
+    {
+        Tumbler {
+            held: last_at(alloc, long, n),
+        }
+    }
+
+    /// What memory comes from. A tumbler takes none of it, but what is made of tumblers may.
+    pub fn allocator(&self) -> Global {
+        *self.held.allocator()
     }
 
     /// The places, the first one first.
@@ -132,20 +152,20 @@ impl Tumbler {
 
     /// The tumbler with `k` as one place more.
     pub fn child(&self, k: u32) -> Tumbler
-        requires room { length self.now < 24 }
+        requires room { length self.now < most_places }
         requires counted { 0 < k }
         ensures { result ≡ self.now ++ k ∷ [] }
     {
-        let mut held = SmallVec::from_slice(*self.held.allocator(), self.places()).unwrap();
-        held.push_reserved(k);
-        Tumbler { held }
+        Tumbler {
+            held: with_last(*self.held.allocator(), self.places(), k),
+        }
     }
 
     /// The tumbler of these places and then `tail`.
     pub fn extended(&self, tail: &[u32]) -> Result<Tumbler, BadTumbler>
         ensures value { IfOk result (λ tumbler. tumbler ≡ self.now ++ tail.now) }
-        ensures accepted { length self.now + length tail.now ≤ 24 → (0 < length tail.now → place tail.now (length tail.now - 1) ≢ 0) → IsOk result }
-        ensures refused { OnErr result ((24 < length self.now + length tail.now) ⊎ (place tail.now (length tail.now - 1) ≡ 0)) }
+        ensures accepted { length self.now + length tail.now ≤ most_places → (0 < length tail.now → place tail.now (length tail.now - 1) ≢ 0) → IsOk result }
+        ensures refused { OnErr result ((most_places < length self.now + length tail.now) ⊎ (place tail.now (length tail.now - 1) ≡ 0)) }
     {
         if tail.len() > MOST_PLACES - self.places().len() {
             return Err(BadTumbler);
@@ -198,14 +218,6 @@ impl Tumbler {
         }
     }
 
-    /// Whether this one comes before the other.
-    pub(crate) fn precedes(&self, other: &Tumbler) -> bool
-        ensures before { IsTrue result ↔ IsBefore self.now other.now }
-        ensures tumbler { IsTumbler self.now }
-    {
-        self.held.as_slice().cmp(&other.held.as_slice()).is_lt()
-    }
-
     /// The tumbler of the first `n` places, of which the last is not 0.
     fn front(&self, n: usize) -> Tumbler
         requires within { n ≤ length self.now }
@@ -217,6 +229,57 @@ impl Tumbler {
                 *self.held.allocator(),
                 self.places().split_at(n).0,
             ).unwrap(),
+        }
+    }
+}
+
+impl Tumbler {
+    /// Whether this one comes before the other.
+    pub fn is_before(&self, other: &Tumbler) -> bool
+        ensures value { result ≡ comes_before self.now other.now }
+        ensures before { IsTrue result ↔ IsBefore self.now other.now }
+        ensures tumbler { IsTumbler self.now }
+    {
+        self.held.as_slice().cmp(&other.held.as_slice()).is_lt()
+    }
+
+    /// The places up to and with the first one that is not 0.
+    pub fn lead(&self) -> Tumbler
+        ensures { result ≡ lead self.now }
+    {
+        self.front(lead_len(self.places()))
+    }
+
+    /// Index by index the greater place of both.
+    pub fn greater(&self, other: &Tumbler) -> Tumbler
+        ensures { result ≡ greater self.now other.now }
+    {
+        Tumbler {
+            held: greater_of(*self.held.allocator(), self.places(), other.places()),
+        }
+    }
+
+    /// Whether places that add up to the reach, each at its own index, can all be moved by this one.
+    pub fn has_room(&self, reach: &Tumbler) -> bool
+        ensures { IsTrue result ↔ HasRoom self.now reach.now }
+    {
+        room_for(self.places(), reach.places())
+    }
+
+    /// A place that comes before this one: the last place less 1, without the zeros at the end. Zero stays.
+    pub fn just_before(&self) -> Tumbler
+        ensures { result ≡ just_before self.now }
+    {
+        let places = self.places();
+        let Some(last) = places.last() else {
+            return self.copy();
+        };
+        let n = places.len() - 1;
+        if *last < 2 {
+            return self.front(trimmed_len(places.split_at(n).0));
+        }
+        Tumbler {
+            held: with_last(*self.held.allocator(), places.split_at(n).0, *last - 1),
         }
     }
 }

@@ -6,9 +6,13 @@ mod batch_rows;
 #[cfg(test)]
 mod bounds;
 #[cfg(test)]
+mod entry_rows;
+#[cfg(test)]
 mod faults;
 #[cfg(test)]
 mod flat_rows;
+#[cfg(test)]
+mod history_rows;
 #[cfg(test)]
 mod rows;
 #[cfg(test)]
@@ -19,3 +23,5 @@ mod sessions;
 mod store_rows;
 #[cfg(test)]
 mod tables;
+#[cfg(test)]
+mod taking_rows;

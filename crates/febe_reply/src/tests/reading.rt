@@ -146,7 +146,7 @@ fn each_reply_is_read_and_written(rt: HostRuntime) -> Result<(), Fail> {
     Ok(())
 }
 
-fn check_fronts(rt: &impl Abort, alloc: Global, spelling: &str) -> Result<(), Fail> {
+fn check_prefixes(rt: &impl Abort, alloc: Global, spelling: &str) -> Result<(), Fail> {
     let bytes = spelling.as_bytes();
     for cut in 0..bytes.len() {
         let got = read_reply(alloc, &bytes[..cut])?;
@@ -156,9 +156,9 @@ fn check_fronts(rt: &impl Abort, alloc: Global, spelling: &str) -> Result<(), Fa
 }
 
 #[test]
-fn each_front_wants_more(rt: HostRuntime) -> Result<(), Fail> {
+fn each_prefix_wants_more(rt: HostRuntime) -> Result<(), Fail> {
     for (_, spelling) in REPLIES {
-        check_fronts(&rt, rt.alloc(), spelling)?;
+        check_prefixes(&rt, rt.alloc(), spelling)?;
     }
     for bytes in MORE {
         let got = read_reply(rt.alloc(), bytes.as_bytes())?;

@@ -1,7 +1,7 @@
 use Rattle.std.proofs.Common.{arith}
 use Rattle.std.proofs.lemmas.Grind.{common_steps}
 use Rattle.febe_fields.proofs.ManyLoop.{one_more, none_more, all_read}
-use Rattle.febe_reply.specs.Reading.{diagonal_at}
+use Rattle.febe_reply.specs.inside.Reading.{diagonal_at}
 use Rattle.febe_reply.proofs.items.many_diagonals_at.Goals as goal
 
 pub returns-in_default : goal.returns-in_default

@@ -1,7 +1,7 @@
 use Rattle.std.proofs.Common.{◌≡◌, ◌-◌, ◌+◌, ◌≤◌}
 use Rattle.febe_fields.specs.Reading.{many_at}
 use Rattle.febe_fields.proofs.ManyLoop.{with_items}
-use Rattle.febe_reply.specs.Reading.{diagonal_at}
+use Rattle.febe_reply.specs.inside.Reading.{diagonal_at}
 use Rattle.febe_reply.proofs.items.many_diagonals_at.Given as goal
 
 abbrev pub invariant-loop : goal.invariant-loop

@@ -3,7 +3,7 @@ use Rattle.std.proofs.lemmas.Grind.{common_steps}
 use Rattle.std.proofs.lemmas.List.{map-append}
 use Rattle.febe_data.specs.Plain.{plain_item}
 use Rattle.febe_fields.proofs.ManyLoop.{one_more, none_more, all_read}
-use Rattle.febe_reply.specs.Reading.{item_at}
+use Rattle.febe_reply.specs.inside.Reading.{item_at}
 use Rattle.febe_reply.proofs.items.many_items_at.Goals as goal
 
 pub returns-in_default : goal.returns-in_default

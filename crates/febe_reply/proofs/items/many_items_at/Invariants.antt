@@ -2,7 +2,7 @@ use Rattle.std.proofs.Common.{◌≡◌, ◌-◌, ◌+◌, ◌≤◌, map}
 use Rattle.febe_data.specs.Plain.{plain_item}
 use Rattle.febe_fields.specs.Reading.{many_at}
 use Rattle.febe_fields.proofs.ManyLoop.{with_items}
-use Rattle.febe_reply.specs.Reading.{item_at}
+use Rattle.febe_reply.specs.inside.Reading.{item_at}
 use Rattle.febe_reply.proofs.items.many_items_at.Given as goal
 
 abbrev pub invariant-loop : goal.invariant-loop

@@ -1,5 +1,5 @@
 use Rattle.std.proofs.Common.{take}
-use Rattle.flat_world.specs.ByteIndex.{FindsBytes}
+use Rattle.flat_world.specs.inside.ByteIndex.{FindsBytes}
 use Rattle.flat_world.proofs.byte_index.find_bytes.Given as goal
 
 abbrev pub invariant-loop-row : goal.invariant-loop-row

@@ -1,8 +1,8 @@
 use Rattle.std.proofs.Common.{◌&&◌, ◌∙◌, sym, arith}
 use Rattle.std.specs.Prelude.{filter}
-use Rattle.flat_world.specs.declared.rows.Row.{Row}
-use Rattle.flat_world.specs.World.{is_text_of}
-use Rattle.flat_world.specs.Picking.{is_within, addresses_of}
+use Rattle.world_rules.specs.declared.rows.Row.{Row}
+use Rattle.world_rules.specs.World.{is_text_of}
+use Rattle.world_rules.specs.Picking.{is_within, addresses_of}
 use Rattle.flat_world.proofs.ByteIndexes.{wants_yes, wants_no, wants_all}
 use Rattle.flat_world.proofs.byte_index.want_rows.Goals as goal
 use Rattle.flat_world.proofs.byte_index.want_rows.Goals.{then-is_picked_text+in_ok-insert, else-is_picked_text}

@@ -1,8 +1,8 @@
 use Rattle.std.proofs.Common.{◌&&◌, take}
 use Rattle.std.specs.Prelude.{filter}
-use Rattle.flat_world.specs.World.{is_text_of}
-use Rattle.flat_world.specs.Picking.{is_within, addresses_of}
-use Rattle.flat_world.specs.ByteIndex.{WantsMore}
+use Rattle.world_rules.specs.World.{is_text_of}
+use Rattle.world_rules.specs.Picking.{is_within, addresses_of}
+use Rattle.flat_world.specs.inside.ByteIndex.{WantsMore}
 use Rattle.flat_world.proofs.byte_index.want_rows.Given as goal
 
 abbrev pub invariant-loop-row : goal.invariant-loop-row

@@ -1,7 +1,7 @@
 use Rattle.std.proofs.Common.{◌≡◌, ◌==◌, ◌∙◌, Some, sym, arith}
 use Rattle.std.specs.List.{position}
-use Rattle.flat_world.specs.declared.rows.SessionRow.{SessionRow}
-use Rattle.flat_world.specs.FlatView.{entries_in}
+use Rattle.world_rules.specs.declared.rows.SessionRow.{SessionRow}
+use Rattle.world_rules.specs.FlatView.{entries_in}
 use Rattle.flat_world.proofs.Counted.{entries_read, appends}
 use Rattle.flat_world.proofs.counts.count.Goals as goal
 

@@ -1,7 +1,7 @@
 use Rattle.std.proofs.Common.{◌≡◌, ◌==◌, ◌∙◌, Some, None, sym, arith}
 use Rattle.std.specs.List.{position}
-use Rattle.flat_world.specs.declared.rows.SessionRow.{SessionRow}
-use Rattle.flat_world.specs.FlatView.{entries_in}
+use Rattle.world_rules.specs.declared.rows.SessionRow.{SessionRow}
+use Rattle.world_rules.specs.FlatView.{entries_in}
 use Rattle.flat_world.proofs.Counted.{entries_read, no_entries, room_is_known}
 use Rattle.flat_world.proofs.counts.reserve_count.Goals as goal
 

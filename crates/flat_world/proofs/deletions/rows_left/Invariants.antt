@@ -1,5 +1,5 @@
 use Rattle.std.proofs.Common.{◌≡◌, take}
-use Rattle.flat_world.specs.Closing.{rows_left}
+use Rattle.flat_world.specs.inside.Closing.{rows_left}
 use Rattle.flat_world.proofs.deletions.rows_left.Given as goal
 
 abbrev pub invariant-loop-row : goal.invariant-loop-row

@@ -1,7 +1,7 @@
 use Rattle.std.proofs.Common.{rules, not}
 use Rattle.std.proofs.lemmas.Fn.{filter_same}
-use Rattle.flat_world.specs.declared.rows.OpenRow.{OpenRow}
-use Rattle.flat_world.specs.World.{opens}
+use Rattle.world_rules.specs.declared.rows.OpenRow.{OpenRow}
+use Rattle.world_rules.specs.World.{opens}
 use Rattle.flat_world.proofs.edits.close_opening.Goals as goal
 
 pub returns-clause-rows : goal.returns-clause-rows

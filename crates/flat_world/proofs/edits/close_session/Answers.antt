@@ -1,6 +1,6 @@
 use Rattle.std.proofs.Common.{rules, not, eqb}
 use Rattle.std.proofs.lemmas.Fn.{filter_same}
-use Rattle.flat_world.specs.declared.rows.OpenRow.{OpenRow}
+use Rattle.world_rules.specs.declared.rows.OpenRow.{OpenRow}
 use Rattle.flat_world.proofs.edits.close_session.Goals as goal
 
 pub returns : goal.returns

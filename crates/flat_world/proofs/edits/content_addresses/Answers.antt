@@ -1,4 +1,4 @@
-use Rattle.flat_world.specs.Edits.{content_addresses}
+use Rattle.world_rules.specs.Edits.{content_addresses}
 use Rattle.flat_world.proofs.Edited.{addresses_more}
 use Rattle.flat_world.proofs.edits.content_addresses.Goals as goal
 

@@ -1,5 +1,5 @@
 use Rattle.std.proofs.Common.{◌≡◌, ◌++◌, ◌-◌}
-use Rattle.flat_world.specs.Edits.{content_addresses}
+use Rattle.world_rules.specs.Edits.{content_addresses}
 use Rattle.flat_world.proofs.edits.content_addresses.Given as goal
 
 abbrev pub invariant-loop : goal.invariant-loop

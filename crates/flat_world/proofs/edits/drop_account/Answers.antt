@@ -1,6 +1,6 @@
 use Rattle.std.proofs.Common.{rules, not, eqb}
 use Rattle.std.proofs.lemmas.Fn.{filter_same}
-use Rattle.flat_world.specs.declared.rows.AccountRow.{AccountRow}
+use Rattle.world_rules.specs.declared.rows.AccountRow.{AccountRow}
 use Rattle.flat_world.proofs.edits.drop_account.Goals as goal
 
 pub returns-clause-rows : goal.returns-clause-rows

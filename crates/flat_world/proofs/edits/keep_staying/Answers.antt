@@ -1,7 +1,7 @@
 use Rattle.std.proofs.Common.{rules, not}
 use Rattle.std.proofs.lemmas.Fn.{filter_same}
-use Rattle.flat_world.specs.declared.rows.Row.{Row}
-use Rattle.flat_world.specs.Edits.{moves_up}
+use Rattle.world_rules.specs.declared.rows.Row.{Row}
+use Rattle.world_rules.specs.Edits.{moves_up}
 use Rattle.flat_world.proofs.edits.keep_staying.Goals as goal
 
 pub returns-clause-rows : goal.returns-clause-rows

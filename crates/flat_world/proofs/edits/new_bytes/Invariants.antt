@@ -1,5 +1,5 @@
 use Rattle.std.proofs.Common.{◌≡◌, ◌++◌, drop}
-use Rattle.flat_world.specs.Edits.{new_bytes}
+use Rattle.world_rules.specs.Edits.{new_bytes}
 use Rattle.flat_world.proofs.edits.new_bytes.Given as goal
 
 abbrev pub invariant-loop-byte : goal.invariant-loop-byte

@@ -1,6 +1,6 @@
 use Rattle.std.proofs.Common.{◌≡◌, ◌++◌, take, map}
 use Rattle.std.specs.Prelude.{filter}
-use Rattle.flat_world.specs.Edits.{moves_up, up_by}
+use Rattle.world_rules.specs.Edits.{moves_up, up_by}
 use Rattle.flat_world.proofs.edits.push_moved.Given as goal
 
 abbrev pub invariant-loop-row : goal.invariant-loop-row

@@ -1,5 +1,5 @@
 use Rattle.std.proofs.Common.{◌≡◌, ◌++◌, drop}
-use Rattle.flat_world.specs.Edits.{new_rows}
+use Rattle.world_rules.specs.Edits.{new_rows}
 use Rattle.flat_world.proofs.edits.push_new.Given as goal
 
 abbrev pub invariant-loop-address : goal.invariant-loop-address

@@ -1,6 +1,6 @@
 use Rattle.std.proofs.Common.{◌≡◌, ◌++◌, take, not}
 use Rattle.std.specs.Prelude.{filter}
-use Rattle.flat_world.specs.Edits.{moves_up}
+use Rattle.world_rules.specs.Edits.{moves_up}
 use Rattle.flat_world.proofs.edits.push_staying.Given as goal
 
 abbrev pub invariant-loop-row : goal.invariant-loop-row

@@ -1,7 +1,7 @@
 use Rattle.std.proofs.Common.{◌≡◌, ◌++◌, not, length, map, refl, sym, append_assoc}
 use Rattle.std.specs.Prelude.{filter}
-use Rattle.flat_world.specs.declared.rows.Row.{Row}
-use Rattle.flat_world.specs.Edits.{moves_up, up_by, new_rows}
+use Rattle.world_rules.specs.declared.rows.Row.{Row}
+use Rattle.world_rules.specs.Edits.{moves_up, up_by, new_rows}
 use Rattle.flat_world.proofs.edits.put_rows.Goals as goal
 
 pub returns-clause-ok : goal.returns-clause-ok

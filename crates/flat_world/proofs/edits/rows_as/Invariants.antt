@@ -1,5 +1,5 @@
 use Rattle.std.proofs.Common.{◌≡◌, take}
-use Rattle.flat_world.specs.Edits.{rows_as}
+use Rattle.world_rules.specs.Edits.{rows_as}
 use Rattle.flat_world.proofs.edits.rows_as.Given as goal
 
 abbrev pub invariant-loop-row : goal.invariant-loop-row

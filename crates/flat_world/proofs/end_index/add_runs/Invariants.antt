@@ -1,6 +1,6 @@
 use Rattle.std.proofs.Common.{take}
-use Rattle.flat_world.specs.Picking.{is_in_runs}
-use Rattle.flat_world.specs.EndIndex.{IndexesMore}
+use Rattle.world_rules.specs.Picking.{is_in_runs}
+use Rattle.flat_world.specs.inside.EndIndex.{IndexesMore}
 use Rattle.flat_world.proofs.end_index.add_runs.Given as goal
 
 abbrev pub invariant-loop-run : goal.invariant-loop-run

@@ -1,10 +1,10 @@
 use Rattle.std.proofs.Common.{take}
 use Rattle.std.specs.List.{list_any}
-use Rattle.flat_world.specs.declared.rows.LinkRow.{LinkRow}
+use Rattle.flat_world.specs.declared.links.LinkRow.{LinkRow}
 use Rattle.flat_world.specs.PlainLink.{plain_link}
-use Rattle.flat_world.specs.Picking.{is_in_runs}
-use Rattle.flat_world.specs.Ends.{runs_of_end}
-use Rattle.flat_world.specs.EndIndex.{Indexes}
+use Rattle.world_rules.specs.Picking.{is_in_runs}
+use Rattle.world_rules.specs.Ends.{runs_of_end}
+use Rattle.flat_world.specs.inside.EndIndex.{Indexes}
 use Rattle.flat_world.proofs.end_index.end_index.Given as goal
 
 abbrev pub invariant-loop-link : goal.invariant-loop-link

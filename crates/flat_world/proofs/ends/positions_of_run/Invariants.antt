@@ -1,7 +1,7 @@
 use Rattle.std.proofs.Common.{◌≡◌, ◌&&◌, take}
 use Rattle.std.specs.Prelude.{filter}
-use Rattle.flat_world.specs.World.{is_text_of}
-use Rattle.flat_world.specs.Picking.{is_in_run, places_of}
+use Rattle.world_rules.specs.World.{is_text_of}
+use Rattle.world_rules.specs.Picking.{is_in_run, places_of}
 use Rattle.flat_world.proofs.ends.positions_of_run.Given as goal
 
 abbrev pub invariant-loop-row : goal.invariant-loop-row

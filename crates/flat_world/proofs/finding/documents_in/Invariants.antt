@@ -1,7 +1,7 @@
 use Rattle.std.proofs.Common.{◌≡◌, take}
 use Rattle.std.specs.Prelude.{filter}
-use Rattle.flat_world.specs.World.{ascending}
-use Rattle.flat_world.specs.Sets.{is_in_set}
+use Rattle.world_rules.specs.World.{ascending}
+use Rattle.flat_world.specs.inside.Sets.{is_in_set}
 use Rattle.flat_world.proofs.finding.documents_in.Given as goal
 
 abbrev pub invariant-loop-document : goal.invariant-loop-document

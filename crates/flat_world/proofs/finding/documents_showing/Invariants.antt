@@ -1,5 +1,5 @@
 use Rattle.std.proofs.Common.{take}
-use Rattle.flat_world.specs.Sets.{IsSetShowing}
+use Rattle.flat_world.specs.inside.Sets.{IsSetShowing}
 use Rattle.flat_world.proofs.finding.documents_showing.Given as goal
 
 abbrev pub invariant-loop-row : goal.invariant-loop-row

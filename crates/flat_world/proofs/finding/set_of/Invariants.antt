@@ -1,5 +1,5 @@
 use Rattle.std.proofs.Common.{take}
-use Rattle.flat_world.specs.Sets.{IsSetOf}
+use Rattle.flat_world.specs.inside.Sets.{IsSetOf}
 use Rattle.flat_world.proofs.finding.set_of.Given as goal
 
 abbrev pub invariant-loop-tumbler : goal.invariant-loop-tumbler

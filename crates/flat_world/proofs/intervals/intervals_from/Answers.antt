@@ -1,7 +1,7 @@
 use Rattle.std.proofs.Common.{◌+◌, ◌==◌, ◌∙◌, sym, map, arith}
 use Rattle.std.proofs.lemmas.List.Elements.{All-push}
 use Rattle.febe_data.specs.Validity.{IsSpan}
-use Rattle.flat_world.specs.Picking.{interval, stretches_on}
+use Rattle.world_rules.specs.Picking.{interval, stretches_on}
 use Rattle.flat_world.proofs.Positions.{extends, begins, ends}
 use Rattle.flat_world.proofs.intervals.intervals_from.Goals as goal
 use Rattle.flat_world.proofs.intervals.intervals_from.Goals.{then-is_followed_by+in_ok-open, else-is_followed_by+in_ok-interval+in_ok-push}

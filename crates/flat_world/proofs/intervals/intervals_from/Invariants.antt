@@ -1,6 +1,6 @@
 use Rattle.std.proofs.Common.{◌≡◌, ◌+◌, ◌==◌, ◌++◌, All, drop, map}
 use Rattle.febe_data.specs.Validity.{IsSpan}
-use Rattle.flat_world.specs.Picking.{stretches_on, interval}
+use Rattle.world_rules.specs.Picking.{stretches_on, interval}
 use Rattle.flat_world.proofs.intervals.intervals_from.Given as goal
 
 abbrev pub invariant-loop-position : goal.invariant-loop-position

@@ -1,7 +1,7 @@
 use Rattle.std.proofs.Common.{◌≡◌, ◌&&◌, ◌++◌, take}
 use Rattle.std.specs.Prelude.{filter}
-use Rattle.flat_world.specs.World.{is_text_of}
-use Rattle.flat_world.specs.Picking.{is_within, addresses_of}
+use Rattle.world_rules.specs.World.{is_text_of}
+use Rattle.world_rules.specs.Picking.{is_within, addresses_of}
 use Rattle.flat_world.proofs.picks.push_addresses.Given as goal
 
 abbrev pub invariant-loop-row : goal.invariant-loop-row

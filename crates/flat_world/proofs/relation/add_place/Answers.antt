@@ -2,7 +2,7 @@ use Rattle.std.proofs.Common.{◌≡◌, ◌∙◌, [], ℕ, ap, sym}
 use Rattle.std.specs.Prelude.{Option}
 use Rattle.std.specs.Global.{Vec}
 use Rattle.std.specs.Option.{option_map, unwrap_or}
-use Rattle.flat_world.specs.PairIndex.{places_in}
+use Rattle.flat_world.specs.inside.PairIndex.{places_in}
 use Rattle.flat_world.proofs.Relations.{place_added}
 use Rattle.flat_world.proofs.relation.add_place.Goals as goal
 use Rattle.flat_world.proofs.relation.add_place.Goals.{in-Some, in-None}

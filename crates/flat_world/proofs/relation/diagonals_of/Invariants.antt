@@ -1,7 +1,7 @@
 use Rattle.std.proofs.Common.{◌≡◌, take, map, All}
 use Rattle.std.specs.Prelude.{filter}
 use Rattle.febe_data.specs.Validity.{IsDiagonal}
-use Rattle.flat_world.specs.Relation.{is_start, diagonal_from}
+use Rattle.world_rules.specs.Relation.{is_start, diagonal_from}
 use Rattle.flat_world.proofs.relation.diagonals_of.Given as goal
 
 abbrev pub invariant-loop-pair : goal.invariant-loop-pair

@@ -1,7 +1,7 @@
 use Rattle.std.proofs.Common.{◌≡◌, drop}
 use Rattle.std.specs.List.{list_any}
 use Rattle.tumbler.specs.declared.span.Span.{Span}
-use Rattle.flat_world.specs.Picking.{picks}
+use Rattle.world_rules.specs.Picking.{picks}
 use Rattle.flat_world.proofs.relation.is_in_some.Given as goal
 
 abbrev pub invariant-loop-span : goal.invariant-loop-span

@@ -1,5 +1,5 @@
 use Rattle.std.proofs.Common.{◌∙◌, ap, sym, not, arith, ◌-◌}
-use Rattle.flat_world.proofs.Diagonals.{start_further}
+use Rattle.world_rules.proofs.Diagonals.{start_further}
 use Rattle.flat_world.proofs.relation.is_start.Goals as goal
 
 pub returns : goal.returns

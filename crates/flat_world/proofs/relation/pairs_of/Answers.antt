@@ -1,10 +1,10 @@
 use Rattle.std.proofs.Common.{◌∙◌, ◌++◌, List, ap, sym}
 use Rattle.febe_data.specs.Plain.{plain_spec}
 use Rattle.std.specs.Prelude.{filter}
-use Rattle.flat_world.specs.declared.relation.Pair.{Pair}
-use Rattle.flat_world.specs.declared.rows.Row.{Row}
-use Rattle.flat_world.specs.Picking.{is_picked_by}
-use Rattle.flat_world.specs.PairIndex.{pairs_with, places_in}
+use Rattle.world_rules.specs.declared.pairs.Pair.{Pair}
+use Rattle.world_rules.specs.declared.rows.Row.{Row}
+use Rattle.world_rules.specs.Picking.{is_picked_by}
+use Rattle.flat_world.specs.inside.PairIndex.{pairs_with, places_in}
 use Rattle.flat_world.proofs.Relations.{pairs_yes, pairs_no}
 use Rattle.flat_world.proofs.relation.pairs_of.Goals as goal
 use Rattle.flat_world.proofs.relation.pairs_of.Goals.{then-is_picked+in_ok-push_row, else-is_picked}

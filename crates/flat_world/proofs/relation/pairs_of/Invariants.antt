@@ -2,8 +2,8 @@ use Rattle.std.proofs.Common.{◌≡◌, take}
 use Rattle.std.specs.Prelude.{filter}
 use Rattle.std.specs.List.{flat_map}
 use Rattle.febe_data.specs.Plain.{plain_spec}
-use Rattle.flat_world.specs.Picking.{is_picked_by}
-use Rattle.flat_world.specs.Relation.{pairs_of_row}
+use Rattle.world_rules.specs.Picking.{is_picked_by}
+use Rattle.world_rules.specs.Relation.{pairs_of_row}
 use Rattle.flat_world.proofs.relation.pairs_of.Given as goal
 
 abbrev pub invariant-loop-row : goal.invariant-loop-row

@@ -1,8 +1,8 @@
 use Rattle.std.proofs.Common.{take}
 use Rattle.std.specs.Prelude.{filter}
 use Rattle.febe_data.specs.Plain.{plain_spec}
-use Rattle.flat_world.specs.PairIndex.{IsPlaceIndex}
-use Rattle.flat_world.specs.Picking.{is_picked_by}
+use Rattle.flat_world.specs.inside.PairIndex.{IsPlaceIndex}
+use Rattle.world_rules.specs.Picking.{is_picked_by}
 use Rattle.flat_world.proofs.relation.place_index.Given as goal
 
 abbrev pub invariant-loop-row : goal.invariant-loop-row

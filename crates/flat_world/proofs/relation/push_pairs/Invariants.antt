@@ -1,5 +1,5 @@
 use Rattle.std.proofs.Common.{◌≡◌, ◌++◌, take}
-use Rattle.flat_world.specs.PairIndex.{pairs_with}
+use Rattle.flat_world.specs.inside.PairIndex.{pairs_with}
 use Rattle.flat_world.proofs.relation.push_pairs.Given as goal
 
 abbrev pub invariant-loop-right : goal.invariant-loop-right

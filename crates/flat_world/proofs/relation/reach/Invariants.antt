@@ -1,5 +1,5 @@
 use Rattle.std.proofs.Common.{◌≡◌, ◌+◌, ◌-◌, length}
-use Rattle.flat_world.specs.Relation.{reach}
+use Rattle.world_rules.specs.Relation.{reach}
 use Rattle.flat_world.proofs.relation.reach.Given as goal
 
 abbrev pub invariant-loop : goal.invariant-loop

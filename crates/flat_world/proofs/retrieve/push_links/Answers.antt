@@ -1,12 +1,12 @@
 use Rattle.std.proofs.Common.{◌≡◌, ◌&&◌, ◌++◌, ◌+◌, true, false, All, map, take}
 use Rattle.std.specs.Prelude.{filter}
 use Rattle.febe_data.specs.Plain.{plain_item, link}
-use Rattle.flat_world.specs.declared.rows.Row.{Row}
-use Rattle.flat_world.specs.World.{is_link_of}
-use Rattle.flat_world.specs.Picking.{is_within}
-use Rattle.flat_world.specs.Answers.{NamesTumbler}
+use Rattle.world_rules.specs.declared.rows.Row.{Row}
+use Rattle.world_rules.specs.World.{is_link_of}
+use Rattle.world_rules.specs.Picking.{is_within}
+use Rattle.world_rules.specs.Answers.{NamesTumbler}
 use Rattle.flat_world.proofs.Retrieved.{links_yes, links_no, both_true, first_false, second_false}
-use Rattle.flat_world.proofs.Valid.{tumblers_push}
+use Rattle.world_rules.proofs.Valid.{tumblers_push}
 use Rattle.flat_world.proofs.retrieve.push_links.Goals as goal
 use Rattle.flat_world.proofs.retrieve.push_links.Goals.{then-is_link_of+then-is_within+in_ok-push, else-is_link_of, else-is_link_of-via-then-is_link_of+else-is_within, else-is_link_of-via-else-is_link_of}
 

@@ -1,10 +1,10 @@
 use Rattle.std.proofs.Common.{◌≡◌, All, ◌&&◌, ◌++◌, take, map}
 use Rattle.std.specs.Prelude.{filter}
 use Rattle.febe_data.specs.Plain.{plain_item, link}
-use Rattle.flat_world.specs.declared.rows.Row.{Row}
-use Rattle.flat_world.specs.World.{is_link_of}
-use Rattle.flat_world.specs.Picking.{is_within}
-use Rattle.flat_world.specs.Answers.{NamesTumbler}
+use Rattle.world_rules.specs.declared.rows.Row.{Row}
+use Rattle.world_rules.specs.World.{is_link_of}
+use Rattle.world_rules.specs.Picking.{is_within}
+use Rattle.world_rules.specs.Answers.{NamesTumbler}
 use Rattle.flat_world.proofs.retrieve.push_links.Given as goal
 
 abbrev pub invariant-loop-row : goal.invariant-loop-row

@@ -2,13 +2,13 @@ use Rattle.std.proofs.Common.{◌≡◌, ◌∙◌, ◌&&◌, ◌++◌, ◌==◌
 use Rattle.std.specs.Prelude.{filter}
 use Rattle.std.specs.Option.{option_to_list}
 use Rattle.std.proofs.lemmas.Result.{on_ok_weaker}
-use Rattle.flat_world.specs.declared.rows.Row.{Row}
-use Rattle.flat_world.specs.World.{is_text_of}
-use Rattle.flat_world.specs.Picking.{is_within}
-use Rattle.flat_world.specs.ByteIndex.{byte_of, bytes_of}
+use Rattle.world_rules.specs.declared.rows.Row.{Row}
+use Rattle.world_rules.specs.World.{is_text_of}
+use Rattle.world_rules.specs.Picking.{is_within}
+use Rattle.flat_world.specs.inside.ByteIndex.{byte_of, bytes_of}
 use Rattle.flat_world.proofs.Picked.{filter_more_no}
 use Rattle.flat_world.proofs.Retrieved.{bytes_more_yes, picked_more_yes, both_true, first_false, second_false}
-use Rattle.flat_world.proofs.Valid.{tumblers_push}
+use Rattle.world_rules.proofs.Valid.{tumblers_push}
 use Rattle.flat_world.proofs.retrieve.push_text.Goals as goal
 use Rattle.flat_world.proofs.retrieve.push_text.Goals.{then-is_text_of+then-is_within+in_ok-push_byte, else-is_text_of, else-is_text_of-via-then-is_text_of+else-is_within, else-is_text_of-via-else-is_text_of}
 

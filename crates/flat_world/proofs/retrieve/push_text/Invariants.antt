@@ -1,8 +1,8 @@
 use Rattle.std.proofs.Common.{◌≡◌, ◌&&◌, ◌==◌, take, not, length}
 use Rattle.std.specs.Prelude.{filter}
-use Rattle.flat_world.specs.World.{is_text_of}
-use Rattle.flat_world.specs.Picking.{is_within}
-use Rattle.flat_world.specs.ByteIndex.{bytes_of}
+use Rattle.world_rules.specs.World.{is_text_of}
+use Rattle.world_rules.specs.Picking.{is_within}
+use Rattle.flat_world.specs.inside.ByteIndex.{bytes_of}
 use Rattle.flat_world.proofs.retrieve.push_text.Given as goal
 
 abbrev pub invariant-loop-row : goal.invariant-loop-row

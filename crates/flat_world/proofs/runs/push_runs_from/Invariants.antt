@@ -1,5 +1,5 @@
 use Rattle.std.proofs.Common.{◌≡◌, ◌++◌, drop, map}
-use Rattle.flat_world.specs.Picking.{is_next_byte, stretches_on, run_of}
+use Rattle.world_rules.specs.Picking.{is_next_byte, stretches_on, run_of}
 use Rattle.flat_world.proofs.runs.push_runs_from.Given as goal
 
 abbrev pub invariant-loop-address : goal.invariant-loop-address

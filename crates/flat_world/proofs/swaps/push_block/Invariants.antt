@@ -1,6 +1,6 @@
 use Rattle.std.proofs.Common.{◌≡◌, ◌++◌, take, map}
-use Rattle.flat_world.specs.declared.rows.Row.{Row}
-use Rattle.flat_world.specs.Edits.{block, up_by, down_by}
+use Rattle.world_rules.specs.declared.rows.Row.{Row}
+use Rattle.world_rules.specs.Edits.{block, up_by, down_by}
 use Rattle.flat_world.proofs.swaps.push_block.Given as goal
 
 abbrev pub invariant-loop-row : goal.invariant-loop-row

@@ -27,4 +27,4 @@ returns-clause-answered g c =
 pub returns-clause-stays : goal.returns-clause-stays
 returns-clause-stays g c =
     let step = legal_of _ _ _ _ _ c.in-Reply.ensures.step.given c.requires.valid in
-    λ asks. remains_live c.args.store.now.limits 1 c.args.store.now.history (plain_request c.args.request) (plain_reply c.in-Reply.reply) step.added c.step.new.self.history step.legal asks step.grows
+    λ asks. remains_live c.args.store.now.limits c.args.session c.args.store.now.history (plain_request c.args.request) (plain_reply c.in-Reply.reply) step.added c.step.new.self.history step.legal asks step.grows

@@ -3,19 +3,19 @@ use Rattle.green_top.proofs.Conversations.{starts, greeting_fails, goes_on_under
 use Rattle.green_top.proofs.session.converse.Goals as goal
 
 pub returns-in-WriteFault-clause-conversed : goal.returns-in-WriteFault-clause-conversed
-returns-in-WriteFault-clause-conversed g c = greeting_fails _ _ _ _ _ _ _ _ _ _ _ c.requires.begun c.in-WriteFault.ensures.put
+returns-in-WriteFault-clause-conversed g c = greeting_fails _ _ _ _ _ _ _ _ _ _ _ _ c.requires.begun c.in-WriteFault.ensures.put
 
 pub loop-end-init : goal.loop-end-init
-loop-end-init g c = (starts _ _ _ _ _ _ _ _ _ _ _ c.requires.begun c.in-Done.ensures.put, refl)
+loop-end-init g c = (starts _ _ _ _ _ _ _ _ _ _ _ _ c.requires.begun c.in-Done.ensures.put, refl)
 
 pub returns-in-Some : goal.returns-in-Some
 returns-in-Some g c = record {
-  conversed = comes_to_under _ _ c.loop-end.invariant.1 _ _ _ c.loop-end.invariant.0 c.in-Some.end c.in-Some.ensures.round;
+  conversed = comes_to_under _ _ c.loop-end.invariant.1 _ _ _ _ c.loop-end.invariant.0 c.in-Some.end c.in-Some.ensures.round;
   limits = c.in-Some.ensures.limits ∙ c.loop-end.invariant.1;
 }
 
 pub loop-end-smaller : goal.loop-end-smaller
-loop-end-smaller g c = less_under _ _ c.loop-end.invariant.1 _ _ _ c.loop-end.invariant.0 c.in_default.ensures.round
+loop-end-smaller g c = less_under _ _ c.loop-end.invariant.1 _ _ _ _ c.loop-end.invariant.0 c.in_default.ensures.round
 
 pub loop-end-preserved : goal.loop-end-preserved
-loop-end-preserved g c = (goes_on_under _ _ c.loop-end.invariant.1 _ _ _ c.loop-end.invariant.0 c.in_default.ensures.round, c.in_default.ensures.limits ∙ c.loop-end.invariant.1)
+loop-end-preserved g c = (goes_on_under _ _ c.loop-end.invariant.1 _ _ _ _ c.loop-end.invariant.0 c.in_default.ensures.round, c.in_default.ensures.limits ∙ c.loop-end.invariant.1)

@@ -1,14 +1,14 @@
 use Rattle.std.specs.Prelude.{◌≡◌, ◌+◌, ◌-◌, length}
 use Rattle.green_top.specs.Ends.{most_input}
-use Rattle.green_top.specs.Outside.{outside}
-use Rattle.green_top.specs.Conversation.{stand, IsConversing}
+use Rattle.green_top.specs.IoState.{io_state}
+use Rattle.green_top.specs.inside.Conversation.{session_state, IsConversing}
 use Rattle.green_top.proofs.session.converse.Given as goal
 
 abbrev pub invariant-loop-end : goal.invariant-loop-end
 invariant-loop-end g l =
-    IsConversing l.fn.store.limits
-    (stand l.fn.store.history l.fn.points.items l.fn.feed l.fn.turns (outside (g.S.Source.left l.fn.source) (g.S.Source.fault_count l.fn.source) (g.K.Sink.taken l.fn.sink) (g.K.Sink.fault_count l.fn.sink)))
-    (stand l.store.history l.points.items l.feed l.turns (outside (g.S.Source.left l.source) (g.S.Source.fault_count l.source) (g.K.Sink.taken l.sink) (g.K.Sink.fault_count l.sink)))
+    IsConversing l.fn.store.limits l.fn.session
+    (session_state l.fn.store.history l.fn.points.items l.fn.feed l.fn.turns (io_state (g.S.Source.left l.fn.source) (g.S.Source.fault_count l.fn.source) (g.K.Sink.taken l.fn.sink) (g.K.Sink.fault_count l.fn.sink)))
+    (session_state l.store.history l.points.items l.feed l.turns (io_state (g.S.Source.left l.source) (g.S.Source.fault_count l.source) (g.K.Sink.taken l.sink) (g.K.Sink.fault_count l.sink)))
     × (l.store.limits ≡ l.fn.store.limits)
 
 abbrev pub decreases-loop-end : goal.decreases-loop-end

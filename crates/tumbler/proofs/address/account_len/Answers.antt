@@ -29,4 +29,4 @@ returns-clause-found c =
     let account : IsAccount (c.in-Some.node.now ++ 0 ∷ c.in-Some-split_at_zero.user.now) =
     subst IsAccount (c.split_at.ensures.front ∙ front) (c.is_account.ensures.0 c.if-not-is_account.false) in
     subst (IsDocumentOf c.args.places.now) (sym front)
-    (account-of c.args.places.now c.in-Some.node.now c.in-Some.rest.now c.in-Some-split_at_zero.user.now c.in-Some-split_at_zero.field.now c.in-Some.ensures.parts c.in-Some-split_at_zero.ensures.parts account (c.is_field.ensures.0 c.if-not-is_field.false) c.if-places-gt20.false)
+    (account-of c.args.places.now c.in-Some.node.now c.in-Some.rest.now c.in-Some-split_at_zero.user.now c.in-Some-split_at_zero.field.now c.in-Some.ensures.parts c.in-Some-split_at_zero.ensures.parts account (c.is_field.ensures.0 c.if-not-is_field.false) c.if-places-gt-MOST_DOCUMENT_PLACES.false)

@@ -13,7 +13,7 @@ returns c = (
     parts = c.in-Some.ensures.parts;
     node_field = record { filled = account-filled c.in-Some.node.now c.is_empty.result c.is_empty.ensures c.if-is_empty.false; full = c.in-Some.ensures.full };
     user_field = c.is_field.ensures.0 e;
-    short = c.if-places-gt12.false;
+    short = c.if-places-gt-MOST_ACCOUNT_PLACES.false;
   },
   λ a. c.is_field.ensures.1 (account-cut c.args.places.now c.in-Some.node.now c.in-Some.user.now c.in-Some.ensures.parts c.in-Some.ensures.full a).user_field,
 )

@@ -1,6 +1,6 @@
 use Rattle.std.proofs.Common.{◌≡◌, List, ℕ, ◌+◌, ◌++◌, length, drop, subst, sym, ap, ◌∙◌, refl, arith}
 use Rattle.febe_fields.specs.declared.scanned.Scanned.TheVariants.{Incomplete, Complete, Bad}
-use Rattle.febe_fields.specs.Prefixes.{IsScanned, BeginsWith}
+use Rattle.febe_fields.specs.Prefixes.{IsScanned, HasSpelledPrefix}
 use Rattle.febe_fields.specs.Scanning.{behind, scan}
 use Rattle.febe_wire.specs.Grammar.{IsSpelled}
 use Rattle.febe_wire.specs.RequestMachine.{state_of, request_step}
@@ -29,7 +29,7 @@ pub take_request-requires-clause-scanned : goal.take_request-requires-clause-sca
 take_request-requires-clause-scanned c =
     let said : Complete c.in-Complete.used ≡ scan request_step (state_of c.self.inside.scanner) (drop c.self.inside.scanned c.self.inside.held.bytes) = rw (c.split_at.ensures.back, c.as_slice.ensures) at c.in-Complete.ensures.said in
     let h = feed_completes c.self.inside.held.bytes c.self.inside.scanned c.self.inside.scanner c.self.inside.bad c.self.invariant c.in-Complete.used said in
-    subst (λ (v : FeedView). BeginsWith IsSpelled v.held (c.self.inside.scanned + c.in-Complete.used)) c.self.view_is h
+    subst (λ (v : FeedView). HasSpelledPrefix IsSpelled v.held (c.self.inside.scanned + c.in-Complete.used)) c.self.view_is h
 
 pub returns-in-Incomplete-clause-next : goal.returns-in-Incomplete-clause-next
 returns-in-Incomplete-clause-next c =

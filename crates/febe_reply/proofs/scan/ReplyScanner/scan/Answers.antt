@@ -1,7 +1,7 @@
 use Rattle.std.proofs.Common.{length, sym, ap, ◌∙◌, arith}
 use Rattle.std.proofs.lemmas.List.{take_rest, length-drop}
 use Rattle.febe_fields.proofs.Passing.{rest_done, rest_fails, rest_ends, whole_done, whole_fails, whole_ends}
-use Rattle.febe_reply.specs.ReplyMachine.{state_of, outcome_of, reply_step}
+use Rattle.febe_reply.specs.inside.ReplyMachine.{state_of, outcome_of, reply_step}
 use Rattle.febe_reply.proofs.ReplyScans.{one_on}
 use Rattle.febe_reply.proofs.scan.ReplyScanner.scan.Goals as goal
 

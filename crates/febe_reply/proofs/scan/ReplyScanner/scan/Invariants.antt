@@ -1,6 +1,6 @@
 use Rattle.std.proofs.Common.{◌≡◌, ◌-◌, ◌≤◌, length}
 use Rattle.febe_fields.specs.Scanning.{behind, scan}
-use Rattle.febe_reply.specs.ReplyMachine.{state_of, reply_step}
+use Rattle.febe_reply.specs.inside.ReplyMachine.{state_of, reply_step}
 use Rattle.febe_reply.proofs.scan.ReplyScanner.scan.Given as goal
 
 abbrev pub invariant-loop-rest : goal.invariant-loop-rest

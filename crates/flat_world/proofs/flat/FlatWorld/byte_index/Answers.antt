@@ -1,8 +1,8 @@
 use Rattle.std.proofs.Common.{◌≡◌, rules, arith, map}
 use Rattle.std.proofs.lemmas.List.Elements.{All-weaker}
 use Rattle.febe_data.specs.Plain.{plain_spec}
-use Rattle.flat_world.specs.Picking.{picked_addresses, picked_by_spec}
-use Rattle.flat_world.specs.ByteIndex.{IsWanted, HasByteAt, WantsMore, FindsBytes}
+use Rattle.world_rules.specs.Picking.{picked_addresses, picked_by_spec}
+use Rattle.flat_world.specs.inside.ByteIndex.{IsWanted, HasByteAt, WantsMore, FindsBytes}
 use Rattle.flat_world.proofs.ByteIndexes.{wants_at_spec, wants_all}
 use Rattle.flat_world.proofs.flat.FlatWorld.byte_index.Goals as goal
 

@@ -1,7 +1,7 @@
 use Rattle.std.proofs.Common.{take, map}
 use Rattle.febe_data.specs.Plain.{plain_spec}
-use Rattle.flat_world.specs.Picking.{picked_addresses}
-use Rattle.flat_world.specs.ByteIndex.{WantsMore}
+use Rattle.world_rules.specs.Picking.{picked_addresses}
+use Rattle.flat_world.specs.inside.ByteIndex.{WantsMore}
 use Rattle.flat_world.proofs.flat.FlatWorld.byte_index.Given as goal
 
 abbrev pub invariant-loop-spec : goal.invariant-loop-spec

@@ -1,7 +1,7 @@
 use Rattle.std.proofs.Common.{◌≡◌, ◌∙◌, ap}
 use Rattle.febe_data.specs.Plain.{plain_history}
-use Rattle.flat_world.specs.FlatView.{FlatView, view_of, entries_in}
-use Rattle.flat_world.proofs.Folded.{folds_to_world, counts_kept, counts_entries, all_folded, all_fitting}
+use Rattle.world_rules.specs.FlatView.{FlatView, view_of, entries_in}
+use Rattle.world_rules.proofs.Folded.{folds_to_world, counts_kept, counts_entries, all_folded, all_fitting}
 use Rattle.flat_world.proofs.flat.FlatWorld.fold.Goals as goal
 
 pub returns-clause-world : goal.returns-clause-world

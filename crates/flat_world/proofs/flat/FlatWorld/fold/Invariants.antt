@@ -1,8 +1,8 @@
 use Rattle.std.proofs.Common.{◌≡◌, drop}
 use Rattle.std.specs.List.{fold}
 use Rattle.febe_data.specs.Plain.{plain_history}
-use Rattle.flat_world.specs.FlatView.{after_entry, view_of}
-use Rattle.flat_world.specs.Fitting.{AreFitting}
+use Rattle.world_rules.specs.FlatView.{after_entry, view_of}
+use Rattle.world_rules.specs.Fitting.{AreFitting}
 use Rattle.flat_world.proofs.flat.FlatWorld.fold.Given as goal
 
 abbrev pub invariant-loop-entry : goal.invariant-loop-entry

@@ -1,8 +1,8 @@
 use Rattle.std.proofs.Common.{◌≡◌, List, ap, map, refl}
 use Rattle.tumbler.specs.declared.span.Span.{Span}
 use Rattle.tumbler.specs.Span.{end_of}
-use Rattle.flat_world.specs.declared.rows.Row.{Row}
-use Rattle.flat_world.specs.Picking.{intervals, places_of}
+use Rattle.world_rules.specs.declared.rows.Row.{Row}
+use Rattle.world_rules.specs.Picking.{intervals, places_of}
 use Rattle.flat_world.proofs.Endings.{picks_indexed}
 use Rattle.flat_world.proofs.flat.FlatWorld.indexed_of.Goals as goal
 

@@ -1,7 +1,7 @@
 use Rattle.std.proofs.Common.{◌≡◌, ◌<◌, rules, length, get_or}
 use Rattle.tumbler.specs.declared.span.Span.{Span}
-use Rattle.flat_world.specs.Picking.{picked_text, addresses_of}
-use Rattle.flat_world.specs.ByteIndex.{HasByteAt}
+use Rattle.world_rules.specs.Picking.{picked_text, addresses_of}
+use Rattle.flat_world.specs.inside.ByteIndex.{HasByteAt}
 use Rattle.flat_world.proofs.ByteIndexes.{all_at}
 use Rattle.flat_world.proofs.flat.FlatWorld.push_spec.Goals as goal
 

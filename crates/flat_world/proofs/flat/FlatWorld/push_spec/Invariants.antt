@@ -1,7 +1,7 @@
 use Rattle.std.proofs.Common.{◌≡◌, All, ◌++◌, take, map}
 use Rattle.std.specs.List.{flat_map}
 use Rattle.febe_data.specs.Plain.{plain_item}
-use Rattle.flat_world.specs.Answers.{NamesTumbler, items_of_span}
+use Rattle.world_rules.specs.Answers.{NamesTumbler, items_of_span}
 use Rattle.flat_world.proofs.flat.FlatWorld.push_spec.Given as goal
 
 abbrev pub invariant-loop-span : goal.invariant-loop-span

@@ -1,6 +1,6 @@
 use Rattle.std.proofs.Common.{◌≡◌, ◌++◌, take}
 use Rattle.std.specs.List.{flat_map}
-use Rattle.flat_world.specs.Picking.{picked_text, addresses_of}
+use Rattle.world_rules.specs.Picking.{picked_text, addresses_of}
 use Rattle.flat_world.proofs.flat.FlatWorld.push_spec_addresses.Given as goal
 
 abbrev pub invariant-loop-span : goal.invariant-loop-span

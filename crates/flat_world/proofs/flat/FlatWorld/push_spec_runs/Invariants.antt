@@ -1,6 +1,6 @@
 use Rattle.std.proofs.Common.{◌≡◌, ◌++◌, take}
 use Rattle.std.specs.List.{flat_map}
-use Rattle.flat_world.specs.Picking.{runs_of_span}
+use Rattle.world_rules.specs.Picking.{runs_of_span}
 use Rattle.flat_world.proofs.flat.FlatWorld.push_spec_runs.Given as goal
 
 abbrev pub invariant-loop-span : goal.invariant-loop-span

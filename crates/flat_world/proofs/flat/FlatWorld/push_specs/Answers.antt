@@ -1,5 +1,5 @@
-use Rattle.flat_world.specs.Picking.{picked_by_spec}
-use Rattle.flat_world.specs.ByteIndex.{HasByteAt}
+use Rattle.world_rules.specs.Picking.{picked_by_spec}
+use Rattle.flat_world.specs.inside.ByteIndex.{HasByteAt}
 use Rattle.flat_world.proofs.ByteIndexes.{all_at_spec}
 use Rattle.flat_world.proofs.flat.FlatWorld.push_specs.Goals as goal
 

@@ -1,6 +1,6 @@
 use Rattle.std.proofs.Common.{◌≡◌, All, ◌++◌, take, map}
 use Rattle.febe_data.specs.Plain.{plain_item, plain_spec}
-use Rattle.flat_world.specs.Answers.{NamesTumbler, items_of}
+use Rattle.world_rules.specs.Answers.{NamesTumbler, items_of}
 use Rattle.flat_world.proofs.flat.FlatWorld.push_specs.Given as goal
 
 abbrev pub invariant-loop-spec : goal.invariant-loop-spec

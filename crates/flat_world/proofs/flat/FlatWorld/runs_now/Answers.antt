@@ -1,5 +1,5 @@
 use Rattle.std.proofs.Common.{◌∙◌, ap}
-use Rattle.flat_world.specs.Ends.{run_now}
+use Rattle.world_rules.specs.Ends.{run_now}
 use Rattle.flat_world.proofs.Endings.{specs_more, specs_valid}
 use Rattle.flat_world.proofs.flat.FlatWorld.runs_now.Goals as goal
 

@@ -1,6 +1,6 @@
 use Rattle.std.proofs.Common.{◌≡◌, All, take, map}
 use Rattle.febe_data.specs.Plain.{plain_spec}
-use Rattle.flat_world.specs.Ends.{run_now, NamesSpans}
+use Rattle.world_rules.specs.Ends.{run_now, NamesSpans}
 use Rattle.flat_world.proofs.flat.FlatWorld.runs_now.Given as goal
 
 abbrev pub invariant-loop-run : goal.invariant-loop-run

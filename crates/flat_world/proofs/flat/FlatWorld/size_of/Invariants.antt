@@ -1,6 +1,6 @@
 use Rattle.std.proofs.Common.{◌≡◌, take, min, map}
 use Rattle.febe_data.specs.Plain.{plain_spec}
-use Rattle.flat_world.specs.Refusals.{span_bytes, span_items, total_of}
+use Rattle.world_rules.specs.Refusals.{span_bytes, span_items, total_of}
 use Rattle.flat_world.proofs.flat.FlatWorld.size_of.Given as goal
 
 abbrev pub invariant-loop-spec : goal.invariant-loop-spec

@@ -1,6 +1,6 @@
 use Rattle.std.proofs.Common.{◌≡◌, take, min}
 use Rattle.std.specs.List.{sum_by}
-use Rattle.flat_world.specs.Refusals.{span_bytes, span_items}
+use Rattle.world_rules.specs.Refusals.{span_bytes, span_items}
 use Rattle.flat_world.proofs.flat.FlatWorld.spec_size.Given as goal
 
 abbrev pub invariant-loop-span : goal.invariant-loop-span

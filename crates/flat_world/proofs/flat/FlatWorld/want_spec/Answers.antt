@@ -1,7 +1,7 @@
 use Rattle.std.proofs.Common.{◌≡◌, ◌<◌, rules, length, get_or}
 use Rattle.std.specs.List.{flat_map}
 use Rattle.tumbler.specs.declared.span.Span.{Span}
-use Rattle.flat_world.specs.Picking.{picked_text, addresses_of}
+use Rattle.world_rules.specs.Picking.{picked_text, addresses_of}
 use Rattle.flat_world.proofs.ByteIndexes.{wants_at, wants_all}
 use Rattle.flat_world.proofs.flat.FlatWorld.want_spec.Goals as goal
 

@@ -1,7 +1,7 @@
 use Rattle.std.proofs.Common.{take}
 use Rattle.std.specs.List.{flat_map}
-use Rattle.flat_world.specs.Picking.{picked_text, addresses_of}
-use Rattle.flat_world.specs.ByteIndex.{WantsMore}
+use Rattle.world_rules.specs.Picking.{picked_text, addresses_of}
+use Rattle.flat_world.specs.inside.ByteIndex.{WantsMore}
 use Rattle.flat_world.proofs.flat.FlatWorld.want_spec.Given as goal
 
 abbrev pub invariant-loop-span : goal.invariant-loop-span

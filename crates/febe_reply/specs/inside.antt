@@ -1,0 +1,3 @@
+-- What only private functions cite, and what holds inside of types.
+pub mod Reading
+pub mod ReplyMachine

@@ -1,0 +1,2 @@
+-- What only private functions cite, and what holds inside of types.
+pub mod Reading

@@ -1,5 +1,0 @@
-use Rattle.flat_world.proofs.Kept.{keeps_contents}
-use Rattle.flat_world.proofs.laws.keeps_contents.Goals as goal
-
-pub returns : goal.returns
-returns c = keeps_contents

@@ -1,6 +1,0 @@
-use Rattle.std.proofs.Common.{◌≡◌, drop}
-use Rattle.flat_world.specs.Refusals.{has_bad_cut}
-use Rattle.flat_world.proofs.writing.has_bad_cut.Given as goal
-
-abbrev pub invariant-loop-cut : goal.invariant-loop-cut
-invariant-loop-cut l = has_bad_cut l.text_rows (drop l.cut-index l.cuts) ≡ has_bad_cut l.text_rows l.cuts

@@ -1,7 +1,0 @@
--- An effect as a plain value.
-use Rattle.febe_data.specs.Plain.{plain_change, plain_reply}
-use Rattle.flat_world.specs.declared.effects.Effect.{Effect}
-use Rattle.flat_world.specs.Effects as plain
-
-abbrev pub plain_effect : Effect → plain.Effect
-plain_effect e = record { change = plain_change e.change; reply = plain_reply e.reply }

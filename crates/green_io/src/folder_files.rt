@@ -1,0 +1,99 @@
+//! The files of a folder that are the areas of a disk.
+
+use crate::disk::Area;
+use std::alloc::{AllocError, Global};
+use std::fs::{File, OpenOptions};
+use std::io::{self, ErrorKind};
+use std::os::unix::fs::FileExt;
+
+/// Where the files lie.
+#[derive(Drop)]
+struct Paths {
+    folder: String,
+    log: String,
+    home: String,
+    journal: String,
+}
+
+impl Paths {
+    fn new(alloc: Global, folder: &str) -> Result<Paths, AllocError> {
+        Ok(Paths {
+            folder: String::from_str(alloc, folder)?,
+            log: joined(alloc, folder, "/log")?,
+            home: joined(alloc, folder, "/home")?,
+            journal: joined(alloc, folder, "/journal")?,
+        })
+    }
+}
+
+fn joined(alloc: Global, folder: &str, name: &str) -> Result<String, AllocError> {
+    let mut path = String::from_str(alloc, folder)?;
+    path.push_str(name)?;
+    Ok(path)
+}
+
+/// The open files.
+#[derive(Drop)]
+struct AreaFiles {
+    log: File,
+    home: File,
+    journal: File,
+}
+
+impl AreaFiles {
+    /// Opens the files and makes those that are missing, which the folder then names for good.
+    fn open(rt: &HostRuntime, paths: &Paths) -> io::Result<AreaFiles> {
+        let files = AreaFiles {
+            log: open_or_make(rt, paths.log.as_str())?,
+            home: open_or_make(rt, paths.home.as_str())?,
+            journal: open_or_make(rt, paths.journal.as_str())?,
+        };
+        File::open(rt, paths.folder.as_str())?.sync_all()?;
+        Ok(files)
+    }
+
+    fn of(&self, area: Area) -> &File {
+        match area {
+            Area::Log => &self.log,
+            Area::Home => &self.home,
+            Area::Journal => &self.journal,
+        }
+    }
+}
+
+fn open_or_make(rt: &HostRuntime, path: &str) -> io::Result<File> {
+    OpenOptions::new()
+        .read(true)
+        .write(true)
+        .create(true)
+        .open(rt, path)
+}
+
+/// The files of a folder, opened when they are first wanted.
+#[derive(Drop)]
+pub(crate) struct FolderFiles {
+    rt: HostRuntime,
+    paths: Paths,
+    files: Option<AreaFiles>,
+}
+
+impl FolderFiles {
+    pub(crate) fn new(rt: HostRuntime, folder: &str) -> Result<FolderFiles, AllocError> {
+        Ok(FolderFiles {
+            rt,
+            paths: Paths::new(rt.alloc(), folder)?,
+            files: None,
+        })
+    }
+
+    /// The file of an area. Where a file or the folder cannot be opened, the next call tries again.
+    pub(crate) fn of(&mut self, area: Area) -> io::Result<&File> {
+        if self.files.is_none() {
+            self.files = Some(AreaFiles::open(&self.rt, &self.paths)?);
+        }
+        match &self.files {
+            Some(files) => Ok(files.of(area)),
+            None => Err(io::Error::from(ErrorKind::NotFound)),
+        }
+    }
+}

@@ -1,0 +1,309 @@
+-- A session from its greeting to its end.
+use Rattle.std.proofs.Common.{Bool, max, eqb, true, ◌<◌, ◌≡◌, ◌≢◌, ℕ, ◌+◌, ◌≤◌, false, List, [], ◌∷◌, ◌++◌, length, take, Option, Err, refl, ap, ◌∙◌, sym, subst, inl, inr, ◌⊎◌, arith, le_refl}
+use Rattle.std.specs.List.{fold}
+use Rattle.std.proofs.lemmas.Bool.{eq-eqb, ne_eqb}
+use Rattle.std.proofs.lemmas.List.{append-nil, length-append}
+use Rattle.std.proofs.lemmas.Grind.{fold-append}
+use Rattle.febe_data.specs.LimitsView.{LimitsView}
+use Rattle.febe_data.specs.Plain.{PlainEntry}
+use Rattle.febe_wire.specs.Sessions.{greeting}
+use Rattle.febe_feed.specs.FeedView.{with_piece, FeedView, Waits, IsGreeting, later}
+use Rattle.febe_feed.specs.Pieces.{HasGiven}
+use Rattle.febe_feed.proofs.Inputted.{waiting_is_open, waiting_is_truncated}
+use Rattle.febe_feed.proofs.Malformed.{wrong_is_malformed}
+use Rattle.febe_fields.specs.Prefixes.{HasNoSpelledPrefix}
+use Rattle.world_rules.specs.World.{empty_world}
+use Rattle.world_rules.specs.Placed.{AllPlaced}
+use Rattle.world_rules.specs.History.{is_live, live_after, entries_of, restart_entry}
+use Rattle.green_session.specs.Taking.{TurnsView, ReadState, read_state, IsTaken, MayRead}
+use Rattle.green_session.specs.declared.take.Taken.{Taken}
+use Rattle.green_session.specs.declared.take.Taken.TheVariants as take_answers
+use Rattle.green_store.specs.IsStep.{IsStep, IsBegun}
+use Rattle.green_store.specs.Sessions.{greatest_session, end_entry}
+use Rattle.green_store.specs.StoreView.{StoreView}
+use Rattle.green_store.specs.declared.step.Step.TheVariants as steps
+use Rattle.green_store.specs.declared.step.StepAnswer.{StepAnswer}
+use Rattle.green_store.specs.declared.step.StepAnswer.TheVariants as answers
+use Rattle.green_top.specs.declared.session_end.SessionEnd.{SessionEnd}
+use Rattle.green_top.specs.declared.session_end.SessionEnd.TheVariants as ends
+use Rattle.green_top.specs.inside.Next.{NextIs}
+use Rattle.green_top.specs.IoState.{IoState, io_state, Moves}
+use Rattle.green_top.specs.Requests.{IsNotGreeted}
+use Rattle.green_top.specs.Ends.{most_input, Cause, NeverBegan}
+use Rattle.green_top.specs.Transcript.{IsEnding, Transcript}
+use Rattle.green_top.specs.inside.Opening.{Begins}
+use Rattle.green_top.specs.Outcome.{IsOver, Leaves, IsRun}
+use Rattle.green_top.specs.inside.Conversation.{SessionState, session_state, with_history, IsGreeted, IsConversed, IsSession}
+use Rattle.green_top.proofs.Streams.{consumes_nothing, appends_nothing, risen_since}
+use Rattle.green_top.proofs.Conversations.{moves_both}
+use Rattle.green_store.proofs.Lives.{live_within}
+use Rattle.green_store.proofs.Places.{placed_push}
+use Rattle.green_top.proofs.Progresses.{IsOwn, own_one, entries_behind, transcript_of}
+
+-- ---- the begin of a session
+
+pub fresh_placed : (h : List PlainEntry) → h ≡ restart_entry ∷ [] → AllPlaced empty_world h
+fresh_placed h e = subst (AllPlaced empty_world) (sym e) (tt, tt)
+
+-- no entry is of a session above the greatest number
+le_greatest : (h : List PlainEntry) (g : ℕ) → g ≤ fold (λ greatest (e : PlainEntry). max greatest e.session) g h
+le_greatest [] g = omega arith
+le_greatest (e ∷ h) g = omega (arith, le_greatest h (max g e.session))
+
+none_above : (h : List PlainEntry) (g session : ℕ) → fold (λ greatest (e : PlainEntry). max greatest e.session) g h < session → entries_of session h ≡ []
+none_above [] g session above = refl
+none_above (e ∷ h) g session above =
+    let other : eqb e.session session ≡ false = ne_eqb e.session session (λ same. omega (arith, above, same, le_greatest h (max g e.session))) in
+    rw other (none_above h (max g e.session) session above)
+
+not_live_above : (h : List PlainEntry) (session : ℕ) → greatest_session h < session → is_live h session ≡ false
+not_live_above h session above = by (is_live h session) refl where
+  by : (b : Bool) → is_live h session ≡ b → b ≡ false
+  by true e = absurd (omega (arith, above, live_within h session e))
+  by false e = refl
+
+pub begins_with : (before after : StoreView) (session : ℕ) → AllPlaced empty_world before.history → IsBegun before session after → Begins session before.history after.history
+begins_with before after session placed b =
+    let above : greatest_session before.history < session = omega (arith, b.number_is) in
+    record {
+      grows = ap (λ (v : StoreView). v.history) b.grows;
+      no_entry = none_above before.history 0 session above;
+      not_live = not_live_above before.history session above;
+      placed = placed;
+    }
+
+-- ---- the end of a session
+
+-- after an End step its entry was added, or the session was not live
+after_end : (session : ℕ) (before after : StoreView) (answer : StepAnswer) → IsStep before (steps.End session) after answer
+    → ((is_live before.history session ≡ true) × (after.history ≡ before.history ++ end_entry before.history session ∷ [])) ⊎ ((is_live before.history session ≡ false) × (after.history ≡ before.history))
+after_end session before after answers.Ended s = inl (s.live, ap (λ (v : StoreView). v.history) s.grows)
+after_end session before after answers.NoSession s = inr (s.not_live, ap (λ (v : StoreView). v.history) s.stays)
+after_end session before after other s = absurd s
+
+not_live_behind_end : (session : ℕ) (h : List PlainEntry) → is_live (h ++ end_entry h session ∷ []) session ≡ false
+not_live_behind_end session h = fold-append (live_after session) false h (end_entry h session ∷ []) ∙ rw (eq-eqb session session refl) refl
+
+placed_ends : (session : ℕ) (own h more after : List PlainEntry) → AllPlaced empty_world h → IsEnding session own more → after ≡ h ++ more → AllPlaced empty_world after
+placed_ends session own h more after p (inl e) grows = subst (AllPlaced empty_world) (sym (grows ∙ ap (λ (x : List PlainEntry). h ++ x) e ∙ append-nil h)) p
+placed_ends session own h more after p (inr e) grows = subst (AllPlaced empty_world) (sym (grows ∙ ap (λ (x : List PlainEntry). h ++ x) e.1)) (placed_push empty_world h _ p tt)
+
+module _ (limits : LimitsView) (session : ℕ) (first now : SessionState) (begun : List PlainEntry) (b : Begins session first.history begun) (number : session ≡ greatest_session first.history + 1) (end : SessionEnd)
+    (c : IsConversed limits session (with_history first begun) now end) where
+  is_over : (more after : List PlainEntry) → IsEnding session (entries_of session now.history) more → IsOwn session more → after ≡ now.history ++ more → is_live after session ≡ false → IsOver limits first.history session after now.points c.answered c.output
+  is_over more after ending own e over = record {
+    history_is = e ∙ entries_behind limits session first.history begun now.history b now.points c.answered c.output c.progress more own ∙ ap (λ (x : List PlainEntry). first.history ++ entries_of session x) (sym e);
+    over = over;
+    placed = placed_ends session (entries_of session now.history) now.history more after c.progress.placed ending e;
+    transcript = subst (λ (x : List PlainEntry). Transcript limits session x c.answered now.points c.output) (sym e) (transcript_of limits session first.history begun now.history b now.points c.answered c.output c.progress more ending own);
+  }
+
+  ended_session : (more after : List PlainEntry) → IsEnding session (entries_of session now.history) more → IsOwn session more → after ≡ now.history ++ more → is_live after session ≡ false
+      → IsSession limits first (with_history now after) end
+  ended_session more after ending own e over = record {
+    read = c.read;
+    written = c.written;
+    moves = c.moves;
+    counted = c.counted;
+    within = c.within;
+    cause = c.cause;
+    leaves = inr (record {
+      session = session;
+      number_is = number;
+      answered = c.answered;
+      output = c.output;
+      over = is_over more after ending own e over;
+      answered_and_written = c.answered_and_written;
+    });
+  }
+
+  -- the session's own entries leave it live where the whole history does
+  own_live : is_live now.history session ≡ true → is_live (entries_of session now.history) session ≡ true
+  own_live live =
+      let own : List PlainEntry = entries_of session now.history in
+      let e : now.history ≡ first.history ++ own = sym (append-nil now.history) ∙ entries_behind limits session first.history begun now.history b now.points c.answered c.output c.progress [] refl ∙ ap (λ (x : List PlainEntry). first.history ++ entries_of session x) (append-nil now.history) in
+      let parts : is_live (first.history ++ own) session ≡ fold (live_after session) (is_live first.history session) own = fold-append (live_after session) false first.history own in
+      sym (ap (λ (x : List PlainEntry). is_live x session) e ∙ parts ∙ ap (λ (x : Bool). fold (live_after session) x own) b.not_live) ∙ live
+
+  pub session_ends : (before after : StoreView) (answer : StepAnswer) → before.history ≡ now.history → IsStep before (steps.End session) after answer → IsSession limits first (with_history now after.history) end
+  session_ends before after answer is step = elim (after_end session before after answer step) [
+    | inl e ↦ (let grows : after.history ≡ now.history ++ end_entry now.history session ∷ [] = e.1 ∙ ap (λ (h : List PlainEntry). h ++ end_entry h session ∷ []) is in
+        ended_session (end_entry now.history session ∷ []) after.history (inr (own_live (ap (λ (h : List PlainEntry). is_live h session) (sym is) ∙ e.0), refl)) (own_one session (end_entry now.history session) refl) grows
+        (ap (λ (h : List PlainEntry). is_live h session) grows ∙ not_live_behind_end session now.history))
+    | inr s ↦ (let stays : after.history ≡ now.history = s.1 ∙ is in
+        ended_session [] after.history (inl refl) refl (stays ∙ sym (append-nil now.history)) (ap (λ (h : List PlainEntry). is_live h session) (s.1) ∙ s.0))
+  ]
+
+-- the same, for a session that was served under limits that are the store's
+pub session_ends_under : (limits own : LimitsView) → own ≡ limits → (session : ℕ) (first now : SessionState) (begun : List PlainEntry) → Begins session first.history begun → session ≡ greatest_session first.history + 1 → (end : SessionEnd)
+    → IsConversed own session (with_history first begun) now end → (before after : StoreView) (answer : StepAnswer) → before.history ≡ now.history → IsStep before (steps.End session) after answer → IsSession limits first (with_history now after.history) end
+session_ends_under limits own same session first now begun b number end c =
+    session_ends limits session first now begun b number end (subst (λ (l : LimitsView). IsConversed l session (with_history first begun) now end) same c)
+
+-- there was no memory to begin
+pub did_not_begin : (limits : LimitsView) (start after : SessionState) → IsGreeted start → start.points ≡ [] → after ≡ start → IsSession limits start after ends.Memory
+did_not_begin limits start after greeted none stays = rw stays (record {
+  read = [];
+  written = [];
+  moves = record { consumed = consumes_nothing start.io.left; appended = appends_nothing start.io.taken; source_never_falls = le_refl _; sink_never_falls = le_refl _ };
+  counted = ap (λ (t : TurnsView). t.taken) greeted.turns_are ∙ ap length (sym (append-nil (greeting ++ start.feed.held)));
+  within = omega (arith, greeted.within, ap length (append-nil (greeting ++ start.feed.held)));
+  cause = tt;
+  leaves = inl (tt, record { history_is = refl; no_points = none; nothing = refl });
+})
+
+-- ---- the greeting
+
+abbrev fresh_feed : FeedView
+fresh_feed = record { greeted = false; held = []; offset = 0 }
+
+abbrev fresh_turns : TurnsView
+fresh_turns = record { limit = most_input; taken = 0 }
+
+cause_since : (end : SessionEnd) (read : List ℕ) (start mid after : IoState) → start.source_faults ≤ mid.source_faults → start.sink_faults ≤ mid.sink_faults → Cause end read mid after → Cause end read start after
+cause_since ends.Quit read start mid after s k cause = cause
+cause_since ends.End read start mid after s k cause = cause
+cause_since (ends.Malformed at) read start mid after s k cause = cause
+cause_since (ends.Truncated at) read start mid after s k cause = cause
+cause_since ends.ReadFault read start mid after s k cause = (cause.0, cause.1, risen_since start.source_faults mid.source_faults after.source_faults s cause.2)
+cause_since ends.WriteFault read start mid after s k cause = risen_since start.sink_faults mid.sink_faults after.sink_faults k cause
+cause_since ends.Memory read start mid after s k cause = cause
+cause_since ends.Budget read start mid after s k cause = cause
+cause_since ends.NoNumber read start mid after s k cause = cause
+
+module _ (limits : LimitsView) (left left' : Option (List ℕ)) (before after : ℕ) (feed : FeedView) (turns : TurnsView) (taken : Option (List ℕ)) (faults : ℕ) where
+  abbrev from : ReadState
+  from = read_state left before fresh_feed fresh_turns
+
+  abbrev to : ReadState
+  to = read_state left' after feed turns
+
+  abbrev out0 : IoState
+  out0 = io_state left before taken faults
+
+  abbrev out1 : IoState
+  out1 = io_state left' after taken faults
+
+  -- what was read is counted, and is no more than the budget allows
+  module _ (what : Taken) (t : IsTaken from to what) where
+    bounded : length t.read ≤ most_input + 4095
+    bounded = elim t.reads.within [
+      | inl e ↦ omega (arith, ap length e)
+      | inr w ↦ omega (arith, w.below, w.most, ap length w.parts, length-append w.earlier w.last)
+    ]
+
+    counts : turns ≡ record { limit = most_input; taken = length t.read }
+    counts =
+        let n : later 0 (length t.read) ≡ length t.read = omega (arith, bounded) in
+        t.reads.counted ∙ ap (λ (n : ℕ). record { limit = most_input; taken = n }) n
+
+    -- another read could be made
+    below : MayRead turns → length t.read < most_input
+    below may = rw counts at may
+
+    reads : Moves out0 out1 t.read []
+    reads = record { consumed = t.reads.consumed; appended = appends_nothing taken; source_never_falls = t.reads.never_falls; sink_never_falls = le_refl faults }
+
+    given : HasGiven t.read [] (with_piece fresh_feed t.read)
+    given = record { parts = refl; valid = tt; none = λ e. refl; place = omega arith }
+
+    no_greeting : HasNoSpelledPrefix IsGreeting t.read → IsNotGreeted t.read
+    no_greeting none rest e = none 3 (omega (arith, ap length e, length-append greeting rest)) (ap (take 3) e)
+
+    pub never : (end : SessionEnd) (h : List PlainEntry) (points : List ℕ) (n : ℕ) → points ≡ [] → n ≡ turns.taken → Cause end t.read out0 out1 → NeverBegan end t.read → IsRun limits h out0 out1 h points n end
+    never end h points n none is cause never_began = record {
+      read = t.read;
+      written = [];
+      moves = reads;
+      counted = is ∙ ap (λ (x : TurnsView). x.taken) counts;
+      within = bounded;
+      cause = cause;
+      leaves = inl (never_began, record { history_is = refl; no_points = none; nothing = refl });
+    }
+
+  -- ---- the greeting came
+
+  module _ (t : IsTaken from to take_answers.Greeting) where
+    prefix : t.read ≡ greeting ++ feed.held
+    prefix = t.comes.prefix
+
+    pub is_greeted : (h : List PlainEntry) (points : List ℕ) → IsGreeted (session_state h points feed turns out1)
+    is_greeted h points = record {
+      greeted = t.comes.greeted;
+      place = t.comes.offset ∙ omega arith;
+      turns_are = counts take_answers.Greeting t ∙ ap (λ (bytes : List ℕ). record { limit = most_input; taken = length bytes }) prefix;
+      within = omega (arith, ap length prefix, bounded take_answers.Greeting t);
+    }
+
+    pub run_of_session : (h final : List PlainEntry) (points points' : List ℕ) (feed' : FeedView) (turns' : TurnsView) (out2 : IoState) (end : SessionEnd) (n : ℕ)
+        → IsSession limits (session_state h points feed turns out1) (session_state final points' feed' turns' out2) end → n ≡ turns'.taken → IsRun limits h out0 out2 final points' n end
+    run_of_session h final points points' feed' turns' out2 end n s is =
+        let stream : (greeting ++ feed.held) ++ s.read ≡ t.read ++ s.read = ap (λ (bytes : List ℕ). bytes ++ s.read) (sym prefix) in
+        record {
+          read = t.read ++ s.read;
+          written = s.written;
+          moves = moves_both out0 out1 out2 t.read s.read [] s.written (reads take_answers.Greeting t) s.moves;
+          counted = is ∙ s.counted ∙ ap length stream;
+          within = omega (arith, s.within, ap length stream);
+          cause = cause_since end (t.read ++ s.read) out0 out1 out2 t.reads.never_falls (le_refl faults) (subst (λ (bytes : List ℕ). Cause end bytes out1 out2) stream s.cause);
+          leaves = subst (λ (bytes : List ℕ). Leaves limits h end bytes s.written final points') stream s.leaves;
+        }
+
+  -- ---- it did not
+
+  waits_none : (read : List ℕ) → Waits (with_piece fresh_feed read) feed → HasNoSpelledPrefix IsGreeting read
+  waits_none read w = w.prefix.none
+
+  pub run_of_none : (h : List PlainEntry) (points : List ℕ) (n : ℕ) (end : SessionEnd) → points ≡ [] → n ≡ turns.taken
+      → NextIs (IsTaken from to) (Err end) → IsRun limits h out0 out1 h points n end
+  run_of_none h points n ends.Quit none is t = absurd t
+  run_of_none h points n ends.End none is t =
+      never take_answers.End t ends.End h points n none is (t.comes.1, below take_answers.End t t.comes.2) (sym (ap (λ (f : FeedView). f.held) t.comes.0.stays) ∙ t.comes.3)
+  run_of_none h points n (ends.Malformed at) none is t =
+      never (take_answers.Malformed at) t (ends.Malformed at) h points n none is
+      (wrong_is_malformed t.read [] (with_piece fresh_feed t.read) feed at (given (take_answers.Malformed at) t) tt (omega (arith, bounded (take_answers.Malformed at) t)) t.comes)
+      (no_greeting (take_answers.Malformed at) t t.comes.bad.none)
+  run_of_none h points n (ends.Truncated at) none is t =
+      let w = t.comes.0 in
+      let some : t.read ≢ [] = λ e. t.comes.3 (ap (λ (f : FeedView). f.held) w.stays ∙ e) in
+      let place : at ≡ length t.read = t.comes.4 ∙ ap (λ (f : FeedView). later f.offset (length f.held)) w.stays ∙ omega (arith, bounded (take_answers.Truncated at) t) in
+      never (take_answers.Truncated at) t (ends.Truncated at) h points n none is
+      (waiting_is_truncated t.read [] (with_piece fresh_feed t.read) feed (given (take_answers.Truncated at) t) tt w some, t.comes.1, below (take_answers.Truncated at) t t.comes.2, place)
+      (no_greeting (take_answers.Truncated at) t (waits_none t.read w))
+  run_of_none h points n ends.ReadFault none is t =
+      never take_answers.ReadFault t ends.ReadFault h points n none is
+      (waiting_is_open t.read [] (with_piece fresh_feed t.read) feed (given take_answers.ReadFault t) tt t.comes.0, below take_answers.ReadFault t t.comes.1, t.comes.2)
+      (no_greeting take_answers.ReadFault t (waits_none t.read t.comes.0))
+  run_of_none h points n ends.WriteFault none is t = absurd t
+  run_of_none h points n ends.Memory none is t = never take_answers.Memory t ends.Memory h points n none is tt tt
+  run_of_none h points n ends.Budget none is t =
+      let enough : most_input ≤ length t.read = rw (counts take_answers.Budget t) at t.comes.1 in
+      never take_answers.Budget t ends.Budget h points n none is
+      (waiting_is_open t.read [] (with_piece fresh_feed t.read) feed (given take_answers.Budget t) tt t.comes.0, enough)
+      (no_greeting take_answers.Budget t (waits_none t.read t.comes.0))
+  run_of_none h points n ends.NoNumber none is t = absurd t
+
+-- ---- the same, from what the code begins with
+
+module _ (limits : LimitsView) (left left' : Option (List ℕ)) (before after : ℕ) (feed0 feed : FeedView) (turns0 turns : TurnsView) (taken : Option (List ℕ)) (faults : ℕ) (begins : feed0 ≡ fresh_feed) (counts_from : turns0 ≡ fresh_turns) where
+  from_fresh : (what : Taken) → IsTaken (read_state left before feed0 turns0) (read_state left' after feed turns) what → IsTaken (read_state left before fresh_feed fresh_turns) (read_state left' after feed turns) what
+  from_fresh what t = rw (begins, counts_from) at t
+
+  next_from_fresh : (end : SessionEnd) → NextIs (IsTaken (read_state left before feed0 turns0) (read_state left' after feed turns)) (Err end) → NextIs (IsTaken (read_state left before fresh_feed fresh_turns) (read_state left' after feed turns)) (Err end)
+  next_from_fresh end t = subst (λ (f : FeedView). NextIs (IsTaken (read_state left before f fresh_turns) (read_state left' after feed turns)) (Err end)) begins (subst (λ (x : TurnsView). NextIs (IsTaken (read_state left before feed0 x) (read_state left' after feed turns)) (Err end)) counts_from t)
+
+  pub greets : (h : List PlainEntry) (points : List ℕ) → IsTaken (read_state left before feed0 turns0) (read_state left' after feed turns) take_answers.Greeting → IsGreeted (session_state h points feed turns (io_state left' after taken faults))
+  greets h points t = is_greeted limits left left' before after feed turns taken faults (from_fresh take_answers.Greeting t) h points
+
+  pub runs : (h final : List PlainEntry) (points points' : List ℕ) (feed' : FeedView) (turns' : TurnsView) (out2 : IoState) (end : SessionEnd) (n : ℕ) → IsTaken (read_state left before feed0 turns0) (read_state left' after feed turns) take_answers.Greeting
+      → IsSession limits (session_state h points feed turns (io_state left' after taken faults)) (session_state final points' feed' turns' out2) end → n ≡ turns'.taken → IsRun limits h (io_state left before taken faults) out2 final points' n end
+  runs h final points points' feed' turns' out2 end n t s is = run_of_session limits left left' before after feed turns taken faults (from_fresh take_answers.Greeting t) h final points points' feed' turns' out2 end n s is
+
+  pub runs_nothing : (h : List PlainEntry) (points : List ℕ) (n : ℕ) (end : SessionEnd) → points ≡ [] → n ≡ turns.taken
+      → NextIs (IsTaken (read_state left before feed0 turns0) (read_state left' after feed turns)) (Err end) → IsRun limits h (io_state left before taken faults) (io_state left' after taken faults) h points n end
+  runs_nothing h points n end none is t = run_of_none limits left left' before after feed turns taken faults h points n end none is (next_from_fresh end t)
+
+-- the same history, written otherwise
+pub opened_as : (limits : LimitsView) (h opened : List PlainEntry) (before after : IoState) (history : List PlainEntry) (points : List ℕ) (n : ℕ) (end : SessionEnd) → h ≡ opened
+    → IsRun limits h before after history points n end → IsRun limits opened before after history points n end
+opened_as limits h opened before after history points n end e r = subst (λ (x : List PlainEntry). IsRun limits x before after history points n end) e r

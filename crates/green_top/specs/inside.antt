@@ -1,0 +1,5 @@
+-- What only private functions cite.
+pub mod Opening
+pub mod Next
+pub mod Progress
+pub mod Conversation

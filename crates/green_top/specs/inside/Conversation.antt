@@ -1,0 +1,129 @@
+-- A session's requests, each taken, answered and written in turn.
+use Rattle.std.specs.Prelude.{◌≡◌, ◌≢◌, ◌⊎◌, ℕ, ◌+◌, ◌≤◌, true, List, [], ◌++◌, length, Option, Some, None}
+use Rattle.febe_data.specs.LimitsView.{LimitsView}
+use Rattle.febe_data.specs.Plain.{PlainRequest, quit, PlainEntry}
+use Rattle.febe_wire.specs.Sessions.{greeting}
+use Rattle.febe_feed.specs.FeedView.{with_piece, FeedView, GivesRequest}
+use Rattle.febe_feed.specs.Pieces.{HasGiven}
+use Rattle.febe_feed.specs.Inputs.{NoQuits}
+use Rattle.world_rules.specs.History.{is_live}
+use Rattle.green_session.specs.Taking.{TurnsView, ReadState, read_state, ReadsBytes, Comes}
+use Rattle.green_session.specs.declared.take.Taken.{Taken}
+use Rattle.green_session.specs.declared.take.Taken.TheVariants as take_answers
+use Rattle.green_session.specs.declared.put.Put.{Put}
+use Rattle.green_session.specs.declared.put.Put.TheVariants as put_results
+use Rattle.green_top.specs.declared.session_end.SessionEnd.{SessionEnd}
+use Rattle.green_top.specs.declared.session_end.SessionEnd.TheVariants as ends
+use Rattle.green_top.specs.IoState.{IoState, Moves}
+use Rattle.green_top.specs.Outcome.{Leaves}
+use Rattle.green_top.specs.Ends.{most_input, Cause, AnsweredAndWritten}
+use Rattle.green_top.specs.inside.Opening.{Begins}
+use Rattle.green_top.specs.inside.Progress.{AnswerState, answer_state, HandlesRequest, Progress}
+
+-- the state of a session: the history, the points of its replies, what was read and not yet answered, and
+-- the source and the sink
+pub record SessionState : Type 0 where
+  pub history : List PlainEntry
+  pub points : List ℕ
+  pub feed : FeedView
+  pub turns : TurnsView
+  pub io : IoState
+
+abbrev pub session_state : List PlainEntry → List ℕ → FeedView → TurnsView → IoState → SessionState
+session_state history points feed turns io = record { history = history; points = points; feed = feed; turns = turns; io = io }
+
+-- the same with another history
+abbrev pub with_history : SessionState → List PlainEntry → SessionState
+with_history s history = session_state history s.points s.feed s.turns s.io
+
+-- the part of it that reading changes, and that answering changes
+abbrev pub reading : SessionState → ReadState
+reading s = read_state s.io.left s.io.source_faults s.feed s.turns
+
+abbrev pub answering : SessionState → AnswerState
+answering s = answer_state s.history s.points s.io.taken s.io.sink_faults
+
+-- a request came, was answered, and this came of its reply
+pub record IsAsked (limits : LimitsView) (session : ℕ) (before after : SessionState) (request : PlainRequest) (put : Put) : Type 0 where
+  pub read : List ℕ
+  pub reads : ReadsBytes (reading before) (reading after) read
+  pub gives : GivesRequest (with_piece before.feed read) after.feed request
+  pub answered : HandlesRequest limits session (answering before) (answering after) request put
+
+-- no request came, but this
+pub record IsNotAsked (before after : SessionState) (taken : Taken) : Type 0 where
+  pub read : List ℕ
+  pub reads : ReadsBytes (reading before) (reading after) read
+  pub comes : Comes taken (reading before) (reading after) read
+  pub history_stays : after.history ≡ before.history
+  pub points_stay : after.points ≡ before.points
+  pub taken_stays : after.io.taken ≡ before.io.taken
+  pub faults_stay : after.io.sink_faults ≡ before.io.sink_faults
+
+-- what came of taking one request and answering it: the session goes on, or ends
+abbrev pub IsRound : LimitsView → ℕ → SessionState → SessionState → Option SessionEnd → Type 0
+IsRound limits session before after None = ((request : PlainRequest) × (request ≢ quit) × IsAsked limits session before after request put_results.Done) × (is_live after.history session ≡ true)
+IsRound limits session before after (Some ends.Quit) = IsAsked limits session before after quit put_results.Done
+IsRound limits session before after (Some ends.End) = IsNotAsked before after take_answers.End
+IsRound limits session before after (Some (ends.Malformed at)) = IsNotAsked before after (take_answers.Malformed at)
+IsRound limits session before after (Some (ends.Truncated at)) = IsNotAsked before after (take_answers.Truncated at)
+IsRound limits session before after (Some ends.ReadFault) = IsNotAsked before after take_answers.ReadFault
+IsRound limits session before after (Some ends.WriteFault) = (request : PlainRequest) × IsAsked limits session before after request put_results.WriteFault
+IsRound limits session before after (Some ends.Memory) = IsNotAsked before after take_answers.Memory ⊎ ((request : PlainRequest) × IsAsked limits session before after request put_results.Memory)
+IsRound limits session before after (Some ends.Budget) = IsNotAsked before after take_answers.Budget
+IsRound limits session before after (Some ends.NoNumber) = ⊥
+
+-- the greeting was given, and as many bytes as were read are counted
+pub record IsGreeted (start : SessionState) : Type 0 where
+  pub greeted : start.feed.greeted ≡ true
+  pub place : start.feed.offset ≡ 3
+  pub turns_are : start.turns ≡ record { limit = most_input; taken = length (greeting ++ start.feed.held) }
+  pub within : length (greeting ++ start.feed.held) ≤ most_input + 4095
+
+-- all that was read, of a session that was greeted
+abbrev pub all_read : SessionState → List ℕ → List ℕ
+all_read start read = (greeting ++ start.feed.held) ++ read
+
+-- the session has begun, and nothing was asked
+pub record HasBegun (session : ℕ) (start : SessionState) : Type 0 where
+  pub greeted : IsGreeted start
+  pub opened : List PlainEntry
+  pub begins : Begins session opened start.history
+  pub no_points : start.points ≡ []
+
+-- from its begin on the session's requests were answered and written, and it goes on
+pub record IsConversing (limits : LimitsView) (session : ℕ) (start now : SessionState) : Type 0 where
+  pub read : List ℕ
+  pub written : List ℕ
+  pub requests : List PlainRequest
+  pub moves : Moves start.io now.io read written
+  pub given : HasGiven (all_read start read) requests now.feed
+  pub greeted : now.feed.greeted ≡ true
+  pub no_quits : NoQuits requests
+  pub turns_are : now.turns ≡ record { limit = most_input; taken = length (all_read start read) }
+  pub within : length (all_read start read) ≤ most_input + 4095
+  pub progress : Progress limits session start.history now.history now.points requests written
+  pub live : is_live now.history session ≡ true
+
+-- from its begin on the session's requests were answered, up to this end
+pub record IsConversed (limits : LimitsView) (session : ℕ) (start after : SessionState) (end : SessionEnd) : Type 0 where
+  pub read : List ℕ
+  pub written : List ℕ
+  pub answered : List PlainRequest
+  pub output : List ℕ
+  pub moves : Moves start.io after.io read written
+  pub counted : after.turns.taken ≡ length (all_read start read)
+  pub within : length (all_read start read) ≤ most_input + 4095
+  pub progress : Progress limits session start.history after.history after.points answered output
+  pub cause : Cause end (all_read start read) start.io after.io
+  pub answered_and_written : AnsweredAndWritten end (all_read start read) answered output written
+
+-- from its greeting on the session was served to its end, or did not begin
+pub record IsSession (limits : LimitsView) (start after : SessionState) (end : SessionEnd) : Type 0 where
+  pub read : List ℕ
+  pub written : List ℕ
+  pub moves : Moves start.io after.io read written
+  pub counted : after.turns.taken ≡ length (all_read start read)
+  pub within : length (all_read start read) ≤ most_input + 4095
+  pub cause : Cause end (all_read start read) start.io after.io
+  pub leaves : Leaves limits start.history end (all_read start read) written after.history after.points

@@ -1,0 +1,76 @@
+-- What answering requests does to a session.
+use Rattle.std.specs.Prelude.{◌≡◌, ◌⊎◌, ℕ, ◌≤◌, false, List, [], ◌∷◌, ◌++◌, length, map, All, Option}
+use Rattle.std.specs.List.{flat_map, AllByRecursion}
+use Rattle.std.specs.List.Sorted.{IsNonDecreasing}
+use Rattle.febe_data.specs.LimitsView.{LimitsView}
+use Rattle.febe_data.specs.Plain.{PlainRequest, PlainReply, PlainEntry}
+use Rattle.febe_data.specs.Validity.{IsReply}
+use Rattle.febe_reply.specs.ReplyGrammar.{spell_reply}
+use Rattle.world_rules.specs.History.{entries_of}
+use Rattle.world_rules.specs.World.{empty_world}
+use Rattle.world_rules.specs.Placed.{AllPlaced}
+use Rattle.world_rules.specs.Legal.{Exchange, TookPlace}
+use Rattle.green_store.specs.Sessions.{begin_entry}
+use Rattle.green_store.specs.Steps.{Steps}
+use Rattle.green_session.specs.declared.put.Put.{Put}
+use Rattle.green_session.specs.declared.put.Put.TheVariants.{Memory}
+use Rattle.green_session.specs.Putting.{IsPut}
+use Rattle.world_rules.specs.Serials.{CountFromOne}
+use Rattle.green_top.specs.Transcript.{output_of, HasNoDiskFault, HasValidReply, InTurn}
+
+-- what the answer to a request changes: the history, the points, what the sink took, where it tells that, and its
+-- count of faults
+pub record AnswerState : Type 0 where
+  pub history : List PlainEntry
+  pub points : List ℕ
+  pub taken : Option (List ℕ)
+  pub faults : ℕ
+
+abbrev pub answer_state : List PlainEntry → List ℕ → Option (List ℕ) → ℕ → AnswerState
+answer_state history points taken faults = record { history = history; points = points; taken = taken; faults = faults }
+
+-- One request was answered by a legal step from the history before it to the one after it: its point is the
+-- length of that, and the output is its reply, which the grammar can spell.
+pub record Answers (limits : LimitsView) (session : ℕ) (before after : AnswerState) (request : PlainRequest) (output : List ℕ) : Type 0 where
+  pub reply : PlainReply
+  pub valid : IsReply reply
+  pub step : Steps limits session before.history request reply after.history false
+  pub points_are : after.points ≡ before.points ++ length after.history ∷ []
+  pub output_is : output ≡ spell_reply reply
+
+-- the request was answered, and this came of writing its reply
+pub record AnswersAndWrites (limits : LimitsView) (session : ℕ) (before after : AnswerState) (request : PlainRequest) (result : Put) : Type 0 where
+  pub output : List ℕ
+  pub answers : Answers limits session before after request output
+  pub put : IsPut before.taken after.taken before.faults after.faults output result
+
+-- there was no memory, and all is as it was
+pub record IsOutOfMemory (before after : AnswerState) (result : Put) : Type 0 where
+  pub memory : result ≡ Memory
+  pub history_stays : after.history ≡ before.history
+  pub points_stay : after.points ≡ before.points
+  pub sink_stays : after.taken ≡ before.taken
+  pub faults_stay : after.faults ≡ before.faults
+
+abbrev pub HandlesRequest : LimitsView → ℕ → AnswerState → AnswerState → PlainRequest → Put → Type 0
+HandlesRequest limits session before after request result = AnswersAndWrites limits session before after request result ⊎ IsOutOfMemory before after result
+
+-- The session so far: the requests answered, with their points and the output. The history is the one with which
+-- the session had begun, and what the exchanges added.
+pub record Progress (limits : LimitsView) (session : ℕ) (begun history : List PlainEntry) (points : List ℕ) (answered : List PlainRequest) (output : List ℕ) : Type 0 where
+  pub exchanges : List Exchange
+  pub requests_are : answered ≡ map (λ (e : Exchange). e.request) exchanges
+  pub points_are : points ≡ map (λ (e : Exchange). e.point) exchanges
+  pub output_is : output ≡ output_of exchanges
+  pub each : AllByRecursion (TookPlace limits session history) exchanges
+  pub no_disk_faults : AllByRecursion HasNoDiskFault exchanges
+  pub valid_replies : AllByRecursion HasValidReply exchanges
+  pub first : entries_of session begun ≡ begin_entry session ∷ []
+  pub history_is : history ≡ begun ++ flat_map (λ (e : Exchange). e.added) exchanges
+  pub own : entries_of session (flat_map (λ (e : Exchange). e.added) exchanges) ≡ flat_map (λ (e : Exchange). e.added) exchanges
+  pub serials : CountFromOne (entries_of session history)
+  pub in_turn : InTurn session history (begin_entry session ∷ []) exchanges
+  pub placed : AllPlaced empty_world history
+  pub rising : IsNonDecreasing points
+  pub within : All (λ point. point ≤ length history) points
+  pub above : All (λ point. length begun ≤ point) points

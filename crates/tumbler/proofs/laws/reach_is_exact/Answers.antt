@@ -1,0 +1,5 @@
+use Rattle.tumbler.proofs.Reaches.{reach_is_exact}
+use Rattle.tumbler.proofs.laws.reach_is_exact.Goals as goal
+
+pub returns : goal.returns
+returns c = reach_is_exact

@@ -1,0 +1,2 @@
+pub mod WantRefusal
+pub mod Queries
