@@ -1,0 +1,20 @@
+-- A displacement that has room for a reach can be added to it.
+use Rattle.std.proofs.Common.{ℕ, List}
+use Rattle.tumbler.specs.Places.{IsTumbler, sum, Fits}
+use Rattle.tumbler.specs.Reach.{lead, HasRoom}
+use Rattle.tumbler.proofs.Reaches.{lead_fits_if_room}
+use Rattle.tumbler.proofs.Tumblers.{sum-is_tumbler}
+use Rattle.tumbler.proofs.SumOrder.{fits_if_tumbler as fits_back}
+
+pub lead_fits : (a r : List ℕ) → IsTumbler a → HasRoom a r → Fits r (lead a)
+lead_fits a r t h = lead_fits_if_room a r t.small h
+
+pub ruleset rooms = (lead_fits)
+
+pub tumbler_if_fits : (a d : List ℕ) → IsTumbler a → IsTumbler d → Fits a d → IsTumbler (sum a d)
+tumbler_if_fits a d t u f = sum-is_tumbler a d t u f
+
+pub fits_if_tumbler : (a d : List ℕ) → IsTumbler (sum a d) → Fits a d
+fits_if_tumbler a d t = fits_back a d t
+
+pub ruleset fitting = (tumbler_if_fits, fits_if_tumbler)

@@ -1,0 +1,28 @@
+use Rattle.std.proofs.Common.{map, arith}
+use Rattle.std.proofs.lemmas.List.{length-map}
+use Rattle.enfilade_core.specs.Axes.{IsRightRow, IsRightRows}
+use Rattle.enfilade_core.specs.Plain.{plain_row}
+use Rattle.enfilade_core.proofs.GoneThrough.{if_none, mapped_at, item-right}
+use Rattle.enfilade_core.proofs.ChildrenTold.{rows-told, row-follows, row-more}
+use Rattle.enfilade_core.proofs.right.rows_summary.Goals as goal
+
+pub returns-in_err-part-clause-none : goal.returns-in_err-part-clause-none
+returns-in_err-part-clause-none g c =
+    let at = mapped_at (plain_row g.P.Plane.plain) c.args.rows.now c.loop-row.row-index c.row-item.result c.loop-row-test.true c.row-item.is in
+    if_none (IsRightRows g.P.Plane.widths (map (plain_row g.P.Plane.plain) c.args.rows.now) → ⊥) c.from_residual.result (λ right. c.in_err-part.ensures.none (item-right (IsRightRow g.P.Plane.widths) (map (plain_row g.P.Plane.plain) c.args.rows.now) c.loop-row.row-index (plain_row g.P.Plane.plain c.row-item.result) at.short at.at right.each))
+
+pub returns-in_err-summary-clause-none : goal.returns-in_err-summary-clause-none
+returns-in_err-summary-clause-none g c =
+    let at = mapped_at (plain_row g.P.Plane.plain) c.args.rows.now c.loop-row.row-index c.row-item.result c.loop-row-test.true c.row-item.is in
+    if_none (IsRightRows g.P.Plane.widths (map (plain_row g.P.Plane.plain) c.args.rows.now) → ⊥) c.from_residual-in_err-summary.result (λ right. c.in_err-summary.ensures.none (row-follows g.P.Plane.widths (map (plain_row g.P.Plane.plain) c.args.rows.now) c.loop-row.row-index (plain_row g.P.Plane.plain c.row-item.result) c.loop-row.summary c.in_ok-part.part
+    at.short at.at c.loop-row.invariant c.in_ok-part.ensures.some.0 c.in_ok-part.ensures.some.1 right))
+
+pub loop-row-preserved : goal.loop-row-preserved
+loop-row-preserved g c =
+    let at = mapped_at (plain_row g.P.Plane.plain) c.args.rows.now c.loop-row.row-index c.row-item.result c.loop-row-test.true c.row-item.is in
+    row-more g.P.Plane.widths (map (plain_row g.P.Plane.plain) c.args.rows.now) c.loop-row.row-index (plain_row g.P.Plane.plain c.row-item.result) c.loop-row.summary c.in_ok-part.part c.in_ok-summary.summary
+    at.short at.at c.loop-row.invariant c.in_ok-part.ensures.some.0 c.in_ok-part.ensures.some.1 c.in_ok-summary.ensures.some.0 c.in_ok-summary.ensures.some.1
+
+pub returns-clause-some : goal.returns-clause-some
+returns-clause-some g c =
+    rows-told g.P.Plane.widths (map (plain_row g.P.Plane.plain) c.args.rows.now) c.loop-row.row-index c.loop-row.summary (omega (arith, length-map c.args.rows.now (plain_row g.P.Plane.plain), c.loop-row-test.false)) c.loop-row.invariant

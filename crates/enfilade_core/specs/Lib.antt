@@ -1,0 +1,12 @@
+pub mod Rows
+pub mod Axes
+pub mod Summary
+pub mod Standing
+pub mod Right
+pub mod Edits
+pub mod Plain
+pub mod Held
+pub mod Laws
+pub mod Planes
+pub mod PlaneLaws
+pub mod Following

@@ -1,0 +1,158 @@
+//! Arenas: nodes that never change, the later ones made of earlier ones.
+ghost use Rattle.std.specs.Prelude.{◌≡◌, ◌≢◌, ℕ, ◌+◌, ◌^◌, ◌<◌, ◌≤◌, ◌↔◌, min, List as ListOf, [], ◌∷◌, ◌++◌, length, take, map, All, IsTrue, IfOk, IfSome, IfNone, OnOk, OnErr};
+ghost use Rattle.enfilade_core.specs.Rows.{Shape, Rows, rows_of, node_at};
+ghost use Rattle.enfilade_core.specs.Right.{IsRight, AreRight};
+ghost use Rattle.enfilade_core.specs.Plain.{shape, plain_row};
+ghost use Rattle.enfilade_core.specs.Summary.{summary_of, kept};
+ghost use Rattle.enfilade_core.specs.Standing.{standing_of, kept_standing};
+ghost use Rattle.enfilade_core.specs.Edits.{KeepsRows};
+
+use crate::held::Held;
+use crate::plane::Plane;
+use crate::standing::Standing;
+use crate::summary::Summary;
+use crate::tree::{Children, Node};
+use std::alloc::Global;
+use std::marker::{Model, PhantomData};
+use tumbler::{List, Memory};
+
+/// Nodes that never change, with the trees of one plane.
+///
+/// New nodes come in at the end. Those under a node have lesser numbers, all bottom nodes of a tree are
+/// equally deep, and trees may share nodes. A tree is named by its root, whose origin is zero.
+#[derive(Drop)]
+pub struct Arena<P: Plane> {
+    nodes: List<Held<P::Leaf>>,
+    alloc: Global,
+    plane: PhantomData<P>,
+}
+
+impl<P: Plane> Model for Arena<P> {
+    ghost use Rattle.std.specs.Prelude.{List as ListOf};
+    ghost use Rattle.enfilade_core.specs.Rows.{Shape};
+    ghost use Rattle.enfilade_core.specs.Held.{held_shapes, IsArena};
+
+    ghost Value = { ListOf (Shape P.Leaf) };
+
+    ghost view = { λ a. held_shapes P.plain a.nodes.items };
+
+    ghost invariant = { λ a. IsArena P.plain P.widths a.nodes.items };
+}
+
+impl<P: Plane> Arena<P> {
+    /// An arena with no node. It takes no memory.
+    pub fn new(alloc: Global) -> Arena<P>
+        ensures { result ≡ [] }
+    {
+        Arena {
+            nodes: List::new(alloc),
+            alloc,
+            plane: PhantomData,
+        }
+    }
+
+    /// The number of nodes. It takes no memory.
+    pub fn count(&self) -> u64
+        ensures { result ≡ length self.now }
+    {
+        self.nodes.len() as u64
+    }
+
+    /// What `truncate` goes back to: the number of nodes. It takes no memory.
+    pub fn mark(&self) -> u64
+        ensures { result ≡ length self.now }
+    {
+        self.count()
+    }
+
+    /// Drops the nodes from the mark on, and leaves the earlier ones. It takes no memory.
+    pub fn truncate(&mut self, mark: u64)
+        requires { mark ≤ length self.old }
+        ensures { self.new ≡ take mark self.old }
+    {
+        self.nodes.truncate(mark as usize);
+    }
+
+    /// What hangs under a node. It takes no memory.
+    pub fn node(&self, node: Node) -> &Children<P::Leaf>
+        requires { node.0 < length self.now }
+        ensures { shape P.plain result.now ≡ node_at self.now node.0 }
+    {
+        &self.nodes.as_slice()[node.0 as usize].children
+    }
+
+    /// A node's number.
+    pub fn number(node: Node) -> u64
+        ensures { result ≡ node.0 }
+    {
+        node.0
+    }
+
+    /// The node of this number, if there is one. It takes no memory.
+    pub fn at_number(&self, number: u64) -> Option<Node>
+        ensures found { IfSome result (λ node. (node.0 ≡ number) × (number < length self.now)) }
+        ensures none { IfNone result (length self.now ≤ number) }
+    {
+        if number < self.count() {
+            return Some(Node(number));
+        }
+        None
+    }
+
+    /// Where memory comes from.
+    pub(crate) fn allocator(&self) -> Global
+        ensures right { AreRight P.widths self.now }
+        ensures few { length self.now < 2 ^ 64 }
+    {
+        let _count = self.nodes.len();
+        self.alloc
+    }
+
+    /// What is kept of the rows below a node.
+    pub(crate) fn summary(&self, node: Node) -> &Summary
+        requires { node.0 < length self.now }
+        ensures told { result.now ≡ kept (summary_of P.widths self.now node.0) }
+        ensures right { AreRight P.widths self.now }
+        ensures few { length self.now < 2 ^ 64 }
+    {
+        let _count = self.nodes.len();
+        &self.nodes.as_slice()[node.0 as usize].summary
+    }
+
+    /// What is kept of the shape of the tree below a node.
+    pub(crate) fn standing(&self, node: Node) -> Standing
+        requires { node.0 < length self.now }
+        ensures { result ≡ kept_standing (standing_of self.now node.0) }
+    {
+        self.nodes.as_slice()[node.0 as usize].standing
+    }
+
+    /// Adds a node with these children, which is the last one then.
+    pub fn add_node(&mut self, children: Children<P::Leaf>) -> Result<Node, Memory>
+        requires { IsRight P.widths self.old (shape P.plain children) }
+        ensures made { IfOk result (λ node. node.0 ≡ length self.old) }
+        ensures ok { OnOk result (self.new ≡ self.old ++ shape P.plain children ∷ []) }
+        ensures err { OnErr result (self.new ≡ self.old) }
+    {
+        let Some(summary) = self.children_summary(&children) else {
+            unreachable!();
+        };
+        let standing = self.children_standing(&children);
+        let node = Node(self.count());
+        self.nodes.push(Held {
+            children,
+            summary,
+            standing,
+        })?;
+        Ok(node)
+    }
+
+    /// A new root with no rows.
+    pub fn empty(&mut self) -> Result<Node, Memory>
+        ensures made { IfOk result (λ root. root.0 ≡ length self.old) }
+        ensures ok { OnOk result (self.new ≡ self.old ++ Rows [] ∷ []) }
+        ensures err { OnErr result (self.new ≡ self.old) }
+    {
+        self.add_node(Children::Bottom(List::new(self.alloc)))
+    }
+}
