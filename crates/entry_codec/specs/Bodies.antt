@@ -1,0 +1,61 @@
+-- Which entries have a body, and which bytes are one.
+use Rattle.std.specs.Prelude.{◌≡◌, ℕ, ◌<◌, List, ◌++◌, Option, Some, None}
+use Rattle.tumbler.specs.Places.{IsTumbler}
+use Rattle.febe_data.specs.declared.entry.Entry.{Entry}
+use Rattle.febe_data.specs.Plain.{PlainChange, PlainEntry, document_created, version_made, copy_opened, text_inserted, span_deleted, blocks_swapped, specs_copied, link_made, plain_entry}
+use Rattle.febe_data.specs.Validity.{IsText, IsSpan, IsList, IsSpecSet}
+use Rattle.entry_codec.specs.Format.{body_of}
+
+-- a number that four bytes have room for
+abbrev pub IsU32 : ℕ → Type 0
+IsU32 n = n < 4294967296
+
+-- and one that eight bytes have room for
+abbrev pub IsU64 : ℕ → Type 0
+IsU64 n = n < 18446744073709551616
+
+-- The changes that are logged, within the bounds of their fields: texts, lists, and the spans in all specs of one list
+-- are as many as one request may have.
+abbrev pub IsLogged : PlainChange → Type 0
+IsLogged (document_created document) = IsTumbler document
+IsLogged (version_made source document) = IsTumbler source × IsTumbler document
+IsLogged (copy_opened source document) = IsTumbler source × IsTumbler document
+IsLogged (text_inserted document at first text) = IsTumbler document × IsU32 at × IsU32 first × IsText text
+IsLogged (span_deleted document span) = IsTumbler document × IsSpan span
+IsLogged (blocks_swapped document cuts) = IsTumbler document × IsList IsU32 cuts
+IsLogged (specs_copied document at specs) = IsTumbler document × IsU32 at × IsSpecSet specs
+IsLogged (link_made home number place from to three) = IsTumbler home × IsU32 number × IsU32 place × IsSpecSet from × IsSpecSet to × IsSpecSet three
+IsLogged other = ⊥
+
+-- such a change, by a session and with a serial that eight bytes have room for
+pub record HasBody (entry : PlainEntry) : Type 0 where
+  pub session : IsU64 entry.session
+  pub serial : IsU64 entry.serial
+  pub change : IsLogged entry.change
+
+-- these bytes are the body of this entry
+pub record IsBodyOf (entry : PlainEntry) (bytes : List ℕ) : Type 0 where
+  pub valid : HasBody entry
+  pub spelled : bytes ≡ body_of entry
+
+-- these bytes are a body
+pub record IsBody (bytes : List ℕ) : Type 0 where
+  pub entry : PlainEntry
+  pub body : IsBodyOf entry bytes
+
+-- what decoding gave is so: the entry whose body the bytes are, or none where they are no body
+abbrev pub IsDecoded : List ℕ → Option Entry → Type 0
+IsDecoded bytes (Some entry) = IsBodyOf (plain_entry entry) bytes
+IsDecoded bytes None = ¬ IsBody bytes
+
+-- the bytes begin with a body, and these stand behind it
+pub record BeginsWithBody (bytes : List ℕ) : Type 0 where
+  pub body : List ℕ
+  pub rest : List ℕ
+  pub is_body : IsBody body
+  pub split : bytes ≡ body ++ rest
+
+-- the bytes are this front and these behind it, and no body but the front can begin them
+pub record IsOnlyFront (bytes front rest : List ℕ) : Type 0 where
+  pub split : bytes ≡ front ++ rest
+  pub only : (body more : List ℕ) → IsBody body → bytes ≡ body ++ more → body ≡ front
