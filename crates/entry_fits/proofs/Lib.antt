@@ -1,0 +1,4 @@
+pub mod SameContents
+pub mod Along
+pub mod Sessions
+pub mod Accepted

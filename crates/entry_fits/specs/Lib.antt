@@ -1,0 +1,9 @@
+pub use Rattle.world_rules.specs.World
+pub use Rattle.world_rules.specs.Apply
+pub use Rattle.world_rules.specs.History
+pub use Rattle.world_rules.specs.Effects
+pub use Rattle.world_rules.specs.Legal
+pub use Rattle.world_rules.specs.Placed
+pub use Rattle.world_rules.specs.Serials
+pub mod Fits
+pub mod Laws
