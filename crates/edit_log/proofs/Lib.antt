@@ -1,0 +1,10 @@
+pub mod Answering
+pub mod Appending
+pub mod Durable
+pub mod Ends
+pub mod Opens
+pub mod Parts
+pub mod Scans
+pub mod Steps
+pub mod Unique
+pub mod Wholes

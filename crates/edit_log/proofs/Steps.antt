@@ -1,0 +1,35 @@
+-- What one write of a log and its sync leave of the images.
+use Rattle.std.proofs.Common.{◌≡◌, ℕ, ◌+◌, List, length, Option, None, Some, IsSome, sym, subst}
+use Rattle.green_io.specs.declared.disk.Area.TheVariants as area
+use Rattle.green_io.specs.Areas.{Areas, area_of}
+use Rattle.green_io.specs.Disk.{DiskState, IsDisk, WhereTold, images_now, Written, Torn, Changes, LeftBy, LeavesOnly, IsDurable}
+use Rattle.green_io.proofs.Crash.{weaker, now_has}
+use Rattle.edit_log.specs.Images.{LogImages, InLog}
+
+-- what a crash leaves while the write runs
+pub torn_images : (a b : DiskState) (end at n : ℕ) (front : List ℕ) (P Q : List ℕ → Type 0) → LogImages a end front P → LeavesOnly a b (LeftBy area.Log (Torn at n) (images_now a)) → ((old new : List ℕ) → P old → Torn at n old new → Q new) → LeavesOnly a b (InLog Q)
+torn_images a b end at n front P Q images leaves follows =
+    weaker a b (LeftBy area.Log (Torn at n) (images_now a)) (InLog Q) leaves
+    (λ image left. follows left.0.log image.log (images.each left.0 left.1) left.2.0)
+
+-- where a write fails, what its torn writes keep stays
+pub kept_images : (a b : DiskState) (end : ℕ) (front : List ℕ) (P : List ℕ → Type 0) → IsDisk b → LogImages a end front P → (IsSome a.reads → IsSome b.reads) → LeavesOnly a b (InLog P) → LogImages b end front P
+kept_images a b end front P disk images told leaves = record {
+  told = told images.told;
+  at_end = images.at_end;
+  each = now_has a b (InLog P) disk leaves images.each;
+}
+
+written_reads : (old new : Option Areas) (at : ℕ) (bytes : List ℕ) (before after : Areas → Type 0) (P Q : List ℕ → Type 0) → IsSome old → WhereTold old before → ((i : Areas) → before i → P i.log) → Changes area.Log (Written at bytes) old new → IsDurable area.Log new after → ((x y : List ℕ) → P x → Written at bytes x y → Q y) → (i : Areas) → after i → Q i.log
+written_reads None new at bytes before after P Q told reads each changes durable follows i is = absurd (cc told)
+written_reads (Some x) None at bytes before after P Q told reads each changes durable follows i is = absurd changes
+written_reads (Some x) (Some y) at bytes before after P Q told reads each changes durable follows i is =
+    subst Q (sym (durable i is)) (follows x.log y.log (each x reads) changes.0)
+
+-- what every image has once the write has succeeded and is stable
+pub written_images : (a b : DiskState) (end new_end at : ℕ) (bytes : List ℕ) (front new_front : List ℕ) (P Q : List ℕ → Type 0) → IsDisk a → LogImages a end front P → (IsSome a.reads → IsSome b.reads) → Changes area.Log (Written at bytes) a.reads b.reads → IsDurable area.Log b.reads (images_now b) → ((old new : List ℕ) → P old → Written at bytes old new → Q new) → new_end ≡ length new_front → LogImages b new_end new_front Q
+written_images a b end new_end at bytes front new_front P Q disk images told changes durable follows at_end = record {
+  told = told images.told;
+  at_end = at_end;
+  each = written_reads a.reads b.reads at bytes (images_now a) (images_now b) P Q images.told disk.as_it_reads images.each changes durable follows;
+}

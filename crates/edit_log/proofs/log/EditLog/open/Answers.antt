@@ -1,0 +1,45 @@
+-- The log is read as it stands, and its end gate is closed behind what was read.
+use Rattle.std.proofs.Common.{◌≡◌, ℕ, List, [], ◌∷◌, ◌++◌, length, drop, IsSome, refl, sym, ◌∙◌, ap, subst}
+use Rattle.febe_data.specs.Plain.{plain_history}
+use Rattle.green_io.specs.Disk.{WhereTold}
+use Rattle.edit_log.specs.Log.{gated, HasEntries, IsEnd, IsWhole}
+use Rattle.edit_log.specs.Images.{LogImages}
+use Rattle.edit_log.specs.inside.Ends.{IsLog}
+use Rattle.edit_log.specs.inside.Scan.{HasScanned}
+use Rattle.edit_log.proofs.Opens.{stable_images, closing_holds, told_read}
+use Rattle.edit_log.proofs.log.EditLog.open.Goals as goal
+
+pub returns-in_default-close_end-clause-any_moment : goal.returns-in_default-close_end-clause-any_moment
+returns-in_default-close_end-clause-any_moment g c entries whole =
+    let bytes = c.as_slice-bytes.result.now in
+    let scanned = plain_history c.in-Ends.entries.items in
+    let end = c.split_at.result.1.now in
+    let found = subst (HasScanned bytes) c.in-Ends.is c.in-Ok.ensures in
+    let has = subst (λ (l : List ℕ). HasEntries scanned l bytes) (sym c.split_at.ensures.back) found.2 in
+    let ends = subst IsEnd (sym c.split_at.ensures.back) found.3 in
+    let read = subst (λ (l : List ℕ). WhereTold (g.D.Disk.state c.args.disk.now).reads (λ areas. l ≡ areas.log)) (sym c.as_slice-bytes.ensures) c.in_ok-bytes.ensures.bytes in
+    let images = stable_images (g.D.Disk.state c.args.disk.now) (g.D.Disk.state c.read_stable.new.disk) c.in-Ends.at bytes (gated scanned) end c.read_stable.ensures.reads (told_read _ _ whole) read c.in_ok-bytes.ensures.durable found.1 has.parts in
+    closing_holds c.one_body.ensures c.body_says_length.ensures (g.D.Disk.state c.args.disk.now) (g.D.Disk.state c.read_stable.new.disk) _ bytes entries scanned end c.read_stable.ensures.crash whole read has ends (c.in_default-close_end.ensures.any_moment (gated scanned) images)
+
+pub returns-clause-any_moment : goal.returns-clause-any_moment
+returns-clause-any_moment g c entries whole =
+    let bytes = c.as_slice-bytes.result.now in
+    let scanned = plain_history c.in-Ends.entries.items in
+    let end = c.split_at.result.1.now in
+    let found = subst (HasScanned bytes) c.in-Ends.is c.in-Ok.ensures in
+    let has = subst (λ (l : List ℕ). HasEntries scanned l bytes) (sym c.split_at.ensures.back) found.2 in
+    let ends = subst IsEnd (sym c.split_at.ensures.back) found.3 in
+    let read = subst (λ (l : List ℕ). WhereTold (g.D.Disk.state c.args.disk.now).reads (λ areas. l ≡ areas.log)) (sym c.as_slice-bytes.ensures) c.in_ok-bytes.ensures.bytes in
+    let images = stable_images (g.D.Disk.state c.args.disk.now) (g.D.Disk.state c.read_stable.new.disk) c.in-Ends.at bytes (gated scanned) end c.read_stable.ensures.reads (told_read _ _ whole) read c.in_ok-bytes.ensures.durable found.1 has.parts in
+    closing_holds c.one_body.ensures c.body_says_length.ensures (g.D.Disk.state c.args.disk.now) (g.D.Disk.state c.read_stable.new.disk) _ bytes entries scanned end c.read_stable.ensures.crash whole read has ends (c.in-Ok-close_end.ensures.any_moment (gated scanned) images)
+
+pub returns-clause-stands : goal.returns-clause-stands
+returns-clause-stands g c told =
+    let bytes = c.as_slice-bytes.result.now in
+    let scanned = plain_history c.in-Ends.entries.items in
+    let end = c.split_at.result.1.now in
+    let found = subst (HasScanned bytes) c.in-Ends.is c.in-Ok.ensures in
+    let has = subst (λ (l : List ℕ). HasEntries scanned l bytes) (sym c.split_at.ensures.back) found.2 in
+    let read = subst (λ (l : List ℕ). WhereTold (g.D.Disk.state c.args.disk.now).reads (λ areas. l ≡ areas.log)) (sym c.as_slice-bytes.ensures) c.in_ok-bytes.ensures.bytes in
+    let images = stable_images (g.D.Disk.state c.args.disk.now) (g.D.Disk.state c.read_stable.new.disk) c.in-Ends.at bytes (gated scanned) end c.read_stable.ensures.reads told read c.in_ok-bytes.ensures.durable found.1 has.parts in
+    record { idle = refl; images = c.in-Ok-close_end.ensures.closed (gated scanned) images }

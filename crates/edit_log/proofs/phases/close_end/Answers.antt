@@ -1,0 +1,28 @@
+-- A gate that is 0 stays as it is; another may have any byte until it is written.
+use Rattle.std.proofs.Common.{◌≡◌, ℕ, List, [], ◌∷◌, ◌++◌, refl, sym, ◌∙◌, subst}
+use Rattle.green_io.specs.Disk.{Torn, Written}
+use Rattle.edit_log.specs.Images.{IsShut}
+use Rattle.edit_log.specs.inside.Ends.{IsLog, HasTornGate}
+use Rattle.edit_log.proofs.Answering.{on_ok}
+use Rattle.edit_log.proofs.Ends.{torn_at_end, written_at_end, shut_at_end}
+use Rattle.edit_log.proofs.Steps.{torn_images, written_images}
+use Rattle.edit_log.proofs.phases.close_end.Goals as goal
+
+pub returns-then-is_closed-clause-closed : goal.returns-then-is_closed-clause-closed
+returns-then-is_closed-clause-closed g c front images = record {
+  told = images.told;
+  at_end = images.at_end;
+  each = λ image now. shut_at_end front c.args.end.now image.log (sym c.is_closed.ensures ∙ c.if-is_closed.true) (images.each image now);
+}
+
+pub returns-clause-any_moment : goal.returns-clause-any_moment
+returns-clause-any_moment g c front images =
+    torn_images _ _ _ _ _ front (IsLog (front ++ c.args.end.now)) (HasTornGate front c.args.end.now) images c.write_log.ensures.crash
+    (λ old new was torn. torn_at_end front c.args.end.now old new (sym c.is_closed.ensures ∙ c.if-is_closed.false) was (subst (λ at. Torn at 1 old new) images.at_end torn))
+
+pub returns-clause-closed : goal.returns-clause-closed
+returns-clause-closed g c front images =
+    on_ok _ _ _ _ c.write_log.ensures.written c.write_log.ensures.durable
+    (λ written durable. written_images _ _ _ _ _ _ front front (IsLog (front ++ c.args.end.now)) (IsShut front) (g.met.D.Disk.is_disk c.args.disk.now) images c.write_log.ensures.told written durable
+    (λ old new was put. written_at_end front c.args.end.now old new was (subst (λ at. Written at (0 ∷ []) old new) images.at_end put))
+    images.at_end)

@@ -1,0 +1,12 @@
+pub use Rattle.febe_data.specs.Plain
+pub use Rattle.entry_codec.specs.Bodies
+pub use Rattle.entry_codec.specs.Format
+pub use Rattle.entry_fits.specs.Fits
+pub use Rattle.green_io.specs.Areas
+pub use Rattle.green_io.specs.Disk
+pub use Rattle.green_io.specs.Outside
+pub mod Answers
+pub mod Images
+pub mod inside
+pub mod Log
+pub mod LogView

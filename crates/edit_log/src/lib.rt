@@ -1,0 +1,14 @@
+//! The log of edits on a disk, where each edit stands behind a gate of its own.
+#![tactic(auto)]
+
+mod log;
+mod opening;
+mod pending;
+mod phases;
+mod reading;
+mod scanning;
+#[cfg(test)]
+mod tests;
+
+pub use log::{Appended, EditLog};
+pub use opening::LogFault;

@@ -1,0 +1,80 @@
+//! The writes of a log, each of which is synced before the next begins.
+ghost use Rattle.std.specs.Prelude.{◌≡◌, ◌<◌, ◌≤◌, ◌^◌, ℕ, List, [], ◌∷◌, ◌++◌, length, IsSome, OnOk, OnErr};
+ghost use Rattle.green_io.specs.Disk.{Written, Torn, Changes, LeftBy, LeavesOnly, IsDurable, images_now};
+ghost use Rattle.green_io.specs.Outside.{HasRisen};
+ghost use Rattle.edit_log.specs.Images.{IsShut, IsAjar, LogImages, InLog};
+ghost use Rattle.edit_log.specs.inside.Ends.{IsLog, HasTornGate, begins_shut};
+
+use green_io::{Area, Disk, DiskFailed};
+
+/// Writes bytes at a place of the log and syncs it.
+#[tactic(auto, using(green_io::proofs::Crash::crash_steps))]
+fn write_log<D: Disk>(disk: &mut D, at: u64, bytes: &[u8]) -> Result<(), DiskFailed>
+    ensures told { IsSome (D.state disk.old).reads → IsSome (D.state disk.new).reads }
+    ensures written { OnOk result (Changes Area.Log (Written at bytes.now) (D.state disk.old).reads (D.state disk.new).reads) }
+    ensures durable { OnOk result (IsDurable Area.Log (D.state disk.new).reads (images_now (D.state disk.new))) }
+    ensures crash { LeavesOnly (D.state disk.old) (D.state disk.new) (LeftBy Area.Log (Torn at (length bytes.now)) (images_now (D.state disk.old))) }
+    ensures never_falls { D.fault_count disk.old ≤ D.fault_count disk.new }
+    ensures failed { OnErr result (HasRisen (D.fault_count disk.old) (D.fault_count disk.new)) }
+{
+    disk.write(Area::Log, at, bytes)?;
+    disk.sync(Area::Log)?;
+    Ok(())
+}
+
+/// Puts a body, and the byte 0 behind it, behind the end gate, which stays a stable 0.
+pub(crate) fn stage<D: Disk>(disk: &mut D, end: u64, bytes: &[u8]) -> Result<(), DiskFailed>
+    ensures any_moment { (front body : List ℕ) → bytes.now ≡ body ++ (0 ∷ []) → length front < 2 ^ 63 → LogImages (D.state disk.old) end front (IsShut front) → LeavesOnly (D.state disk.old) (D.state disk.new) (InLog (IsShut front)) }
+    ensures staged { (front body : List ℕ) → bytes.now ≡ body ++ (0 ∷ []) → length front < 2 ^ 63 → LogImages (D.state disk.old) end front (IsShut front) → OnOk result (LogImages (D.state disk.new) end front (IsAjar front body)) }
+    ensures shut { (front body : List ℕ) → bytes.now ≡ body ++ (0 ∷ []) → length front < 2 ^ 63 → LogImages (D.state disk.old) end front (IsShut front) → OnErr result (LogImages (D.state disk.new) end front (IsShut front)) }
+    ensures never_falls { D.fault_count disk.old ≤ D.fault_count disk.new }
+    ensures failed { OnErr result (HasRisen (D.fault_count disk.old) (D.fault_count disk.new)) }
+{
+    write_log(disk, end.saturating_add(1), bytes)
+}
+
+/// Writes 1 to the end gate, behind which one more body and a byte 0 are stable.
+pub(crate) fn open_gate<D: Disk>(disk: &mut D, end: u64) -> Result<(), DiskFailed>
+    ensures any_moment { (front body : List ℕ) → LogImages (D.state disk.old) end front (IsAjar front body) → LeavesOnly (D.state disk.old) (D.state disk.new) (InLog (IsAjar front body)) }
+    ensures opened { (front body : List ℕ) → LogImages (D.state disk.old) end front (IsAjar front body) → OnOk result (LogImages (D.state disk.new) (length (front ++ (1 ∷ body))) (front ++ (1 ∷ body)) (IsShut (front ++ (1 ∷ body)))) }
+    ensures ajar { (front body : List ℕ) → LogImages (D.state disk.old) end front (IsAjar front body) → OnErr result (LogImages (D.state disk.new) end front (IsAjar front body)) }
+    ensures never_falls { D.fault_count disk.old ≤ D.fault_count disk.new }
+    ensures failed { OnErr result (HasRisen (D.fault_count disk.old) (D.fault_count disk.new)) }
+{
+    write_log(disk, end, &[1])
+}
+
+/// Writes 0 to the end gate, behind which one more body and a byte 0 are stable.
+pub(crate) fn close_gate<D: Disk>(disk: &mut D, end: u64) -> Result<(), DiskFailed>
+    ensures any_moment { (front body : List ℕ) → LogImages (D.state disk.old) end front (IsAjar front body) → LeavesOnly (D.state disk.old) (D.state disk.new) (InLog (IsAjar front body)) }
+    ensures closed { (front body : List ℕ) → LogImages (D.state disk.old) end front (IsAjar front body) → OnOk result (LogImages (D.state disk.new) end front (IsShut front)) }
+    ensures ajar { (front body : List ℕ) → LogImages (D.state disk.old) end front (IsAjar front body) → OnErr result (LogImages (D.state disk.new) end front (IsAjar front body)) }
+    ensures never_falls { D.fault_count disk.old ≤ D.fault_count disk.new }
+    ensures failed { OnErr result (HasRisen (D.fault_count disk.old) (D.fault_count disk.new)) }
+{
+    write_log(disk, end, &[0])
+}
+
+/// Whether a gate stands there, and is 0.
+fn is_closed(end: &[u8]) -> bool
+    ensures { result ≡ begins_shut end.now }
+{
+    match end.first() {
+        Some(gate) => *gate == 0,
+        None => false,
+    }
+}
+
+/// Writes 0 to the gate at the end of a log that was read, where it is not a byte 0 that is there. `end` is what
+/// stands there.
+pub(crate) fn close_end<D: Disk>(disk: &mut D, at: u64, end: &[u8]) -> Result<(), DiskFailed>
+    ensures any_moment { (front : List ℕ) → LogImages (D.state disk.old) at front (IsLog (front ++ end.now)) → LeavesOnly (D.state disk.old) (D.state disk.new) (InLog (HasTornGate front end.now)) }
+    ensures closed { (front : List ℕ) → LogImages (D.state disk.old) at front (IsLog (front ++ end.now)) → OnOk result (LogImages (D.state disk.new) at front (IsShut front)) }
+    ensures never_falls { D.fault_count disk.old ≤ D.fault_count disk.new }
+    ensures failed { OnErr result (HasRisen (D.fault_count disk.old) (D.fault_count disk.new)) }
+{
+    if is_closed(end) {
+        return Ok(());
+    }
+    write_log(disk, at, &[0])
+}
