@@ -1,0 +1,11 @@
+use Rattle.std.proofs.Common.{◌≡◌, ◌∙◌, ◌+◌, ◌-◌, ◌≤◌, ap, sym, subst, true, false, not, Some, None, refl, arith, ltb-true, ltb-false}
+use Rattle.doc_table.proofs.Changed.{content_there, content_none}
+use Rattle.doc_table.specs.inside.Kept.{unboxed}
+use Rattle.doc_table.proofs.table.DocTable.content.Goals as goal
+
+pub returns-in_default : goal.returns-in_default
+returns-in_default g c = content_none c.args.document.now c.as_slice-rows.result.now c.args.self.now (ap unboxed c.as_slice-rows.ensures.value ∙ c.self.view_is) c.in_default.ensures.none
+
+pub returns : goal.returns
+returns g c =
+    content_there c.args.document.now c.as_slice-rows.result.now c.args.self.now (ap unboxed c.as_slice-rows.ensures.value ∙ c.self.view_is) c.in-Some.at c.index-rows-at.result c.deref.result.now c.in-Some.ensures.found c.index-rows-at.is c.deref.ensures

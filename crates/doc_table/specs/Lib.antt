@@ -1,0 +1,4 @@
+pub use Rattle.febe_data.specs.Address
+pub use Rattle.world_rules.specs.World
+pub mod DocumentRows
+pub mod inside
