@@ -1,0 +1,10 @@
+//! Who has which document open, and for what, and which account each session has set.
+#![tactic(auto, using(crate::proofs::Keyed::by_key))]
+
+mod accounts;
+mod openings;
+mod table;
+#[cfg(test)]
+mod tests;
+
+pub use table::AccessTable;
