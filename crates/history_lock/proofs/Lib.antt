@@ -1,0 +1,6 @@
+pub mod Counting
+pub mod Growing
+pub mod RuleKept
+pub mod Finishing
+pub mod LawsHold
+pub mod NoneLater

@@ -1,0 +1,4 @@
+pub mod Histories
+pub mod Passes
+pub mod Laws
+pub mod inside
