@@ -9,6 +9,8 @@ mod planes;
 mod right;
 mod standing;
 mod summary;
+#[cfg(test)]
+mod tests;
 mod tree;
 
 pub use arena::Arena;
