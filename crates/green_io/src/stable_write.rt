@@ -1,5 +1,5 @@
 //! A write that is stable once it has succeeded.
-ghost use Rattle.std.specs.Prelude.{◌≡◌, ◌≤◌, length, OnOk, OnErr};
+ghost use Rattle.std.specs.Prelude.{◌≡◌, ◌≤◌, length, IsSome, OnOk, OnErr};
 ghost use Rattle.green_io.specs.Disk.{Written, Torn, Changes, LeftBy, LeavesOnly, IsDurable, images_now};
 ghost use Rattle.green_io.specs.Outside.{HasRisen};
 
@@ -15,6 +15,7 @@ pub fn write_and_sync<D: Disk>(
     at: u64,
     bytes: &[u8],
 ) -> Result<(), DiskFailed>
+    ensures told { IsSome (D.state disk.old).reads → IsSome (D.state disk.new).reads }
     ensures written { OnOk result (Changes area (Written at bytes.now) (D.state disk.old).reads (D.state disk.new).reads) }
     ensures durable { OnOk result (IsDurable area (D.state disk.new).reads (images_now (D.state disk.new))) }
     ensures crash { LeavesOnly (D.state disk.old) (D.state disk.new) (LeftBy area (Torn at (length bytes.now)) (images_now (D.state disk.old))) }
