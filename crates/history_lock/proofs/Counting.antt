@@ -5,8 +5,8 @@ use mathlib.Core.Option.{some, some-injective, some-ne-none}
 use native.Mathlib.Decide.{ℕ_discrete}
 use lib.ListN.{get_elem?}
 use Rattle.history_lock.specs.declared.view.View.{View}
-use Rattle.history_lock.specs.Passes.{all_ended}
-use Rattle.history_lock.specs.inside.Rule.{total, same_number, times_ended, times_known}
+use Rattle.history_lock.specs.Passes.{same_number, times_ended, all_ended}
+use Rattle.history_lock.specs.inside.Rule.{total, times_known}
 
 module _ {V : Type 0} (f : V → ℕ) where
   pub total_set : (views : List V) (id : ℕ) (v w : V) → get_elem? views id ≡ some v → total f (set views id w) + f v ≡ total f views + f w

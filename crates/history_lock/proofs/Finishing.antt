@@ -1,14 +1,13 @@
 -- A play, step by step, over plain variables.
-use Rattle.std.proofs.Common.{◌≡◌, ◌≢◌, ℕ, zero, suc, ◌+◌, false, Option, Some, None, List, [], ◌∷◌, ◌++◌, length, drop, replicate, sym, refl, ap, ◌∙◌, subst, append_assoc, append-nil, add-one}
+use Rattle.std.proofs.Common.{◌≡◌, ℕ, zero, suc, false, Option, Some, None, List, [], ◌∷◌, ◌++◌, length, drop, replicate, sym, refl, ap, ◌∙◌, subst, append_assoc, append-nil}
 use mathlib.Core.Option.{some, some-injective}
 use lib.ListN.{get_elem?}
 use Rattle.std.proofs.Math.Seq.{drop-append_seam}
-use Rattle.atomic_table.specs.Table.{State, Me, rest, Final, Seen}
+use Rattle.atomic_table.specs.Table.{Me, rest, Final, Seen}
 use Rattle.history_lock.specs.declared.view.View.{View}
 use Rattle.history_lock.specs.declared.view.Held.{Held}
-use Rattle.history_lock.specs.declared.view.MarkedAct.{MarkedAct}
 use Rattle.history_lock.specs.Histories.{Adds, Grows}
-use Rattle.history_lock.specs.Passes.{Fits, finding, acted}
+use Rattle.history_lock.specs.Passes.{Fits, all_ended, AreApart, finding}
 use Rattle.history_lock.specs.inside.Rule.{IsKept}
 use Rattle.history_lock.specs.inside.Steps.{hold, closing, released, later_number, counted, HasTaken, IsHolding, HasPlayed, HasCounted, HasFinished, Recounted}
 use Rattle.history_lock.proofs.Growing.{later_number-is}
@@ -158,12 +157,12 @@ module _ {T E : Type 0} (history_of : T → List E) (owner : E → ℕ) (fixed_o
 
   -- the value that is left when the lock is closed
   pub left : (words : List ℕ) (slots : List (Option T)) (id : ℕ) (v w : V) (history : List E) → w ≡ closing (finding v (0 ∷ [])) history → v.spent ≡ false
-      → Final (Seen (IsKept history_of owner fixed_of) id w) words slots → (kept : T) × (get_elem? slots 0 ≡ some (Some kept)) × Fits owner (history_of kept) (fixed_of kept) v
+      → Final (Seen (IsKept history_of owner fixed_of) id w) words slots → (kept : T) × (get_elem? slots 0 ≡ some (Some kept)) × Fits owner (history_of kept) (fixed_of kept) v × AreApart (all_ended v)
   left words slots id v w history is live final =
       let s = final.0 in
       let t = closed_value history_of owner fixed_of s final.1.0 id w (hold history []) final.1.1 (ap (λ (x : V). x.held) is) (ap (λ (x : V). x.out) is) (ap (λ (x : V). x.spent) is ∙ live) in
       let f = subst (λ (x : V). Fits owner (history_of t.0) (fixed_of t.0) x) is t.2 in
-      (t.0, final.4 0 (Some t.0) t.1, record { fixed = f.fixed; seen = f.seen; heard = f.heard; unnumbered = f.unnumbered; numbered = f.numbered; ended = f.ended })
+      (t.0, final.4 0 (Some t.0) t.1, record { fixed = f.fixed; seen = f.seen; heard = f.heard; unnumbered = f.unnumbered; numbered = f.numbered; ended = f.ended }, subst (λ (x : V). AreApart (all_ended x)) is t.3)
 
   pub same_left : (slots : List (Option T)) (kept : T) (out : Option T) → get_elem? slots 0 ≡ some (Some kept) → get_elem? slots 0 ≡ some out → out ≡ Some kept
   same_left slots kept out e k = some-injective out (Some kept) (sym k ∙ e)

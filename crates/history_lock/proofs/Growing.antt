@@ -1,17 +1,15 @@
 -- What a pass knows stays true where the history grows.
-use Rattle.std.proofs.Common.{◌≡◌, ◌≢◌, ◌⊎◌, ℕ, zero, suc, ◌+◌, ◌≤◌, ◌==◌, Bool, true, false, cond, List, [], ◌∷◌, ◌++◌, length, drop, filter, All, sym, refl, ap, ◌∙◌, subst, inl, inr, ⊎_elim, arith, append_assoc, append-nil, eq-eqb, ne_eqb}
+use Rattle.std.proofs.Common.{◌≡◌, ◌≢◌, ℕ, ◌==◌, Bool, true, false, cond, List, [], ◌∷◌, ◌++◌, length, All, sym, refl, ap, ◌∙◌, subst, inl, inr, ⊎_elim, arith, append_assoc, append-nil, eq-eqb, ne_eqb}
 use mathlib.Core.Logic.{dite}
 use native.Mathlib.Decide.{ℕ_discrete}
 use Rattle.std.proofs.lemmas.Bool.{cases_Bool}
 use Rattle.std.proofs.lemmas.List.Elements.{filter-append, All-nil, All-cons, All-head, All-tail, All-append}
-use Rattle.std.proofs.Math.Seq.{drop-append_seam}
 use Rattle.history_lock.specs.declared.view.View.{View}
-use Rattle.history_lock.specs.declared.view.Held.{Held}
 use Rattle.history_lock.specs.Histories.{StartsWith, entries_of, Extends, Adds}
-use Rattle.history_lock.specs.Passes.{IsWhole, Fits, all_ended, taking_in, looking}
-use Rattle.history_lock.specs.inside.Rule.{same_number, times_ended, times_known}
-use Rattle.history_lock.specs.inside.Steps.{counted, later_number, successor}
-use Rattle.history_lock.proofs.Counting.{same_number-is, same_number-other, other_from_none, times_known-live, times_known-spent}
+use Rattle.history_lock.specs.Passes.{same_number, times_ended, IsWhole, Fits, all_ended, taking_in, looking}
+use Rattle.history_lock.specs.inside.Rule.{times_known}
+use Rattle.history_lock.specs.inside.Steps.{later_number, successor}
+use Rattle.history_lock.proofs.Counting.{same_number-other, other_from_none, times_known-live, times_known-spent}
 
 module _ {E : Type 0} where
   cons≢nil : (x : E) (xs : List E) → x ∷ xs ≢ []

@@ -1,12 +1,14 @@
--- The laws of calls, by going along them.
-use Rattle.std.proofs.Common.{◌≡◌, ◌≢◌, ℕ, zero, suc, ◌+◌, ◌≤◌, ◌<◌, Bool, cond, ne_eqb, List, [], ◌∷◌, ◌++◌, length, take, All, Contains, sym, refl, ap, ◌∙◌, subst, inl, inr, arith, append_assoc, append-nil, length-append, le_refl}
+-- The laws of calls, by going along what was done with a pass.
+use Rattle.std.proofs.Common.{◌≡◌, ◌≢◌, ℕ, Bool, cond, eq-eqb, ne_eqb, List, [], ◌∷◌, ◌++◌, All, sym, refl, ap, ◌∙◌, subst, inl, inr, arith, append_assoc, append-nil}
 use mathlib.Core.Logic.{dite}
 use native.Mathlib.Decide.{ℕ_discrete}
-use Rattle.std.proofs.lemmas.List.Elements.{All-contains, Contains-append_left, Contains-append_right}
+use Rattle.std.proofs.lemmas.List.Elements.{All-nil, All-cons, All-head, All-tail, All-append, All-weaker}
 use Rattle.history_lock.specs.declared.view.View.{View}
 use Rattle.history_lock.specs.Histories.{StartsWith, entries_of, Extends, Adds}
-use Rattle.history_lock.specs.Passes.{newcomer, finding, acted, looking, taking_in, all_ended, IsWhole, HasActed, HasLooked, HasTakenIn, Fits}
-use Rattle.history_lock.specs.Laws.{Call, act, busy, look, end, added_by, Makes, Runs, StandsPast, AllStand, EachOnceInOrder, EachOnceWhereEnded}
+use Rattle.history_lock.specs.Passes.{times_ended, all_ended, IsWhole, AreApart}
+use Rattle.history_lock.specs.Laws.{IsOwn, Life, made, made_from, went_on, played, found_held, looked, took_in, added_by, taken_in, passes, seen_by, AllStand, EachOnceInOrder}
+use Rattle.history_lock.proofs.Counting.{times_ended-append, times_all_ended}
+use Rattle.history_lock.proofs.Growing.{snoc≢nil, entries_of-append, entries_of-own}
 
 module _ {E : Type 0} where
   starts_refl : (xs : List E) → StartsWith xs xs
@@ -15,126 +17,196 @@ module _ {E : Type 0} where
   starts_trans : (a b c : List E) → StartsWith a b → StartsWith b c → StartsWith a c
   starts_trans a b c s t = (t.0 ++ s.0, s.1 ∙ (ap (λ l. l ++ s.0) t.1 ∙ append_assoc c t.0 s.0))
 
-  starts_length : (a b : List E) → StartsWith a b → length b ≤ length a
-  starts_length a b s = let is = ap (λ (l : List E). length l) s.1 in let sum = length-append b s.0 in omega arith
+  all_from : (a b : List E) → StartsWith a b → (seen : List (List E)) → All (StartsWith b) seen → All (StartsWith a) seen
+  all_from a b s seen all = All-weaker (StartsWith b) (StartsWith a) (λ c t. starts_trans a b c s t) seen all
 
-  take_front : (xs ys : List E) → take (length xs) (xs ++ ys) ≡ xs
-  take_front [] ys = refl
-  take_front (x ∷ xs) ys = ap (λ l. x ∷ l) (take_front xs ys)
+module _ {X : Type 0} (P : X → Type 0) where
+  all_left : (xs ys : List X) → All P (xs ++ ys) → All P xs
+  all_left [] ys all = All-nil P
+  all_left (x ∷ xs) ys all = All-cons P x xs (All-head P x (xs ++ ys) all) (all_left xs ys (All-tail P x (xs ++ ys) all))
 
-  taken : (a b : List E) → StartsWith a b → take (length b) a ≡ b
-  taken a b s = ap (take (length b)) s.1 ∙ take_front b s.0
+  all_right : (xs ys : List X) → All P (xs ++ ys) → All P ys
+  all_right [] ys all = all
+  all_right (x ∷ xs) ys all = all_right xs ys (All-tail P x (xs ++ ys) all)
 
-module _ {E J A : Type 0} (owner : E → ℕ) (plays : List ℕ → List E → ℕ → J → A → ℕ → List E → List ℕ → List ℕ → Type 0) where
-  abbrev C : Type 0
-  C = Call E J A
+module _ {E : Type 0} (owner : E → ℕ) where
+  extends_starts : (n : ℕ) (seen history : List E) → Extends owner n seen history → StartsWith history seen
+  extends_starts n seen history x = (x.0, x.1)
 
+  own_later : (n : ℕ) (seen history mine : List E) → Extends owner n seen history → IsOwn owner seen (n, mine) → IsOwn owner history (n, mine)
+  own_later n seen history mine x own = (
+    own.0,
+    λ nz. let whole = own.1 nz in
+        let same : entries_of owner n history ≡ entries_of owner n seen = ap (entries_of owner n) x.1 ∙ (entries_of-append owner n seen x.0 ∙ (ap (λ (l : List E). entries_of owner n seen ++ l) x.3 ∙ append-nil (entries_of owner n seen))) in
+        (nz, whole.1 ∙ sym same, whole.2),
+  )
+
+  own_added : (n after : ℕ) (history added mine : List E) → IsOwn owner history (n, mine) → Adds owner n history after added → IsOwn owner (history ++ added) (after, mine ++ added)
+  own_added n after history added mine own (inl none) =
+      let same : history ++ added ≡ history = ap (λ (l : List E). history ++ l) none.0 ∙ append-nil history in
+      let same_mine : mine ++ added ≡ mine = ap (λ (l : List E). mine ++ l) none.0 ∙ append-nil mine in
+      subst (λ (z : List E × ℕ × List E). IsOwn owner z.0 (z.1, z.2)) (λ i. (sym same i, sym none.1 i, sym same_mine i)) own
+  own_added n after history added mine own (inr one) =
+      let e : E = one.0 in
+      let before : mine ≡ entries_of owner after history = dite (ℕ_discrete n 0) (λ z. own.0 z ∙ sym (one.4 z)) (λ nz. (own.1 nz).1 ∙ ap (λ k. entries_of owner k history) (sym (one.5 nz))) in
+      let whole : mine ++ e ∷ [] ≡ entries_of owner after (history ++ e ∷ []) = ap (λ l. l ++ e ∷ []) before ∙ sym (entries_of-own owner after history e one.2) in
+      subst (λ (l : List E). IsOwn owner (history ++ l) (after, mine ++ l)) (sym one.1) ((λ z. absurd (one.3 z)), λ nz. (nz, whole, snoc≢nil mine e))
+
+module _ {E J A : Type 0} (owner : E → ℕ) (plays : List ℕ → List E → ℕ → J → A → ℕ → List E → List ℕ → List ℕ → Type 0) (origin : List E) (fixed : List ℕ) where
   abbrev V : Type 0
   V = View E
 
-  extends_seen : (n : ℕ) (seen history : List E) → Extends owner n seen history → StartsWith history seen
-  extends_seen n seen history x = (x.0, x.1)
+  abbrev L : V → Type 0
+  L = Life owner plays origin fixed
 
-  acted_seen : (v w : V) (job : J) (answer : A) (point : ℕ) (found : List ℕ) (d : HasActed owner plays v job answer point found w) → w.seen ≡ d.history ++ d.added
-  acted_seen v w job answer point found d = ap (λ (x : V). x.seen) d.view
+  -- ---- what a pass knows of its own, from what was done with it
 
-  makes_seen : (v w : V) (call : C) → Makes owner plays v call w → StartsWith w.seen v.seen
-  makes_seen v w (act job answer point found added) m = let d = m.0 in
-      starts_trans w.seen d.history v.seen (d.added, acted_seen v w job answer point found d) (extends_seen v.number v.seen d.history d.extends)
-  makes_seen v w busy m = subst (λ (l : List E). StartsWith l v.seen) (sym (ap (λ (x : V). x.seen) m)) (starts_refl v.seen)
-  makes_seen v w (look answer) m = subst (λ (l : List E). StartsWith l v.seen) (sym (ap (λ (x : V). x.seen) m.view)) (extends_seen v.number v.seen m.history m.extends)
-  makes_seen v w (end other) m = subst (λ (l : List E). StartsWith l v.seen) (sym (ap (λ (x : V). x.seen) m.view)) (extends_seen v.number v.seen m.history m.extends)
+  fixed_is : {w : V} → L w → w.fixed ≡ fixed
+  fixed_is (made is) = ap (λ (x : V). x.fixed) is
+  fixed_is (made_from life is) = ap (λ (x : V). x.fixed) is ∙ fixed_is life
+  fixed_is (went_on life is) = ap (λ (x : V). x.fixed) is ∙ fixed_is life
+  fixed_is (played held job answer point life done) = ap (λ (x : V). x.fixed) done.view ∙ fixed_is life
+  fixed_is (found_held life is) = ap (λ (x : V). x.fixed) is ∙ fixed_is life
+  fixed_is (looked answer life told) = ap (λ (x : V). x.fixed) told.view ∙ fixed_is life
+  fixed_is (took_in life others joined) = ap (λ (x : V). x.fixed) joined.view ∙ fixed_is life
 
-  makes_fixed : (v w : V) (call : C) → Makes owner plays v call w → w.fixed ≡ v.fixed
-  makes_fixed v w (act job answer point found added) m = ap (λ (x : V). x.fixed) m.0.view
-  makes_fixed v w busy m = ap (λ (x : V). x.fixed) m
-  makes_fixed v w (look answer) m = ap (λ (x : V). x.fixed) m.view
-  makes_fixed v w (end other) m = ap (λ (x : V). x.fixed) m.view
+  mine_is : {w : V} (life : L w) → w.mine ≡ added_by owner plays origin fixed life
+  mine_is (made is) = ap (λ (x : V). x.mine) is
+  mine_is (made_from life is) = ap (λ (x : V). x.mine) is
+  mine_is (went_on life is) = ap (λ (x : V). x.mine) is ∙ mine_is life
+  mine_is (played held job answer point life done) = ap (λ (x : V). x.mine) done.view ∙ ap (λ (l : List E). l ++ done.added) (mine_is life)
+  mine_is (found_held life is) = ap (λ (x : V). x.mine) is ∙ mine_is life
+  mine_is (looked answer life told) = ap (λ (x : V). x.mine) told.view ∙ mine_is life
+  mine_is (took_in life others joined) = ap (λ (x : V). x.mine) joined.view ∙ mine_is life
 
-  makes_ended : (v w : V) (call : C) → Makes owner plays v call w → StartsWith w.ended v.ended
-  makes_ended v w (act job answer point found added) m = ([], ap (λ (x : V). x.ended) m.0.view ∙ sym (append-nil v.ended))
-  makes_ended v w busy m = ([], ap (λ (x : V). x.ended) m ∙ sym (append-nil v.ended))
-  makes_ended v w (look answer) m = ([], ap (λ (x : V). x.ended) m.view ∙ sym (append-nil v.ended))
-  makes_ended v w (end other) m = (all_ended other, ap (λ (x : V). x.ended) m.view)
+  -- the numbers that stand in what a pass knows of others stand as often among those that were taken in
+  times_taken : (n : ℕ) → n ≢ 0 → {w : V} (life : L w) → times_ended n w.ended ≡ times_ended n (taken_in owner plays origin fixed life)
+  times_taken n nz (made is) = ap (λ (x : V). times_ended n x.ended) is
+  times_taken n nz (made_from life is) = ap (λ (x : V). times_ended n x.ended) is
+  times_taken n nz (went_on life is) = ap (λ (x : V). times_ended n x.ended) is ∙ times_taken n nz life
+  times_taken n nz (played held job answer point life done) = ap (λ (x : V). times_ended n x.ended) done.view ∙ times_taken n nz life
+  times_taken n nz (found_held life is) = ap (λ (x : V). times_ended n x.ended) is ∙ times_taken n nz life
+  times_taken n nz (looked answer life told) = ap (λ (x : V). times_ended n x.ended) told.view ∙ times_taken n nz life
+  times_taken n nz (took_in {v = v} {other = other} life others joined) =
+      let both = ap (λ (x : V). times_ended n x.ended) joined.view ∙ times_ended-append n v.ended (all_ended other) in
+      let its = times_all_ended n other nz in
+      let before = times_taken n nz life in
+      let theirs = times_taken n nz others in
+      let all = times_ended-append n (taken_in owner plays origin fixed life) ((other.number, added_by owner plays origin fixed others) ∷ taken_in owner plays origin fixed others) in
+      omega arith
 
-  runs_seen : (v w : V) (calls : List C) → Runs owner plays v calls w → StartsWith w.seen v.seen
-  runs_seen v w [] r = subst (λ (x : V). StartsWith x.seen v.seen) (sym r) (starts_refl v.seen)
-  runs_seen v w (call ∷ calls) r = starts_trans w.seen r.0.seen v.seen (runs_seen r.0 w calls r.2) (makes_seen v r.0 call r.1)
+  -- ---- what it has seen
 
-  runs_ended : (v w : V) (calls : List C) → Runs owner plays v calls w → StartsWith w.ended v.ended
-  runs_ended v w [] r = subst (λ (x : V). StartsWith x.ended v.ended) (sym r) (starts_refl v.ended)
-  runs_ended v w (call ∷ calls) r = starts_trans w.ended r.0.ended v.ended (runs_ended r.0 w calls r.2) (makes_ended v r.0 call r.1)
+  seen_all : {w : V} (life : L w) → All (StartsWith w.seen) (seen_by owner plays origin fixed life)
+  seen_all (made is) = subst (λ (l : List E). All (StartsWith l) (origin ∷ [])) (sym (ap (λ (x : V). x.seen) is)) (All-cons (StartsWith origin) origin [] (starts_refl origin) (All-nil (StartsWith origin)))
+  seen_all (made_from life is) = subst (λ (l : List E). All (StartsWith l) (seen_by owner plays origin fixed life)) (sym (ap (λ (x : V). x.seen) is)) (seen_all life)
+  seen_all (went_on life is) = subst (λ (l : List E). All (StartsWith l) (seen_by owner plays origin fixed life)) (sym (ap (λ (x : V). x.seen) is)) (seen_all life)
+  seen_all (played {v = v} held job answer point life done) =
+      let h : List E = done.history ++ done.added in
+      let from : StartsWith h v.seen = starts_trans h done.history v.seen (done.added, refl) (extends_starts owner v.number v.seen done.history done.extends) in
+      subst (λ (l : List E). All (StartsWith l) (h ∷ seen_by owner plays origin fixed life)) (sym (ap (λ (x : V). x.seen) done.view))
+      (All-cons (StartsWith h) h (seen_by owner plays origin fixed life) (starts_refl h) (all_from h v.seen from (seen_by owner plays origin fixed life) (seen_all life)))
+  seen_all (found_held life is) = subst (λ (l : List E). All (StartsWith l) (seen_by owner plays origin fixed life)) (sym (ap (λ (x : V). x.seen) is)) (seen_all life)
+  seen_all (looked {v = v} answer life told) =
+      let h : List E = told.history in
+      let from : StartsWith h v.seen = extends_starts owner v.number v.seen h told.extends in
+      subst (λ (l : List E). All (StartsWith l) (h ∷ seen_by owner plays origin fixed life)) (sym (ap (λ (x : V). x.seen) told.view))
+      (All-cons (StartsWith h) h (seen_by owner plays origin fixed life) (starts_refl h) (all_from h v.seen from (seen_by owner plays origin fixed life) (seen_all life)))
+  seen_all (took_in {v = v} {other = other} life others joined) =
+      let h : List E = joined.history in
+      let its : List (List E) = seen_by owner plays origin fixed life in
+      let theirs : List (List E) = seen_by owner plays origin fixed others in
+      let from : StartsWith h v.seen = extends_starts owner v.number v.seen h joined.extends in
+      subst (λ (l : List E). All (StartsWith l) (h ∷ (its ++ theirs))) (sym (ap (λ (x : V). x.seen) joined.view))
+      (All-cons (StartsWith h) h (its ++ theirs) (starts_refl h)
+      (All-append (StartsWith h) its theirs (all_from h v.seen from its (seen_all life)) (all_from h other.seen joined.extends_other theirs (seen_all others))))
 
-  runs_mine : (v w : V) (calls : List C) → Runs owner plays v calls w → w.mine ≡ v.mine ++ added_by calls
-  runs_mine v w [] r = ap (λ (x : V). x.mine) r ∙ sym (append-nil v.mine)
-  runs_mine v w (act job answer point found added ∷ calls) r = let mid = r.0 in let d = r.1.0 in
-      let here : mid.mine ≡ v.mine ++ added = ap (λ (x : V). x.mine) d.view ∙ ap (λ (l : List E). v.mine ++ l) r.1.1 in
-      runs_mine mid w calls r.2 ∙ (ap (λ (l : List E). l ++ added_by calls) here ∙ append_assoc v.mine added (added_by calls))
-  runs_mine v w (busy ∷ calls) r = runs_mine r.0 w calls r.2 ∙ ap (λ (x : V). x.mine ++ added_by calls) r.1
-  runs_mine v w (look answer ∷ calls) r = runs_mine r.0 w calls r.2 ∙ ap (λ (x : V). x.mine ++ added_by calls) r.1.view
-  runs_mine v w (end other ∷ calls) r = runs_mine r.0 w calls r.2 ∙ ap (λ (x : V). x.mine ++ added_by calls) r.1.view
+  -- ---- its entries
 
-  module _ (history : List E) (fixed : List ℕ) where
-    weaker : (low high : ℕ) → low ≤ high → (calls : List C) → AllStand owner plays history fixed high calls → AllStand owner plays history fixed low calls
-    weaker low high le [] s = tt
-    weaker low high le (act job answer point found added ∷ calls) s = let t = s.0 in let p = t.past in
-        (record { before = t.before; number = t.number; later = t.later; marks = t.marks; later_marks = t.later_marks; past = omega arith; point_is = t.point_is; added_is = t.added_is; played = t.played }, s.1)
-    weaker low high le (busy ∷ calls) s = weaker low high le calls s
-    weaker low high le (look answer ∷ calls) s = let t = s.0 in (omega arith, s.1)
-    weaker low high le (end other ∷ calls) s = weaker low high le calls s
+  own_seen : {w : V} (life : L w) → IsOwn owner w.seen (w.number, added_by owner plays origin fixed life)
+  own_seen (made is) = ((λ _. refl), λ nz. absurd (nz (ap (λ (x : V). x.number) is)))
+  own_seen (made_from life is) = ((λ _. refl), λ nz. absurd (nz (ap (λ (x : V). x.number) is)))
+  own_seen (went_on life is) = subst (λ (x : V). IsOwn owner x.seen (x.number, added_by owner plays origin fixed life)) (sym is) (own_seen life)
+  own_seen (played {v = v} {w = w} held job answer point life done) =
+      let mine : List E = added_by owner plays origin fixed life in
+      subst (λ (l : List E). IsOwn owner l (w.number, mine ++ done.added)) (sym (ap (λ (x : V). x.seen) done.view))
+      (own_added owner v.number w.number done.history done.added mine (own_later owner v.number v.seen done.history mine done.extends (own_seen life)) done.adds)
+  own_seen (found_held life is) = subst (λ (x : V). IsOwn owner x.seen (x.number, added_by owner plays origin fixed life)) (sym is) (own_seen life)
+  own_seen (looked {v = v} answer life told) =
+      let mine : List E = added_by owner plays origin fixed life in
+      subst (λ (x : V). IsOwn owner x.seen (x.number, mine)) (sym told.view) (own_later owner v.number v.seen told.history mine told.extends (own_seen life))
+  own_seen (took_in {v = v} life others joined) =
+      let mine : List E = added_by owner plays origin fixed life in
+      subst (λ (x : V). IsOwn owner x.seen (x.number, mine)) (sym joined.view) (own_later owner v.number v.seen joined.history mine joined.extends (own_seen life))
 
-    stands : (v w : V) (calls : List C) → Runs owner plays v calls w → StartsWith history w.seen → v.fixed ≡ fixed → AllStand owner plays history fixed (length v.seen) calls
-    stands v w [] r s same = tt
-    stands v w (act job answer point found added ∷ calls) r s same =
-        let mid = r.0 in let d = r.1.0 in
-        let seen : mid.seen ≡ d.history ++ added = acted_seen v mid job answer point found d ∙ ap (λ (l : List E). d.history ++ l) r.1.1 in
-        let late : StartsWith history mid.seen = starts_trans history w.seen mid.seen s (runs_seen mid w calls r.2) in
-        let after : StartsWith history (d.history ++ added) = subst (λ (l : List E). StartsWith history l) seen late in
-        let early : StartsWith history d.history = starts_trans history (d.history ++ added) d.history after (added, refl) in
-        let point_is : point ≡ length (d.history ++ added) = d.point ∙ ap (λ (l : List E). length (d.history ++ l)) r.1.1 in
-        let front : take (length d.history) history ≡ d.history = taken history d.history early in
-        let upto : take point history ≡ d.history ++ added = ap (λ k. take k history) point_is ∙ taken history (d.history ++ added) after in
-        let rest_stands = stands mid w calls r.2 s (ap (λ (x : V). x.fixed) d.view ∙ same) in (
-          record {
-            before = length d.history;
-            number = v.number;
-            later = mid.number;
-            marks = d.marks.before;
-            later_marks = d.marks.after;
-            past = starts_length d.history v.seen (extends_seen v.number v.seen d.history d.extends);
-            point_is = point_is ∙ length-append d.history added;
-            added_is = upto ∙ ap (λ (l : List E). l ++ added) (sym front);
-            played = subst (λ (z : List ℕ × List E × List E). plays z.0 z.1 v.number job answer mid.number z.2 d.marks.before d.marks.after)
-                (λ i. (same i, sym front i, (ap (λ (l : List E). d.history ++ l) r.1.1 ∙ sym upto) i)) d.played;
-          },
-          subst (λ k. AllStand owner plays history fixed k calls) (ap (λ (l : List E). length l) seen ∙ sym point_is) rest_stands,
+  module _ (last : List E) where
+    -- what a pass that was taken in shows, where it is true of the last history
+    own_of : {v : V} (life : L v) → All (IsWhole owner last) (all_ended v) → IsOwn owner last (v.number, added_by owner plays origin fixed life) × All (IsWhole owner last) v.ended
+    own_of {v} life all = dite (ℕ_discrete v.number 0)
+        (λ none. (((λ _. (own_seen life).0 none), λ nz. absurd (nz none)), subst (λ (b : Bool). All (IsWhole owner last) (cond b v.ended ((v.number, v.mine) ∷ v.ended))) (eq-eqb v.number 0 none) all))
+        (λ some_number.
+        let both : All (IsWhole owner last) ((v.number, v.mine) ∷ v.ended) = subst (λ (b : Bool). All (IsWhole owner last) (cond b v.ended ((v.number, v.mine) ∷ v.ended))) (ne_eqb v.number 0 some_number) all in (
+          ((λ none. absurd (some_number none)), λ _. subst (λ (l : List E). IsWhole owner last (v.number, l)) (mine_is life) (All-head (IsWhole owner last) (v.number, v.mine) v.ended both)),
+          All-tail (IsWhole owner last) (v.number, v.mine) v.ended both,
+        ))
+
+    own_taken : {w : V} (life : L w) → All (IsWhole owner last) w.ended → All (IsOwn owner last) (taken_in owner plays origin fixed life)
+    own_taken (made is) all = All-nil (IsOwn owner last)
+    own_taken (made_from life is) all = All-nil (IsOwn owner last)
+    own_taken (went_on life is) all = own_taken life (subst (λ (x : V). All (IsWhole owner last) x.ended) is all)
+    own_taken (played held job answer point life done) all = own_taken life (subst (λ (l : List (ℕ × List E)). All (IsWhole owner last) l) (ap (λ (x : V). x.ended) done.view) all)
+    own_taken (found_held life is) all = own_taken life (subst (λ (x : V). All (IsWhole owner last) x.ended) is all)
+    own_taken (looked answer life told) all = own_taken life (subst (λ (l : List (ℕ × List E)). All (IsWhole owner last) l) (ap (λ (x : V). x.ended) told.view) all)
+    own_taken (took_in {v = v} {other = other} life others joined) all =
+        let both : All (IsWhole owner last) (v.ended ++ all_ended other) = subst (λ (l : List (ℕ × List E)). All (IsWhole owner last) l) (ap (λ (x : V). x.ended) joined.view) all in
+        let its = own_of others (all_right (IsWhole owner last) v.ended (all_ended other) both) in
+        let theirs : List (ℕ × List E) = taken_in owner plays origin fixed others in
+        All-append (IsOwn owner last) (taken_in owner plays origin fixed life) ((other.number, added_by owner plays origin fixed others) ∷ theirs)
+        (own_taken life (all_left (IsWhole owner last) v.ended (all_ended other) both))
+        (All-cons (IsOwn owner last) (other.number, added_by owner plays origin fixed others) theirs its.0 (own_taken others its.1))
+
+    -- ---- its replies
+
+    stands : {w : V} (life : L w) → StartsWith last w.seen → AllStand owner plays origin fixed last life
+    stands (made is) late = subst (λ (l : List E). StartsWith last l) (ap (λ (x : V). x.seen) is) late
+    stands (made_from life is) late = stands life (subst (λ (l : List E). StartsWith last l) (ap (λ (x : V). x.seen) is) late)
+    stands (went_on life is) late = stands life (subst (λ (x : V). StartsWith last x.seen) is late)
+    stands (played {v = v} held job answer point life done) late =
+        let mine : List E = added_by owner plays origin fixed life in
+        let after : StartsWith last (done.history ++ done.added) = subst (λ (l : List E). StartsWith last l) (ap (λ (x : V). x.seen) done.view) late in
+        let before : StartsWith last done.history = starts_trans last (done.history ++ done.added) done.history after (done.added, refl) in
+        let from : StartsWith done.history v.seen = extends_starts owner v.number v.seen done.history done.extends in (
+          stands life (starts_trans last done.history v.seen before from),
+          (all_from done.history v.seen from (seen_by owner plays origin fixed life) (seen_all life), after),
+          own_later owner v.number v.seen done.history mine done.extends (own_seen life),
+          fixed_is life,
         )
-    stands v w (busy ∷ calls) r s same =
-        subst (λ k. AllStand owner plays history fixed k calls) (ap (λ (x : V). length x.seen) r.1) (stands r.0 w calls r.2 s (ap (λ (x : V). x.fixed) r.1 ∙ same))
-    stands v w (look answer ∷ calls) r s same =
-        let m = r.1 in let is : length r.0.seen ≡ answer = ap (λ (x : V). length x.seen) m.view ∙ sym m.count in
-        let le = starts_length m.history v.seen (extends_seen v.number v.seen m.history m.extends) in let count = m.count in
-        (omega arith, subst (λ k. AllStand owner plays history fixed k calls) is (stands r.0 w calls r.2 s (ap (λ (x : V). x.fixed) m.view ∙ same)))
-    stands v w (end other ∷ calls) r s same =
-        let m = r.1 in
-        weaker (length v.seen) (length r.0.seen) (starts_length r.0.seen v.seen (makes_seen v r.0 (end other) m)) calls (stands r.0 w calls r.2 s (ap (λ (x : V). x.fixed) m.view ∙ same))
+    stands (found_held life is) late = stands life (subst (λ (l : List E). StartsWith last l) (ap (λ (x : V). x.seen) is) late)
+    stands (looked {v = v} answer life told) late =
+        let here : StartsWith last told.history = subst (λ (l : List E). StartsWith last l) (ap (λ (x : V). x.seen) told.view) late in
+        let from : StartsWith told.history v.seen = extends_starts owner v.number v.seen told.history told.extends in (
+          stands life (starts_trans last told.history v.seen here from),
+          (all_from told.history v.seen from (seen_by owner plays origin fixed life) (seen_all life), here),
+        )
+    stands (took_in {v = v} {other = other} life others joined) late =
+        let h : List E = joined.history in
+        let its : List (List E) = seen_by owner plays origin fixed life in
+        let theirs : List (List E) = seen_by owner plays origin fixed others in
+        let here : StartsWith last h = subst (λ (l : List E). StartsWith last l) (ap (λ (x : V). x.seen) joined.view) late in
+        let from : StartsWith h v.seen = extends_starts owner v.number v.seen h joined.extends in (
+          stands life (starts_trans last h v.seen here from),
+          stands others (starts_trans last h other.seen here joined.extends_other),
+          (All-append (StartsWith h) its theirs (all_from h v.seen from its (seen_all life)) (all_from h other.seen joined.extends_other theirs (seen_all others)), here),
+        )
 
-  pub once_in_order : EachOnceInOrder owner plays
-  once_in_order seen history fixed numbers calls w r f =
-      ((λ nz. sym (f.numbered nz).1 ∙ runs_mine (newcomer seen fixed) w calls r), stands history fixed (newcomer seen fixed) w calls r (extends_seen w.number w.seen history f.seen) refl)
+  apart_is : {w : V} (life : L w) → AreApart (all_ended w) → AreApart (passes owner plays origin fixed life)
+  apart_is {w} life apart n nz = let most = apart n nz in let is = times_all_ended n w nz in let same = times_taken n nz life in omega arith
 
-  own_ended : (v : V) → v.number ≢ 0 → Contains (all_ended v) (v.number, v.mine)
-  own_ended v nz = subst (λ (b : Bool). Contains (cond b v.ended ((v.number, v.mine) ∷ v.ended)) (v.number, v.mine)) (sym (ne_eqb v.number 0 nz)) (0, omega arith, refl)
-
-  pub once_where_ended : EachOnceWhereEnded owner plays
-  once_where_ended seen history fixed numbers calls more w v into last r m r' f =
-      let late : StartsWith history into.seen = starts_trans history last.seen into.seen (extends_seen last.number last.seen history f.seen) (runs_seen into last more r') in
-      let heard : StartsWith into.seen w.seen = subst (λ (l : List E). StartsWith l w.seen) (sym (ap (λ (x : V). x.seen) m.view)) m.extends_other in
-      let ended = runs_ended into last more r' in (
-        (λ nz.
-            let here : Contains into.ended (w.number, w.mine) = subst (λ (l : List (ℕ × List E)). Contains l (w.number, w.mine)) (sym (ap (λ (x : V). x.ended) m.view)) (Contains-append_right v.ended (all_ended w) (w.number, w.mine) (own_ended w nz)) in
-            let there : Contains last.ended (w.number, w.mine) = subst (λ (l : List (ℕ × List E)). Contains l (w.number, w.mine)) (sym ended.1) (Contains-append_left into.ended ended.0 (w.number, w.mine) here) in
-            let whole = All-contains (IsWhole owner history) last.ended (w.number, w.mine) f.ended there in
-            sym whole.1 ∙ runs_mine (newcomer seen fixed) w calls r),
-        stands history fixed (newcomer seen fixed) w calls r (starts_trans history into.seen w.seen late heard) refl,
-      )
+  pub once_in_order : EachOnceInOrder owner plays origin fixed
+  once_in_order w life last numbers fits apart = record {
+    own = All-cons (IsOwn owner last) (w.number, added_by owner plays origin fixed life) (taken_in owner plays origin fixed life)
+        (own_later owner w.number w.seen last (added_by owner plays origin fixed life) fits.seen (own_seen life)) (own_taken last life fits.ended);
+    apart = apart_is life apart;
+    stand = stands last life (extends_starts owner w.number w.seen last fits.seen);
+    same = sym fits.fixed ∙ fixed_is life;
+  }

@@ -1,5 +1,5 @@
 -- Each step keeps the rule of the lock.
-use Rattle.std.proofs.Common.{◌≡◌, ◌≢◌, ◌⊎◌, ℕ, zero, suc, ◌+◌, ◌≤◌, ◌<◌, Bool, true, false, true≢false, eqb, Option, Some, None, List, [], ◌∷◌, ◌++◌, map, length, drop, get_or, set, sym, refl, ap, ◌∙◌, subst, inl, inr, ⊎_elim, arith, append-nil, length-set, get_or-set_same, get_or-set_other, eq-eqb, ne_eqb}
+use Rattle.std.proofs.Common.{◌≡◌, ◌≢◌, ◌⊎◌, ℕ, zero, suc, ◌≤◌, Bool, true, false, true≢false, eqb, Option, Some, None, List, [], ◌∷◌, ◌++◌, length, drop, get_or, set, sym, refl, ap, ◌∙◌, subst, inl, inr, ⊎_elim, arith, append-nil, length-set, get_or-set_same, get_or-set_other, eq-eqb, ne_eqb}
 use mathlib.Core.Logic.{dite}
 use mathlib.Core.Option.{some, none, some-injective, some-ne-none}
 use mathlib.Core.Option as maybe
@@ -11,16 +11,16 @@ use Rattle.std.proofs.lemmas.Option.{none-some}
 use Rattle.std.proofs.lemmas.List.{set-get_or}
 use Rattle.std.proofs.lemmas.List.Elements.{All-nil}
 use Rattle.std.proofs.Math.Seq.{drop-append_seam}
-use Rattle.atomic_table.specs.Table.{State, Me, step, keeps, takes, gives, rest, put_back, stepped, opening, Allows, Splits, Joins}
+use Rattle.atomic_table.specs.Table.{State, Me, step, keeps, takes, gives, put_back, stepped, opening, Allows, Splits, Joins}
 use Rattle.atomic_table.proofs.Lists.{at_set, set_here, set_else, set_again, at_longer, at_snoc}
 use Rattle.history_lock.specs.declared.view.View.{View}
 use Rattle.history_lock.specs.declared.view.Held.{Held}
-use Rattle.history_lock.specs.Histories.{StartsWith, entries_of, Extends, Adds}
-use Rattle.history_lock.specs.Passes.{Fits, newcomer, finding, looking, all_ended, taking_in}
-use Rattle.history_lock.specs.inside.Rule.{total, same_number, times_ended, times_known, EachView, IsKept}
-use Rattle.history_lock.specs.inside.Steps.{hold, holding, closing, released, successor, spent_view, later_number, counted, IsIdle, HasTaken, HasPlayed, HasCounted, HasSeen, acquired, closed_off, Recounted, recounted, freed, looked}
+use Rattle.history_lock.specs.Histories.{entries_of, Extends, Adds}
+use Rattle.history_lock.specs.Passes.{same_number, times_ended, AreApart, Fits, newcomer, finding, looking, all_ended, taking_in}
+use Rattle.history_lock.specs.inside.Rule.{total, times_known, EachView, IsKept}
+use Rattle.history_lock.specs.inside.Steps.{hold, holding, closing, released, successor, spent_view, later_number, counted, IsIdle, HasPlayed, HasCounted, acquired, closed_off, recounted, freed, looked}
 use Rattle.history_lock.proofs.Counting.{total_set, total_snoc, total_at, total_two, total_none, same_number-is, same_number-other, times_ended-append, times_all_ended, times_known-live, times_known-spent}
-use Rattle.history_lock.proofs.Growing.{starts_later, fits_later, fits_own, none_known, fits_same, later_number-is, fits_looking, fits_successor, fits_taking_in}
+use Rattle.history_lock.proofs.Growing.{fits_later, fits_own, none_known, fits_same, later_number-is, fits_looking, fits_successor, fits_taking_in}
 
 module _ {A : Type 0} where
   abbrev value_or : A → Option A → A
@@ -447,10 +447,11 @@ module _ {T E : Type 0} (history_of : T → List E) (owner : E → ℕ) (fixed_o
 
   -- where a seat holds the lock and has left the value in its slot, it is the value that the slot has
   pub closed_value : (s : St) (r : Rule s) (id : ℕ) (v : V) (h : Held E) → get_elem? s.views id ≡ some v → v.held ≡ Some h → v.out ≡ false → v.spent ≡ false
-      → (kept : T) × (get_elem? s.homes 0 ≡ some (some (Some kept))) × Fits owner (history_of kept) (fixed_of kept) v
+      → (kept : T) × (get_elem? s.homes 0 ≡ some (some (Some kept))) × Fits owner (history_of kept) (fixed_of kept) v × AreApart (all_ended v)
   closed_value s r id v h at has inside live =
       let t = r.home (λ j u e. ⊎_elim (λ (o : u.out ≡ true). absurd ((r.out j u e o).0 (dite (ℕ_discrete j id)
       (λ here. absurd (true≢false (sym o ∙ (ap (λ (x : V). x.out) (sym (some-injective v u (sym at ∙ (ap (get_elem? s.views) (sym here) ∙ e)))) ∙ inside))))
       (λ other. others_free s r id v h at has j u other e)))) (λ (i : u.out ≡ false). i) (cases_Bool u.out)) in
       let is = r.value t.0 t.1 in
-      (t.0, t.1, subst (λ (k : List E × List ℕ). Fits owner k.0 k.1 v) (λ i. (sym is.0 i, sym is.1 i)) (r.each id v at live))
+      let apart : AreApart (all_ended v) = λ n nz. let most = r.apart n nz in let le = total_at (times_known n) s.views id v at in let known = times_known-live n v live in let its = times_all_ended n v nz in omega arith in
+      (t.0, t.1, subst (λ (k : List E × List ℕ). Fits owner k.0 k.1 v) (λ i. (sym is.0 i, sym is.1 i)) (r.each id v at live), apart)

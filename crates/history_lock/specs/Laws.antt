@@ -1,70 +1,92 @@
--- What a pass's calls come to, whatever other passes do meanwhile.
-use Rattle.std.specs.Prelude.{◌≡◌, ◌≢◌, ◌+◌, ◌≤◌, ℕ, List, [], ◌∷◌, ◌++◌, length, take, Contains}
+-- What the calls with a lock's passes come to, in whatever order threads made them.
+use Rattle.std.specs.Prelude.{◌≡◌, ◌≢◌, ℕ, List, [], ◌∷◌, ◌++◌, replicate, All}
 use Rattle.history_lock.specs.declared.view.View.{View}
-use Rattle.history_lock.specs.Histories.{StartsWith, entries_of}
-use Rattle.history_lock.specs.Passes.{newcomer, finding, HasActed, HasLooked, HasTakenIn, Fits}
+use Rattle.history_lock.specs.Histories.{StartsWith}
+use Rattle.history_lock.specs.Passes.{newcomer, finding, all_ended, IsWhole, AreApart, HasActed, HasLooked, HasTakenIn, Fits}
 
--- a call with a pass: a play with its job, answer and point, what its exchanges found and the entries that it added;
--- a try that found the lock held; a look, with its answer; the end of another pass
-pub data Call (E J A : Type 0) : Type 0 where
-  act : J → A → ℕ → List ℕ → List E → Call E J A
-  busy : Call E J A
-  look : ℕ → Call E J A
-  end : View E → Call E J A
+module _ {E : Type 0} (owner : E → ℕ) where
+  -- a number and what the pass that has it added: without a number that is nothing, and else all that the history has of it, in order
+  abbrev pub IsOwn : List E → ℕ × List E → Type 0
+  IsOwn history pass = (pass.0 ≡ 0 → pass.1 ≡ []) × (pass.0 ≢ 0 → IsWhole owner history pass)
 
-module _ {E J A : Type 0} where
-  -- the entries that the plays among these calls added, in order
-  abbrev pub added_by : List (Call E J A) → List E
-  added_by [] = []
-  added_by (act job answer point found added ∷ calls) = added ++ added_by calls
-  added_by (busy ∷ calls) = added_by calls
-  added_by (look answer ∷ calls) = added_by calls
-  added_by (end other ∷ calls) = added_by calls
+module _ {E J A : Type 0} (owner : E → ℕ) (plays : List ℕ → List E → ℕ → J → A → ℕ → List E → List ℕ → List ℕ → Type 0) (origin : List E) (fixed : List ℕ) where
+  -- All that was done with a pass, from when it was made until it knows this. The lock was made of a value with the history `origin`
+  -- and these fixed numbers. Each step is what the contract of a call says of the pass, whatever others did meanwhile.
+  pub data Life : View E → Type 0 where
+    -- made with the lock
+    made : {w : View E} → w ≡ newcomer origin fixed → Life w
+    -- made from another pass, of which this is the life until then
+    made_from : {v w : View E} → Life v → w ≡ newcomer v.seen v.fixed → Life w
+    -- another was made from it
+    went_on : {v w : View E} → Life v → w ≡ v → Life w
+    -- a play, which found the lock held this often before
+    played : {v w : View E} (held : ℕ) (job : J) (answer : A) (point : ℕ) → Life v → HasActed owner plays v job answer point (replicate held 1 ++ 0 ∷ []) w → Life w
+    -- a try, or an attempt to end the lock, that found it held
+    found_held : {v w : View E} → Life v → w ≡ finding v (1 ∷ []) → Life w
+    looked : {v w : View E} (answer : ℕ) → Life v → HasLooked owner v answer w → Life w
+    -- another pass was taken in, of which this is the life
+    took_in : {v other w : View E} → Life v → Life other → HasTakenIn owner v other w → Life w
 
-module _ {E J A : Type 0} (owner : E → ℕ) (plays : List ℕ → List E → ℕ → J → A → ℕ → List E → List ℕ → List ℕ → Type 0) where
-  -- what a call makes of what the pass knows, as the contracts say
-  abbrev pub Makes : View E → Call E J A → View E → Type 0
-  Makes v (act job answer point found added) w = (done : HasActed owner plays v job answer point found w) × (done.added ≡ added)
-  Makes v busy w = w ≡ finding v (1 ∷ [])
-  Makes v (look answer) w = HasLooked owner v answer w
-  Makes v (end other) w = HasTakenIn owner v other w
+  -- the entries that its plays added, in order
+  abbrev pub added_by : {w : View E} → Life w → List E
+  added_by (made is) = []
+  added_by (made_from life is) = []
+  added_by (went_on life is) = added_by life
+  added_by (played held job answer point life done) = added_by life ++ done.added
+  added_by (found_held life is) = added_by life
+  added_by (looked answer life told) = added_by life
+  added_by (took_in life others joined) = added_by life
 
-  -- these calls were made with a pass, one after the other
-  abbrev pub Runs : View E → List (Call E J A) → View E → Type 0
-  Runs v [] w = w ≡ v
-  Runs v (call ∷ calls) w = (mid : View E) × Makes v call mid × Runs mid calls w
+  -- the passes that were taken in, by it or by one of those: of each its number, and the entries that its plays added
+  abbrev pub taken_in : {w : View E} → Life w → List (ℕ × List E)
+  taken_in (made is) = []
+  taken_in (made_from life is) = []
+  taken_in (went_on life is) = taken_in life
+  taken_in (played held job answer point life done) = taken_in life
+  taken_in (found_held life is) = taken_in life
+  taken_in (looked answer life told) = taken_in life
+  taken_in (took_in {other = other} life others joined) = taken_in life ++ (other.number, added_by others) ∷ taken_in others
 
-  module _ (history : List E) (fixed : List ℕ) where
-    -- A play stands in a history: it was made where this many entries or more stood before it, and the history has what it added
-    -- next; its relation holds of what stood before it and of what stood after it; its point is the length of that.
-    pub record StandsPast (low : ℕ) (job : J) (answer : A) (point : ℕ) (added : List E) : Type 0 where
-      pub before : ℕ
-      pub number : ℕ
-      pub later : ℕ
-      pub marks : List ℕ
-      pub later_marks : List ℕ
-      pub past : low ≤ before
-      pub point_is : point ≡ before + length added
-      pub added_is : take point history ≡ take before history ++ added
-      pub played : plays fixed (take before history) number job answer later (take point history) marks later_marks
+  -- this pass and those
+  abbrev pub passes : {w : View E} → Life w → List (ℕ × List E)
+  passes {w} life = (w.number, added_by life) ∷ taken_in life
 
-    -- each play stands past the point of the one before it, and past the length that a look meanwhile told
-    abbrev pub AllStand : ℕ → List (Call E J A) → Type 0
-    AllStand low [] = Unit {0}
-    AllStand low (act job answer point found added ∷ calls) = StandsPast low job answer point added × AllStand point calls
-    AllStand low (busy ∷ calls) = AllStand low calls
-    AllStand low (look answer ∷ calls) = (low ≤ answer) × AllStand answer calls
-    AllStand low (end other ∷ calls) = AllStand low calls
+  -- Each history that the pass had seen: the one it began with, and those that its plays left and its looks told; with all that the one which
+  -- it was made from had seen, and those that it took in.
+  abbrev pub seen_by : {w : View E} → Life w → List (List E)
+  seen_by (made is) = origin ∷ []
+  seen_by (made_from life is) = seen_by life
+  seen_by (went_on life is) = seen_by life
+  seen_by (played held job answer point life done) = (done.history ++ done.added) ∷ seen_by life
+  seen_by (found_held life is) = seen_by life
+  seen_by (looked answer life told) = told.history ∷ seen_by life
+  seen_by (took_in life others joined) = joined.history ∷ (seen_by life ++ seen_by others)
 
-  -- A pass without a number is made, calls are made with it, and it is handed in as the lock is ended. Then its number's entries in the
-  -- last history are those that its plays added, each once and in their order, and each play stands in that history.
+  module _ (last : List E) where
+    -- the history `before` begins with each that was seen, and the last one begins with the history `after`
+    abbrev pub StandsPast : List (List E) → (before after : List E) → Type 0
+    StandsPast seen before after = All (StartsWith before) seen × StartsWith last after
+
+    -- Each reply stands past all that the pass had seen: a play goes from the history before it to the one after it, a look tells one.
+    -- The history before a play has of the pass's number what its plays had added, and the play's relation holds of these fixed numbers.
+    abbrev pub AllStand : {w : View E} → Life w → Type 0
+    AllStand (made is) = StartsWith last origin
+    AllStand (made_from life is) = AllStand life
+    AllStand (went_on life is) = AllStand life
+    AllStand (played {v = v} held job answer point life done) =
+        AllStand life × StandsPast (seen_by life) done.history (done.history ++ done.added) × IsOwn owner done.history (v.number, added_by life) × (v.fixed ≡ fixed)
+    AllStand (found_held life is) = AllStand life
+    AllStand (looked answer life told) = AllStand life × StandsPast (seen_by life) told.history told.history
+    AllStand (took_in life others joined) = AllStand life × AllStand others × StandsPast (seen_by life ++ seen_by others) joined.history joined.history
+
+  -- what holds where the lock is ended: the last history and the fixed numbers are the value's that it kept
+  pub record Holds (last : List E) (numbers : List ℕ) {w : View E} (life : Life w) : Type 0 where
+    -- the last history has what each pass added, once and in order, and each entry is one pass's
+    pub own : All (IsOwn owner last) (passes life)
+    pub apart : AreApart (passes life)
+    pub stand : AllStand last life
+    pub same : numbers ≡ fixed
+
+  -- It holds of whatever was done with the pass that is handed in, and with those that it took in.
   abbrev pub EachOnceInOrder : Type 0
-  EachOnceInOrder = (seen history : List E) (fixed numbers : List ℕ) (calls : List (Call E J A)) (w : View E)
-      → Runs (newcomer seen fixed) calls w → Fits owner history numbers w
-      → (w.number ≢ 0 → entries_of owner w.number history ≡ added_by calls) × AllStand history fixed (length seen) calls
-
-  -- The same of a pass that is taken in by another, which makes more calls and is then handed in.
-  abbrev pub EachOnceWhereEnded : Type 0
-  EachOnceWhereEnded = (seen history : List E) (fixed numbers : List ℕ) (calls more : List (Call E J A)) (w v into last : View E)
-      → Runs (newcomer seen fixed) calls w → HasTakenIn owner v w into → Runs into more last → Fits owner history numbers last
-      → (w.number ≢ 0 → entries_of owner w.number history ≡ added_by calls) × AllStand history fixed (length seen) calls
+  EachOnceInOrder = (w : View E) (life : Life w) (last : List E) (numbers : List ℕ) → Fits owner last numbers w → AreApart (all_ended w) → Holds last numbers life

@@ -1,5 +1,5 @@
 -- What a pass knows, and what each call tells it.
-use Rattle.std.specs.Prelude.{◌≡◌, ◌≢◌, ◌==◌, ℕ, false, List, [], ◌∷◌, ◌++◌, length, if◌then◌else◌, All, None}
+use Rattle.std.specs.Prelude.{◌≡◌, ◌≢◌, ◌==◌, ◌+◌, ◌≤◌, ℕ, false, List, [], ◌∷◌, ◌++◌, length, if◌then◌else◌, All, None}
 use Rattle.history_lock.specs.declared.view.View.{View}
 use Rattle.history_lock.specs.declared.view.MarkedAct.{MarkedAct}
 use Rattle.history_lock.specs.declared.lock.HistoryLock.{HistoryLock}
@@ -22,6 +22,10 @@ abbrev pub MatchTried : {A J : Type 0} → Trial A J → (Acted A → Type 0) �
 MatchTried (Done acted) done busy = done acted
 MatchTried (Busy job) done busy = busy job
 
+-- 1 where the numbers are the same, else 0
+abbrev pub same_number : ℕ → ℕ → ℕ
+same_number m n = if m == n then 1 else 0
+
 module _ {E : Type 0} where
   -- a pass that has no number and made no call
   abbrev pub newcomer : List E → List ℕ → View E
@@ -42,6 +46,15 @@ module _ {E : Type 0} where
   -- the numbers and entries of a pass: those that it took in, and its own where it has a number
   abbrev pub all_ended : View E → List (ℕ × List E)
   all_ended v = if v.number == 0 then v.ended else (v.number, v.mine) ∷ v.ended
+
+  -- how often the number stands among these
+  abbrev pub times_ended : ℕ → List (ℕ × List E) → ℕ
+  times_ended number [] = 0
+  times_ended number (pair ∷ pairs) = same_number pair.0 number + times_ended number pairs
+
+  -- no number but 0 stands twice
+  abbrev pub AreApart : List (ℕ × List E) → Type 0
+  AreApart pairs = (number : ℕ) → number ≢ 0 → times_ended number pairs ≤ 1
 
   -- another pass was taken in
   abbrev pub taking_in : View E → View E → View E

@@ -1,11 +1,10 @@
 //! What can be done with a lock and its passes.
 ghost use Rattle.std.specs.Prelude.{◌≡◌, ℕ, [], ◌∷◌, ◌++◌, replicate, IfOk, IfErr};
-ghost use Rattle.history_lock.specs.Passes.{known, IsPassOf, MatchTried, newcomer, finding, HasActed, HasLooked, HasTakenIn, Fits};
+ghost use Rattle.history_lock.specs.Passes.{known, IsPassOf, MatchTried, newcomer, finding, all_ended, AreApart, HasActed, HasLooked, HasTakenIn, Fits};
 
 use crate::kept::Kept;
 use crate::lock::{HistoryLock, SLOT};
 use crate::pass::{Pass, Token};
-use crate::steps::{Fork, TakeIn};
 use crate::tried::{Acted, Trial, Tried};
 use atomic_table::{Refused, Table};
 use std::alloc::Global;
@@ -40,7 +39,7 @@ impl<T: Kept> HistoryLock<T> {
         ensures made { IsPassOf self.now result × (known result ≡ newcomer (known from.old).seen (known from.old).fixed) }
         ensures same { IsPassOf self.now from.new × (known from.new ≡ known from.old) }
     {
-        let seat = self.table.shared.split_seat::<Fork>(&mut from.seat);
+        let seat = self.fork(&mut from.seat);
         let number = 0;
         Token { number, seat }
     }
@@ -88,7 +87,7 @@ impl<T: Kept> HistoryLock<T> {
         ensures taken_in { HasTakenIn T.owner (known into.old) (known pass) (known into.new) }
     {
         let Token { number: _, seat } = pass;
-        self.table.shared.join_seat::<TakeIn>(&mut into.seat, seat);
+        self.take_in(&mut into.seat, seat);
         self.look(&mut into.seat);
     }
 
@@ -96,6 +95,7 @@ impl<T: Kept> HistoryLock<T> {
     pub fn into_inner(self, pass: Pass<T>) -> Result<T, (HistoryLock<T>, Pass<T>)>
         requires { IsPassOf self pass }
         ensures ok { IfOk result (λ kept. Fits T.owner (T.history kept) (T.fixed kept) (known pass)) }
+        ensures apart { IfOk result (λ _. AreApart (all_ended (known pass))) }
         ensures err { IfErr result (λ back. (back.0 ≡ self) × IsPassOf back.0 back.1 × (known back.1 ≡ finding (known pass) (1 ∷ []))) }
     {
         let Token { number, mut seat } = pass;

@@ -1,11 +1,11 @@
-//! What the holder of the lock does, step by step.
+//! The steps that calls are made of.
 ghost use Rattle.std.specs.Prelude.{◌≡◌, ℕ, true, false, [], ◌∷◌, ◌++◌, length, replicate};
-ghost use Rattle.history_lock.specs.Passes.{finding};
-ghost use Rattle.history_lock.specs.inside.Steps.{IsIdle, IsSameSeat, IsHolding, closing, released, HasTaken, HasPlayed, HasCounted, HasFinished, HasSeen, Recounted};
+ghost use Rattle.history_lock.specs.Passes.{finding, taking_in};
+ghost use Rattle.history_lock.specs.inside.Steps.{IsIdle, IsSameSeat, IsHolding, closing, released, successor, HasTaken, HasPlayed, HasCounted, HasFinished, HasSeen, Recounted};
 
 use crate::kept::{Kept, Played};
 use crate::lock::{COUNT, HistoryLock, LOCK, SLOT};
-use crate::steps::{Acquire, CloseOff, Free, Look, Recount};
+use crate::steps::{Acquire, CloseOff, Fork, Free, Look, Recount, TakeIn};
 use crate::tried::Acted;
 use crate::view::View;
 use atomic_table::Seat;
@@ -107,5 +107,30 @@ impl<T: Kept> HistoryLock<T> {
         ensures seen { HasSeen T.owner seat.old.me result seat.new.me }
     {
         self.table.shared.load::<Look>(seat, COUNT)
+    }
+    // Another seat, which has seen what this one has.
+    pub(crate) fn fork(
+        &self,
+        seat: &mut Seat<Option<T>, View<T::Entry>>,
+    ) -> Seat<Option<T>, View<T::Entry>>
+        requires { (seat.old.table_id ≡ self.now.table.shared.table_id) × (seat.old.me.0.spent ≡ false) }
+        ensures same { IsSameSeat seat.old seat.new × (seat.new.me ≡ seat.old.me) }
+        ensures made { (result.table_id ≡ seat.old.table_id) × (result.me ≡ (successor seat.old.me.0, [])) }
+    {
+        self.table.shared.split_seat::<Fork>(seat)
+    }
+
+    // Takes in what another seat knows, before the history is looked at.
+    pub(crate) fn take_in(
+        &self,
+        seat: &mut Seat<Option<T>, View<T::Entry>>,
+        other: Seat<Option<T>, View<T::Entry>>,
+    )
+        requires this { (seat.old.table_id ≡ self.now.table.shared.table_id) × (seat.old.me.0.spent ≡ false) }
+        requires other { (other.table_id ≡ self.now.table.shared.table_id) × IsIdle other.me }
+        ensures same { IsSameSeat seat.old seat.new }
+        ensures taken_in { seat.new.me ≡ (taking_in seat.old.me.0 other.me.0, seat.old.me.1) }
+    {
+        self.table.shared.join_seat::<TakeIn>(seat, other);
     }
 }

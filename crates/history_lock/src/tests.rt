@@ -2,10 +2,12 @@ ghost use Rattle.std.specs.Prelude.{◌≡◌};
 ghost use Rattle.std.specs.Thread.{IsSync};
 ghost use Rattle.history_lock.specs.Passes.{IsPassOf};
 
+mod client;
 mod gated;
 mod sums;
 
 use crate::{HistoryLock, Pass, Trial};
+use client::play_in_two;
 use gated::Gated;
 use std::alloc::{AllocError, Global};
 use std::sync::atomic::AtomicU64;
@@ -196,5 +198,14 @@ fn no_play_of_four_threads_is_lost(rt: HostRuntime) -> Result<(), Fail> {
             .count();
         assert_eq!(rt; own, 100);
     }
+    Ok(())
+}
+
+#[test]
+fn a_client_of_the_law_plays_in_two_passes(rt: HostRuntime) -> Result<(), Fail> {
+    let Some(sums) = play_in_two(&rt, rt.alloc(), Sums::new(rt.alloc())) else {
+        panic!(rt; "there is memory for a lock, and nobody holds it")
+    };
+    assert_eq!(rt; sums.entries(), [(1, 5), (2, 7)].as_slice());
     Ok(())
 }

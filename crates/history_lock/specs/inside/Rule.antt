@@ -1,28 +1,19 @@
 -- What holds of a lock between any two steps. Word 0 is 1 while a pass holds the lock, and else 0; word 1 is the length of the history.
 -- Slot 0 has the value. It is at home where no seat has taken the slot.
-use Rattle.std.specs.Prelude.{◌≡◌, ◌≢◌, ◌==◌, ◌+◌, ◌≤◌, ℕ, true, false, List, [], ◌∷◌, if◌then◌else◌, length, slice_index, Option, Some, None}
+use Rattle.std.specs.Prelude.{◌≡◌, ◌≢◌, ◌+◌, ◌≤◌, ℕ, true, false, List, [], ◌∷◌, if◌then◌else◌, length, slice_index, Option, Some, None}
 use mathlib.Core.Option.{some, none}
 use lib.ListN.{get_elem?}
 use Rattle.atomic_table.specs.Table.{State}
 use Rattle.history_lock.specs.declared.view.View.{View}
 use Rattle.history_lock.specs.declared.view.Held.{Held}
-use Rattle.history_lock.specs.Passes.{Fits}
+use Rattle.history_lock.specs.Passes.{same_number, times_ended, Fits}
 
 -- f of each, added up
 abbrev pub total : {V : Type 0} → (V → ℕ) → List V → ℕ
 total f [] = 0
 total f (v ∷ vs) = f v + total f vs
 
--- 1 where the numbers are the same, else 0
-abbrev pub same_number : ℕ → ℕ → ℕ
-same_number m n = if m == n then 1 else 0
-
 module _ {E : Type 0} where
-  -- how often the number stands in the list
-  abbrev pub times_ended : ℕ → List (ℕ × List E) → ℕ
-  times_ended number [] = 0
-  times_ended number (pair ∷ pairs) = same_number pair.0 number + times_ended number pairs
-
   -- how often the number stands in what a pass knows, as its own and among those that it took in
   abbrev pub times_known : ℕ → View E → ℕ
   times_known number v = if v.spent then 0 else (same_number v.number number + times_ended number v.ended)

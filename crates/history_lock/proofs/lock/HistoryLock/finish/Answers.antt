@@ -1,4 +1,4 @@
-use Rattle.std.proofs.Common.{rules, refl, sym, ap, ◌∙◌, length}
+use Rattle.std.proofs.Common.{sym, ap, ◌∙◌, length}
 use Rattle.history_lock.proofs.Finishing.{same_value, has_slot, put_in, has_played, has_counted, number_after, has_finished}
 use Rattle.history_lock.proofs.lock.HistoryLock.finish.Goals as goal
 

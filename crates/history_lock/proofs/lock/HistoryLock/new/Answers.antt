@@ -1,4 +1,4 @@
-use Rattle.std.proofs.Common.{rules, [], ◌∷◌, ◌++◌, Some, ap, ◌∙◌}
+use Rattle.std.proofs.Common.{[], ◌∷◌, ◌++◌, Some, ap, ◌∙◌}
 use Rattle.history_lock.proofs.RuleKept.{starts_from}
 use Rattle.history_lock.proofs.lock.HistoryLock.new.Goals as goal
 

@@ -1,4 +1,4 @@
-use Rattle.std.proofs.Common.{◌≡◌, suc, [], refl, sym, ap, ◌∙◌}
+use Rattle.std.proofs.Common.{suc, [], refl, sym, ap, ◌∙◌}
 use Rattle.history_lock.proofs.Finishing.{found_none, busy_again, taken_after}
 use Rattle.history_lock.proofs.lock.HistoryLock.wait_for_lock.Goals as goal
 
