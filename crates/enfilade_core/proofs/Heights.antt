@@ -11,7 +11,7 @@ use Rattle.enfilade_core.specs.Right.{NamesBelow, HasRightBranches, AreRight}
 use Rattle.enfilade_core.specs.Summary.{no_summary, row_summary, branch_summary, summary_joined, summary_in, summaries, height_of}
 use Rattle.enfilade_core.proofs.Parts.{summary-said, right-now, names_below}
 
-rows_height : {L : Type 0} (w : Widths L) (rows : List (Row L)) (s : Summary) → s.height ≡ 0 → (fold summary_joined s (map (row_summary w) rows)).height ≡ 0
+pub rows_height : {L : Type 0} (w : Widths L) (rows : List (Row L)) (s : Summary) → s.height ≡ 0 → (fold summary_joined s (map (row_summary w) rows)).height ≡ 0
 rows_height w [] s h = h
 rows_height w (row ∷ rows) s h = rows_height w rows (summary_joined s (row_summary w row)) refl
 

@@ -15,6 +15,7 @@ use Rattle.enfilade_core.specs.declared.summary.Summary.{Summary}
 use Rattle.enfilade_core.specs.Rows.{moved}
 use Rattle.enfilade_core.specs.Axes.{Widths, Axis, first_axis, second_axis, StandsOff, WidthsStay, end_on, later, greatest_end, IsRightRow}
 use Rattle.enfilade_core.specs.Summary.{along_row, along_moved, along_joined, no_summary, row_summary, summary_moved, summary_joined}
+pub use Rattle.enfilade_core.specs.Following.{first_place, last_place}
 use Rattle.enfilade_core.proofs.Later.{later-none, none-later, later_assoc, later-sums, EndsWell-later}
 
 -- where a row stands and where it ends
@@ -27,15 +28,6 @@ points axis rows = flat_map (row_points axis) rows
 pub record TellsAlong {L : Type 0} (axis : Axis L) (rows : List (Row L)) (origins : List (List ℕ)) (along : Along) : Type 0 where
   pub extent : along.extent ≡ greatest_end axis rows
   pub reach_is : along.reach ≡ reach (origins ++ points axis rows)
-
-abbrev pub first_place : {L : Type 0} → List (Row L) → List ℕ
-first_place [] = []
-first_place (row ∷ rows) = row.first
-
-abbrev pub last_place : {L : Type 0} → List (Row L) → List ℕ
-last_place [] = []
-last_place (row ∷ []) = row.first
-last_place (row ∷ next ∷ rows) = last_place (next ∷ rows)
 
 pub record Tells {L : Type 0} (w : Widths L) (rows : List (Row L)) (first_origins second_origins : List (List ℕ)) (s : Summary) : Type 0 where
   pub leaves : s.leaves ≡ length rows

@@ -38,7 +38,7 @@ pub record StandsOff {L : Type 0} (w : Widths L) (row : Row L) : Type 0 where
   pub first : IsTrue w.first_strict → row.first ≢ []
   pub second : IsTrue w.second_strict → row.second ≢ []
 
--- the widths of a row stay where it is moved
+-- the widths of a row stay where it is moved, if its places end well and are not zero where that is strict
 abbrev pub WidthsStay : {L : Type 0} → Widths L → Type 0
 WidthsStay {L} w = (a b : List ℕ) (row : Row L) → EndsWell row.first → EndsWell row.second → StandsOff w row → (w.first (moved a b row) ≡ w.first row) × (w.second (moved a b row) ≡ w.second row)
 
@@ -60,7 +60,7 @@ abbrev pub InOrder : {L : Type 0} → List (Row L) → Type 0
 InOrder [] = Unit {0}
 InOrder (row ∷ rows) = All (λ r. IsUpTo row.first r.first) rows × InOrder rows
 
--- a row whose places, widths and ends are tumblers
+-- a row whose places, widths and ends are tumblers, and whose widths are as the plane wants them
 pub record IsRightRow {L : Type 0} (w : Widths L) (row : Row L) : Type 0 where
   pub first_place : IsTumbler row.first
   pub second_place : IsTumbler row.second
@@ -70,7 +70,7 @@ pub record IsRightRow {L : Type 0} (w : Widths L) (row : Row L) : Type 0 where
   pub second_end : IsTumbler (sum row.second (w.second row))
   pub proper : IsProper w row
 
--- rows that a bottom node may have
+-- right rows in order: those that a bottom node, or a tree, may have
 pub record IsRightRows {L : Type 0} (w : Widths L) (rows : List (Row L)) : Type 0 where
   pub each : All (IsRightRow w) rows
   pub ordered : InOrder rows

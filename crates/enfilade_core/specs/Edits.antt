@@ -40,7 +40,7 @@ abbrev pub or_else : {L : Type 0} → Option (Row L) → Row L → Option (Row L
 or_else (Some found) row = Some found
 or_else None row = Some row
 
--- the last of the rows that come before a place
+-- the last of the rows that come before a place, where the rows are in order
 abbrev pub last_before : {L : Type 0} → List ℕ → List (Row L) → Option (Row L)
 last_before at [] = None
 last_before at (row ∷ rows) = if comes_before row.first at then or_else (last_before at rows) row else None

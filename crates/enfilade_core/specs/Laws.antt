@@ -1,11 +1,14 @@
--- The laws of rows: how those of a tree are made of its children's, and that added nodes change none.
+-- The laws of rows: how those of a tree are made of its children's, that added nodes change none, and what an
+-- exchange comes to.
 use Rattle.std.specs.Prelude.{◌≡◌, ℕ, ◌<◌, List, ◌++◌, map, length}
 use Rattle.std.specs.List.{flat_map}
-use Rattle.tumbler.specs.Places.{sum}
+use Rattle.tumbler.specs.Places.{IsUpTo, sum}
 use Rattle.enfilade_core.specs.declared.tree.Row.{Row}
 use Rattle.enfilade_core.specs.declared.tree.Branch.{Branch}
 use Rattle.enfilade_core.specs.Rows.{Shape, Rows, Branches, moved, rows_of, node_at}
-use Rattle.enfilade_core.specs.Edits.{KeepsRows}
+use Rattle.enfilade_core.specs.declared.gap.Gap.{Gap}
+use Rattle.enfilade_core.specs.Edits.{KeepsRows, put_before, left_by, shifted}
+use Rattle.enfilade_core.specs.Exchange.{exchanged}
 
 -- the rows of node k, seen from a base
 abbrev pub rows_from : {L : Type 0} → List (Shape L) → ℕ → List ℕ → List ℕ → List (Row L)
@@ -24,3 +27,8 @@ RowsOfChildren nodes = (k : ℕ) (a b : List ℕ) → k < length nodes → rows_
 -- nodes that are added leave the rows of those that are there
 abbrev pub RowsStay : {L : Type 0} → List (Shape L) → Type 0
 RowsStay {L} nodes = (more : List (Shape L)) → KeepsRows nodes (nodes ++ more)
+
+-- where a gap does not end before it begins, an exchange leaves the rows that a cut, then a shift of what is
+-- behind the gap, and then a splice at its beginning would leave
+abbrev pub ExchangeIsThreeEdits : {L : Type 0} → List (Row L) → Type 0
+ExchangeIsThreeEdits {L} rows = (gap : Gap) (new : List (Row L)) → IsUpTo gap.from gap.to → IsUpTo gap.from gap.onto → exchanged gap new rows ≡ put_before gap.from new (shifted gap.to gap.onto (left_by gap.from gap.to rows))

@@ -10,3 +10,5 @@ pub mod Laws
 pub mod Planes
 pub mod PlaneLaws
 pub mod Following
+pub mod Exchange
+pub mod Packing

@@ -8,7 +8,7 @@ use Rattle.enfilade_core.specs.Axes.{Widths}
 abbrev pub as_place : ℕ → ℕ
 as_place n = if nat_lt n place_bound then n else 0
 
--- bytes are as wide as they are many, at the last of their place's places; on the second axis all is zero
+-- bytes are as wide as they are many, at the last of their place's places; on the second axis they have no width
 abbrev pub content_widths : Widths (ListView ℕ)
 content_widths = record { first = λ row. width_at (length row.first) (as_place (length row.leaf.items)); second = λ row. []; first_strict = true; second_strict = false }
 

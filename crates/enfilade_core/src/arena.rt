@@ -100,7 +100,7 @@ impl<P: Plane> Arena<P> {
     }
 
     /// Where memory comes from.
-    pub(crate) fn allocator(&self) -> Global
+    pub fn allocator(&self) -> Global
         ensures right { AreRight P.widths self.now }
         ensures few { length self.now < 2 ^ 64 }
     {

@@ -1,8 +1,12 @@
 //! The laws of rows. Each is a function that does nothing, whose contract says the law.
-ghost use Rattle.enfilade_core.specs.Laws.{RowsOfChildren, RowsStay};
+ghost use Rattle.std.specs.Prelude.{◌<◌, length};
+ghost use Rattle.enfilade_core.specs.Rows.{rows_of};
+ghost use Rattle.enfilade_core.specs.Right.{AreRight};
+ghost use Rattle.enfilade_core.specs.Laws.{RowsOfChildren, RowsStay, ExchangeIsThreeEdits};
 
 use crate::arena::Arena;
 use crate::plane::Plane;
+use crate::tree::Node;
 
 /// The rows of a tree from any base are those of its root's children, one after another: a leaf at the
 /// base plus its displacement, and a node's rows from the base plus the node's displacement.
@@ -17,4 +21,21 @@ pub fn rows_stay<P: Plane>(arena: &Arena<P>)
     ensures { RowsStay arena.now }
 {
     let _count = arena.count();
+}
+
+/// An exchange leaves the rows that a cut, a shift and a splice would leave, one after another, where what is
+/// behind the gap does not come before it.
+pub fn exchange_is_three_edits<P: Plane>(arena: &Arena<P>, root: Node)
+    requires { root.0 < length arena.now }
+    ensures { ExchangeIsThreeEdits (rows_of arena.now root.0) }
+{
+    let _alloc = arena.allocator();
+}
+
+/// Each node of an arena has right children among those before it: with lesser numbers, and all bottom nodes
+/// below it equally deep.
+pub fn nodes_are_right<P: Plane>(arena: &Arena<P>)
+    ensures { AreRight P.widths arena.now }
+{
+    let _alloc = arena.allocator();
 }

@@ -2,8 +2,15 @@
 #![tactic(auto)]
 
 mod arena;
+mod beside;
+mod edits;
+mod exchange;
+mod found;
+mod gap;
 mod held;
 pub mod laws;
+mod opening;
+mod packing;
 mod plane;
 mod planes;
 mod right;
@@ -12,8 +19,12 @@ mod summary;
 #[cfg(test)]
 mod tests;
 mod tree;
+mod walk;
 
 pub use arena::Arena;
+pub use edits::Exchanged;
+pub use found::RowAt;
+pub use gap::Gap;
 pub use plane::Plane;
 pub use planes::{ContentPlane, KeyPlane, TextPlane};
 pub use tree::{Branch, Children, Node, Row, TreeMark};

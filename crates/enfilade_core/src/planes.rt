@@ -7,10 +7,11 @@ use crate::tree::Row;
 use std::alloc::Global;
 use tumbler::{List, Memory, Text, Tumbler};
 
-/// The most places that a row may stand for.
+/// A row stands for fewer places than this.
 const PLACE_BOUND: usize = 4_294_967_296;
 
-/// Bytes by the address of their first one. The second axis is always zero.
+/// Bytes by the address of their first one. On the second axis they have no width, and their owner has them
+/// stand at zero there.
 pub struct ContentPlane;
 
 /// Runs of a text, by where they stand in it and by the address of what they show. A leaf is a run's length.

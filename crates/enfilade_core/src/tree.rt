@@ -1,5 +1,7 @@
 //! Nodes by number, rows, and what hangs under a node.
 
+ghost use Rattle.std.specs.Prelude.{◌≡◌, ◌==◌};
+
 use tumbler::{List, Tumbler};
 
 /// A node of an arena, by its number.
@@ -39,4 +41,33 @@ pub enum Children<L> {
 pub struct TreeMark {
     pub root: Node,
     pub count: u64,
+}
+
+impl Branch {
+    /// The same branch.
+    pub fn copy(&self) -> Branch
+        ensures { result ≡ self.now }
+    {
+        Branch {
+            node: self.node,
+            first: self.first.copy(),
+            second: self.second.copy(),
+            first_extent: self.first_extent.copy(),
+            second_extent: self.second_extent.copy(),
+        }
+    }
+}
+
+impl<L> Children<L> {
+    ghost use Rattle.enfilade_core.specs.Plain.{children_count};
+
+    /// Whether nothing hangs here.
+    pub fn is_empty(&self) -> bool
+        ensures { result ≡ (children_count self.now == 0) }
+    {
+        match self {
+            Children::Bottom(rows) => rows.is_empty(),
+            Children::Inner(branches) => branches.is_empty(),
+        }
+    }
 }

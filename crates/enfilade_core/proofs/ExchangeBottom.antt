@@ -1,0 +1,123 @@
+-- An exchange in the rows of a bottom node, from slices of them.
+use Rattle.std.proofs.Common.{◌≡◌, ℕ, zero, suc, ◌≤◌, ◌<◌, true, false, List, [], ◌∷◌, ◌++◌, length, get_or, take, drop, map, cond, refl, arith, ap, ◌∙◌, sym, subst}
+use Rattle.std.specs.List.{All}
+use Rattle.std.proofs.lemmas.List.{length-map, length-take-le}
+use Rattle.std.proofs.lemmas.List.Elements.{All-cons}
+use Rattle.tumbler.specs.Places.{IsUpTo, IsTumbler, Fits, comes_before, sum, difference}
+use Rattle.tumbler.proofs.Alls.{All-back}
+use Rattle.tumbler.proofs.SumOrder.{fits_if_tumbler}
+use Rattle.enfilade_core.specs.declared.tree.Row.{Row}
+use Rattle.enfilade_core.specs.declared.gap.Gap.{Gap}
+use Rattle.enfilade_core.specs.Axes.{Widths, InOrder, IsRightRow}
+use Rattle.enfilade_core.specs.Plain.{plain_row}
+use Rattle.enfilade_core.specs.Edits.{taken_out, shift_place, shift_row, shifted}
+use Rattle.enfilade_core.specs.Exchange.{rows_before, rows_past, exchanged}
+use Rattle.enfilade_core.proofs.GoneThrough.{mapped_at, item-right}
+use Rattle.enfilade_core.proofs.ExchangeLists.{moved_past, NoneBefore, before_later, split-front, split-back, split-between}
+
+-- ---- how many come before a place
+
+pub count-short : {L : Type 0} (at : List ℕ) (rows : List (Row L)) → length (rows_before at rows) ≤ length rows
+count-short at [] = omega arith
+count-short {L} at (row ∷ rows) = elim (comes_before row.first at) as (λ b. comes_before row.first at ≡ b → length (rows_before at (row ∷ rows)) ≤ length (row ∷ rows)) [
+  | true ↦ λ e. rw e (omega (arith, count-short at rows))
+  | false ↦ λ e. rw e (omega (arith, count-short at rows))
+] refl
+
+pub count-later : {L : Type 0} (from to : List ℕ) (rows : List (Row L)) → IsUpTo from to → length (rows_before from rows) ≤ length (rows_before to rows)
+count-later from to [] le = omega arith
+count-later {L} from to (row ∷ rows) le = elim (comes_before row.first from) as (λ b. comes_before row.first from ≡ b → length (rows_before from (row ∷ rows)) ≤ length (rows_before to (row ∷ rows))) [
+  | true ↦ λ e. rw (e, before_later from to row le e) (omega (arith, count-later from to rows le))
+  | false ↦ λ e. elim (comes_before row.first to) as (λ b. comes_before row.first to ≡ b → length (rows_before from (row ∷ rows)) ≤ length (rows_before to (row ∷ rows))) [
+    | true ↦ λ f. rw (e, f) (omega (arith, count-later from to rows le))
+    | false ↦ λ f. rw (e, f) (count-later from to rows le)
+  ] refl
+] refl
+
+before-plain : {L : Type 0} (plain : L → L) (at : List ℕ) (rows : List (Row L)) → rows_before at (map (plain_row plain) rows) ≡ map (plain_row plain) (rows_before at rows)
+before-plain plain at [] = refl
+before-plain {L} plain at (row ∷ rows) = elim (comes_before row.first at) as (λ b. comes_before row.first at ≡ b → rows_before at (map (plain_row plain) (row ∷ rows)) ≡ map (plain_row plain) (rows_before at (row ∷ rows))) [
+  | true ↦ λ e. rw e (ap (λ (r : List (Row L)). plain_row plain row ∷ r) (before-plain plain at rows))
+  | false ↦ λ e. rw e (before-plain plain at rows)
+] refl
+
+count-plain : {L : Type 0} (plain : L → L) (at : List ℕ) (rows : List (Row L)) → length (rows_before at rows) ≡ length (rows_before at (map (plain_row plain) rows))
+count-plain plain at rows = sym (length-map (rows_before at rows) (plain_row plain)) ∙ ap length (sym (before-plain plain at rows))
+
+map-taken : {A B : Type 0} (f : A → B) (n : ℕ) (xs : List A) → map f (take n xs) ≡ take n (map f xs)
+map-taken f zero xs = refl
+map-taken f (suc n) [] = refl
+map-taken f (suc n) (x ∷ xs) = ap (λ (r : List _). f x ∷ r) (map-taken f n xs)
+
+map-dropped : {A B : Type 0} (f : A → B) (n : ℕ) (xs : List A) → map f (drop n xs) ≡ drop n (map f xs)
+map-dropped f zero xs = refl
+map-dropped f (suc n) [] = refl
+map-dropped f (suc n) (x ∷ xs) = map-dropped f n xs
+
+-- ---- the three slices
+
+pub slice-before : {L : Type 0} (plain : L → L) (at : List ℕ) (rows : List (Row L)) (n : ℕ) → InOrder (map (plain_row plain) rows) → n ≡ length (rows_before at rows) → map (plain_row plain) (take n rows) ≡ rows_before at (map (plain_row plain) rows)
+slice-before {L} plain at rows n h e =
+    map-taken (plain_row plain) n rows
+    ∙ ap (λ (k : ℕ). take k (map (plain_row plain) rows)) (e ∙ count-plain plain at rows)
+    ∙ split-front at (map (plain_row plain) rows) h
+
+pub slice-past : {L : Type 0} (plain : L → L) (at : List ℕ) (rows : List (Row L)) (n : ℕ) → InOrder (map (plain_row plain) rows) → n ≡ length (rows_before at rows) → map (plain_row plain) (drop n rows) ≡ rows_past at (map (plain_row plain) rows)
+slice-past {L} plain at rows n h e =
+    map-dropped (plain_row plain) n rows
+    ∙ ap (λ (k : ℕ). drop k (map (plain_row plain) rows)) (e ∙ count-plain plain at rows)
+    ∙ split-back at (map (plain_row plain) rows) h
+
+pub slice-within : {L : Type 0} (plain : L → L) (from to : List ℕ) (rows : List (Row L)) (n m : ℕ) → InOrder (map (plain_row plain) rows) → IsUpTo from to → n ≡ length (rows_before from rows) → m ≡ length (rows_before to rows)
+    → map (plain_row plain) (drop (length (take n rows)) (take m rows)) ≡ taken_out from to (map (plain_row plain) rows)
+slice-within {L} plain from to rows n m h le e f =
+    let whole = map (plain_row plain) rows in
+    let few : length (take n rows) ≡ n = length-take-le n rows (omega (arith, e, count-short from rows)) in
+    map-dropped (plain_row plain) (length (take n rows)) (take m rows)
+    ∙ ap (drop (length (take n rows))) (map-taken (plain_row plain) m rows)
+    ∙ ap (λ (k : ℕ). drop k (take m whole)) (few ∙ e ∙ count-plain plain from rows)
+    ∙ ap (λ (k : ℕ). drop (length (rows_before from whole)) (take k whole)) (f ∙ count-plain plain to rows)
+    ∙ split-between from to whole h le
+
+-- ---- what moves is behind the gap, and right there
+
+past_passes : {L : Type 0} (at : List ℕ) (rows : List (Row L)) → NoneBefore at (rows_past at rows)
+past_passes at [] = λ k d lt. absurd (omega arith)
+past_passes {L} at (row ∷ rows) = elim (comes_before row.first at) as (λ b. comes_before row.first at ≡ b → NoneBefore at (rows_past at (row ∷ rows))) [
+  | true ↦ λ e. rw e (past_passes at rows)
+  | false ↦ λ e. rw e (All-cons (λ r. comes_before r.first at ≡ false) row (rows_past at rows) e (past_passes at rows))
+] refl
+
+pub past-passes : {L : Type 0} (at : List ℕ) (rows more : List (Row L)) → more ≡ rows_past at rows → NoneBefore at more
+past-passes at rows more e = subst (NoneBefore at) (sym e) (past_passes at rows)
+
+pub right-moved : {L : Type 0} (w : Widths L) (gap : Gap) (new rows more : List (Row L)) → more ≡ rows_past gap.to rows → All (IsRightRow w) (exchanged gap new rows) → All (IsRightRow w) (shifted gap.to gap.onto more)
+right-moved {L} w gap new rows more e h =
+    subst (λ (r : List (Row L)). All (IsRightRow w) (shifted gap.to gap.onto r)) (sym e)
+    (All-back (IsRightRow w) (rows_before gap.from rows ++ new) (moved_past gap rows) h)
+
+-- one row behind the gap
+pub past-at : {L : Type 0} (plain : L → L) (at : List ℕ) (rows : List (Row L)) (i : ℕ) (row : Row L) → i < length rows → row ≡ get_or rows i row → NoneBefore at (map (plain_row plain) rows) → comes_before row.first at ≡ false
+past-at plain at rows i row lt is h =
+    let m = mapped_at (plain_row plain) rows i row lt is in
+    item-right (λ r. comes_before r.first at ≡ false) (map (plain_row plain) rows) i (plain_row plain row) m.short m.at h
+
+pub right-at : {L : Type 0} (w : Widths L) (plain : L → L) (to onto : List ℕ) (rows : List (Row L)) (i : ℕ) (row : Row L) → i < length rows → row ≡ get_or rows i row → All (IsRightRow w) (shifted to onto (map (plain_row plain) rows)) → IsTumbler (shift_place to onto row.first)
+right-at w plain to onto rows i row lt is h =
+    let m = mapped_at (plain_row plain) rows i row lt is in
+    let n = mapped_at (shift_row to onto) (map (plain_row plain) rows) i (plain_row plain row) m.short m.at in
+    (item-right (IsRightRow w) (shifted to onto (map (plain_row plain) rows)) i (shift_row to onto (plain_row plain row)) n.short n.at h).first_place
+
+pub shift-fits : (to onto place d : List ℕ) → comes_before place to ≡ false → IsTumbler (shift_place to onto place) → d ≡ difference place to → Fits onto d
+shift-fits to onto place d e t is =
+    subst (Fits onto) (sym is) (fits_if_tumbler onto (difference place to) (subst IsTumbler (ap (λ b. cond b place (sum onto (difference place to))) e) t))
+
+pub shift-is : (to onto place : List ℕ) → comes_before place to ≡ false → shift_place to onto place ≡ sum onto (difference place to)
+shift-is to onto place e = ap (λ b. cond b place (sum onto (difference place to))) e
+
+-- the lists that come one from another
+pub bottom-made : {L : Type 0} (gap : Gap) (new rows none first second third before past : List (Row L)) → none ≡ [] → first ≡ none ++ before → second ≡ first ++ new → third ≡ second ++ shifted gap.to gap.onto past
+    → before ≡ rows_before gap.from rows → past ≡ rows_past gap.to rows → third ≡ exchanged gap new rows
+bottom-made {L} gap new rows none first second third before past e0 e1 e2 e3 b p =
+    e3 ∙ ap (λ (r : List (Row L)). r ++ shifted gap.to gap.onto past) (e2 ∙ ap (λ (r : List (Row L)). r ++ new) (e1 ∙ ap (λ (r : List (Row L)). r ++ before) e0 ∙ b))
+    ∙ ap (λ (r : List (Row L)). (rows_before gap.from rows ++ new) ++ shifted gap.to gap.onto r) p

@@ -1,0 +1,147 @@
+-- Rows that are seen from an origin just before them are right, and stand where they stood.
+use Rattle.std.proofs.Common.{◌≡◌, ◌≢◌, ℕ, List, [], ◌∷◌, length, map, fold, refl, ap, ◌∙◌, sym, subst}
+use Rattle.std.specs.List.{All}
+use Rattle.std.proofs.lemmas.List.Elements.{All-head, All-tail, All-nil, All-cons, All-weaker}
+use Rattle.tumbler.specs.Places.{EndsWell, IsTumbler, IsBefore, IsUpTo, sum, difference}
+use Rattle.tumbler.specs.Laws.{StandsBefore}
+use Rattle.tumbler.proofs.Alls.{All-one}
+use Rattle.tumbler.proofs.Sums.{sums_associate}
+use Rattle.tumbler.proofs.Tumblers.{EndsWell-sum, difference-is_tumbler}
+use Rattle.tumbler.proofs.Differences.{sum-difference}
+use Rattle.tumbler.proofs.SumOrder.{up_to_if_sums, difference-filled, length-difference_before, tumbler_if_sum}
+use Rattle.enfilade_core.specs.declared.tree.Row.{Row}
+use Rattle.enfilade_core.specs.declared.tree.Branch.{Branch}
+use Rattle.enfilade_core.specs.declared.summary.Summary.{Summary}
+use Rattle.enfilade_core.specs.Rows.{Shape, Rows, moved}
+use Rattle.enfilade_core.specs.Axes.{Widths, WidthsStay, StandsOff, InOrder, IsRightRow, IsRightRows}
+use Rattle.enfilade_core.specs.Summary.{row_summary, summary_joined, no_summary}
+use Rattle.enfilade_core.specs.Exchange.{IsPacked}
+use Rattle.enfilade_core.specs.Packing.{back, MayStandAt, IsPlaced}
+use Rattle.enfilade_core.proofs.Tells.{stands_off}
+
+-- ---- one row
+
+there : {L : Type 0} (a b : List ℕ) (row : Row L) → IsUpTo a row.first → IsUpTo b row.second → moved a b (back a b row) ≡ row
+there a b row le also =
+    ap (λ (x : List ℕ). record row { first = x; second = sum b (difference row.second b) }) (sum-difference a row.first le)
+    ∙ ap (λ (x : List ℕ). record row { first = row.first; second = x }) (sum-difference b row.second also)
+
+end_back : (a place width more : List ℕ) → IsUpTo a place → EndsWell (difference place a) → IsTumbler width → more ≡ width → IsTumbler (sum place width) → IsTumbler (sum (difference place a) more)
+end_back a place width more le e t same end =
+    let d = difference place a in
+    rw same (tumbler_if_sum a (sum d width) (EndsWell-sum d width e t.ends) (subst IsTumbler (ap (λ (x : List ℕ). sum x width) (sym (sum-difference a place le)) ∙ sums_associate a d width) end))
+
+long_back : (a place width more : List ℕ) → IsBefore a place → more ≡ width → (width ≢ []) × (length width ≡ length place) → (more ≢ []) × (length more ≡ length (difference place a))
+long_back a place width more lt same h = rw same (h.0, h.1 ∙ sym (length-difference_before place a lt))
+
+row_back-right : {L : Type 0} (w : Widths L) → WidthsStay w → (a b : List ℕ) (row : Row L) → StandsBefore a row.first → StandsBefore b row.second → IsRightRow w row → IsRightRow w (back a b row)
+row_back-right {L} w stay a b row s t right =
+    let far = stands_off w row right in
+    let first = difference-is_tumbler row.first a right.first_place s.is_tumbler s.up_to in
+    let second = difference-is_tumbler row.second b right.second_place t.is_tumbler t.up_to in
+    let is = there a b row s.up_to t.up_to in
+    let off : StandsOff w (back a b row) = record {
+      first = λ strict. difference-filled row.first a (s.before (far.first strict));
+      second = λ strict. difference-filled row.second b (t.before (far.second strict));
+    } in
+    let stays = stay a b (back a b row) first.ends second.ends off in
+    let w1 : w.first (back a b row) ≡ w.first row = sym stays.0 ∙ ap w.first is in
+    let w2 : w.second (back a b row) ≡ w.second row = sym stays.1 ∙ ap w.second is in
+    record {
+      first_place = first;
+      second_place = second;
+      first_width = subst IsTumbler (sym w1) right.first_width;
+      second_width = subst IsTumbler (sym w2) right.second_width;
+      first_end = end_back a row.first (w.first row) (w.first (back a b row)) s.up_to first.ends right.first_width w1 right.first_end;
+      second_end = end_back b row.second (w.second row) (w.second (back a b row)) t.up_to second.ends right.second_width w2 right.second_end;
+      proper = (
+        λ strict. long_back a row.first (w.first row) (w.first (back a b row)) (s.before (far.first strict)) w1 (right.proper.0 strict),
+        λ strict. long_back b row.second (w.second row) (w.second (back a b row)) (t.before (far.second strict)) w2 (right.proper.1 strict),
+      );
+    }
+
+-- ---- all rows
+
+-- a place stands before a row on the first axis, or on the second
+abbrev pub BeforeFirst : {L : Type 0} → List ℕ → Row L → Type 0
+BeforeFirst a row = StandsBefore a row.first
+
+abbrev pub BeforeSecond : {L : Type 0} → List ℕ → Row L → Type 0
+BeforeSecond b row = StandsBefore b row.second
+
+rows_back-right : {L : Type 0} (w : Widths L) → WidthsStay w → (a b : List ℕ) (rows : List (Row L)) → All (BeforeFirst a) rows → All (BeforeSecond b) rows → All (IsRightRow w) rows → All (IsRightRow w) (map (back a b) rows)
+rows_back-right w stay a b [] s t right = All-nil (IsRightRow w)
+rows_back-right w stay a b (row ∷ rows) s t right =
+    All-cons (IsRightRow w) (back a b row) (map (back a b) rows)
+    (row_back-right w stay a b row (All-head (BeforeFirst a) row rows s) (All-head (BeforeSecond b) row rows t) (All-head (IsRightRow w) row rows right))
+    (rows_back-right w stay a b rows (All-tail (BeforeFirst a) row rows s) (All-tail (BeforeSecond b) row rows t) (All-tail (IsRightRow w) row rows right))
+
+pub rows_there : {L : Type 0} (a b : List ℕ) (rows : List (Row L)) → All (BeforeFirst a) rows → All (BeforeSecond b) rows → map (moved a b) (map (back a b) rows) ≡ rows
+rows_there a b [] s t = refl
+rows_there a b (row ∷ rows) s t =
+    ap (λ (r : Row _). r ∷ map (moved a b) (map (back a b) rows)) (there a b row (All-head (BeforeFirst a) row rows s).up_to (All-head (BeforeSecond b) row rows t).up_to)
+    ∙ ap (λ (rs : List (Row _)). row ∷ rs) (rows_there a b rows (All-tail (BeforeFirst a) row rows s) (All-tail (BeforeSecond b) row rows t))
+
+-- rows are in order where they are once all are moved
+earlier_unmoved : {L : Type 0} (a b place : List ℕ) (rows : List (Row L)) → EndsWell place → All (λ r. IsUpTo (sum a place) r.first) (map (moved a b) rows) → All (λ r. IsUpTo place r.first) rows
+earlier_unmoved a b place [] e h = All-nil (λ r. IsUpTo place r.first)
+earlier_unmoved a b place (next ∷ rows) e h =
+    let P : Row _ → Type 0 = λ r. IsUpTo (sum a place) r.first in
+    All-cons (λ r. IsUpTo place r.first) next rows (up_to_if_sums a place next.first e (All-head P (moved a b next) (map (moved a b) rows) h))
+    (earlier_unmoved a b place rows e (All-tail P (moved a b next) (map (moved a b) rows) h))
+
+pub InOrder-unmoved : {L : Type 0} (a b : List ℕ) (rows : List (Row L)) → All (λ r. EndsWell r.first) rows → InOrder (map (moved a b) rows) → InOrder rows
+InOrder-unmoved a b [] e h = tt
+InOrder-unmoved a b (row ∷ rows) e h =
+    let P : Row _ → Type 0 = λ r. EndsWell r.first in
+    (earlier_unmoved a b row.first rows (All-head P row rows e) h.0, InOrder-unmoved a b rows (All-tail P row rows e) h.1)
+
+pub ends_well : {L : Type 0} (w : Widths L) (rows : List (Row L)) → All (IsRightRow w) rows → All (λ r. EndsWell r.first) rows
+ends_well w rows right = All-weaker (IsRightRow w) (λ r. EndsWell r.first) (λ r h. h.first_place.ends) rows right
+
+pub filled_back : {L : Type 0} (a b : List ℕ) (rows more : List (Row L)) → map (moved a b) rows ≡ more → more ≢ [] → rows ≢ []
+filled_back a b rows more is some q = some (sym is ∙ ap (map (moved a b)) q)
+
+pub map_some : {A B : Type 0} (f : A → B) (xs : List A) → xs ≢ [] → map f xs ≢ []
+map_some f [] n q = n refl
+map_some f (x ∷ xs) n q = cc
+
+-- ---- a bottom node
+
+tumblers : {L : Type 0} (a b : List ℕ) (rows : List (Row L)) → rows ≢ [] → All (BeforeFirst a) rows → All (BeforeSecond b) rows → IsTumbler a × IsTumbler b
+tumblers a b [] some s t = absurd (some refl)
+tumblers a b (row ∷ rows) some s t = ((All-head (BeforeFirst a) row rows s).is_tumbler, (All-head (BeforeSecond b) row rows t).is_tumbler)
+
+rows_stand : {L : Type 0} (w : Widths L) → WidthsStay w → (nodes : List (Shape L)) (a b : List ℕ) (rows : List (Row L)) → rows ≢ [] → IsRightRows w rows → All (BeforeFirst a) rows → All (BeforeSecond b) rows → MayStandAt w nodes (Rows (map (back a b) rows)) a b
+rows_stand w stay nodes a b rows some right s t =
+    let each = rows_back-right w stay a b rows s t right.each in
+    let is = rows_there a b rows s t in
+    let both = tumblers a b rows some s t in
+    record {
+      right = record {
+        branches = tt;
+        first_origins = All-nil IsTumbler;
+        second_origins = All-nil IsTumbler;
+        rows = each;
+        ordered = InOrder-unmoved a b (map (back a b) rows) (ends_well w (map (back a b) rows) each) (subst InOrder (sym is) right.ordered);
+      };
+      filled = filled_back a b (map (back a b) rows) rows is some;
+      first_origins = All-one IsTumbler a both.0;
+      second_origins = All-one IsTumbler b both.1;
+      rows = subst (All (IsRightRow w)) (sym is) right.each;
+    }
+
+-- the list that was made has these rows
+pub rows-may_stand : {L : Type 0} (w : Widths L) → WidthsStay w → (nodes : List (Shape L)) (a b : List ℕ) (rows made : List (Row L)) → rows ≢ [] → IsRightRows w rows → All (BeforeFirst a) rows → All (BeforeSecond b) rows → made ≡ map (back a b) rows → MayStandAt w nodes (Rows made) a b
+rows-may_stand w stay nodes a b rows made some right s t is = rw is (rows_stand w stay nodes a b rows some right s t)
+
+rows_level : {L : Type 0} (w : Widths L) (rows : List (Row L)) (s : Summary) → s.height ≡ 0 → (fold summary_joined s (map (row_summary w) rows)).height ≡ 0
+rows_level w [] s h = h
+rows_level w (row ∷ rows) s h = rows_level w rows (summary_joined s (row_summary w row)) refl
+
+pub rows-packed : {L : Type 0} (w : Widths L) (old new : List (Shape L)) (a b : List ℕ) (rows made : List (Row L)) (branch : Branch) → All (BeforeFirst a) rows → All (BeforeSecond b) rows → made ≡ map (back a b) rows → IsPlaced w old new (Rows made) a b branch → IsPacked w old new (Rows rows) branch
+rows-packed w old new a b rows made branch s t is placed = record {
+  part = placed.part;
+  rows = placed.rows ∙ ap (map (moved a b)) is ∙ rows_there a b rows s t;
+  level = placed.level ∙ rows_level w made no_summary refl ∙ sym (rows_level w rows no_summary refl);
+}

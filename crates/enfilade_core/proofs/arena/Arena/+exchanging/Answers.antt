@@ -1,0 +1,267 @@
+use Rattle.std.proofs.Common.{◌≡◌, ◌<◌, ◌++◌, ◌∙◌, List, map, OnOk, arith, ap, sym, subst}
+use Rattle.enfilade_core.specs.Rows.{Rows, Branches, branch_rows, rows_table}
+use Rattle.enfilade_core.specs.Axes.{IsRightRows}
+use Rattle.enfilade_core.specs.Summary.{height_of}
+use Rattle.enfilade_core.specs.Plain.{shape, plain_row}
+use Rattle.enfilade_core.specs.Edits.{taken_out}
+use Rattle.enfilade_core.specs.Exchange.{exchanged, MayHaveRows, IsWhole}
+use Rattle.enfilade_core.proofs.OpenedAt.{at-of_part}
+use Rattle.enfilade_core.proofs.GoneThrough.{item-right}
+use Rattle.enfilade_core.proofs.ExchangeGrown.{grows-same, grows-more}
+use Rattle.enfilade_core.proofs.ExchangeBranches.{RestAt, rest-start, rest-part, rest-right, rest-more, rest-all, BranchesAt, chosen-part, chosen-right, chosen-rest, branches-made, branches-taken}
+use Rattle.enfilade_core.proofs.ExchangeNodes.{mapped-none, none-left, some-left, packed-has, bottom-exchanged, inner-exchanged, opened-bottom, opened-inner, taken-opened, right-opened}
+use Rattle.enfilade_core.proofs.arena.Arena.+exchanging.Goals as goal
+
+pub branch_exchanged-parts_exchanged-requires : goal.branch_exchanged-parts_exchanged-requires
+branch_exchanged-parts_exchanged-requires g t c κs within =
+    (omega (arith, c.decreases), (within.0, (within.1, (c.requires.up_to, (c.requires.part, c.requires.right)))))
+
+pub branch_exchanged-returns-then-not-is_empty-clause-grows : goal.branch_exchanged-returns-then-not-is_empty-clause-grows
+branch_exchanged-returns-then-not-is_empty-clause-grows g t c =
+    c.parts_exchanged.ensures.grows
+
+pub branch_exchanged-returns-then-not-is_empty-clause-rows : goal.branch_exchanged-returns-then-not-is_empty-clause-rows
+branch_exchanged-returns-then-not-is_empty-clause-rows g t c =
+    c.parts_exchanged.ensures.rows
+
+pub branch_exchanged-returns-then-not-is_empty-clause-out : goal.branch_exchanged-returns-then-not-is_empty-clause-out
+branch_exchanged-returns-then-not-is_empty-clause-out g t c =
+    c.parts_exchanged.ensures.out
+
+pub branch_exchanged-whole_exchanged-requires-clause-up_to : goal.branch_exchanged-whole_exchanged-requires-clause-up_to
+branch_exchanged-whole_exchanged-requires-clause-up_to g t c =
+    c.requires.up_to
+
+pub branch_exchanged-whole_exchanged-requires-clause-part : goal.branch_exchanged-whole_exchanged-requires-clause-part
+branch_exchanged-whole_exchanged-requires-clause-part g t c =
+    c.requires.part
+
+pub branch_exchanged-whole_exchanged-requires-clause-right : goal.branch_exchanged-whole_exchanged-requires-clause-right
+branch_exchanged-whole_exchanged-requires-clause-right g t c =
+    subst (λ (r : List _). IsRightRows g.P.Plane.widths (exchanged c.args.gap.now r (branch_rows (rows_table c.args.self.now) c.args.branch.now))) (mapped-none (plain_row g.P.Plane.plain) c.args.rows.now c.is_empty.result c.is_empty.ensures c.if-not-is_empty.false) c.requires.right
+
+pub branch_exchanged-returns-in_err-whole-clause-grows : goal.branch_exchanged-returns-in_err-whole-clause-grows
+branch_exchanged-returns-in_err-whole-clause-grows g t c =
+    grows-same c.args.self.now
+
+pub branch_exchanged-parts_exchanged-requires-in-Parts : goal.branch_exchanged-parts_exchanged-requires-in-Parts
+branch_exchanged-parts_exchanged-requires-in-Parts g t c κs within =
+    (omega (arith, c.decreases), (within.0, (within.1, (c.requires.up_to, (c.requires.part, c.requires.right)))))
+
+pub branch_exchanged-returns-in-Left-clause-grows : goal.branch_exchanged-returns-in-Left-clause-grows
+branch_exchanged-returns-in-Left-clause-grows g t c =
+    grows-same c.args.self.now
+
+pub branch_exchanged-returns-in-Left-clause-rows : goal.branch_exchanged-returns-in-Left-clause-rows
+branch_exchanged-returns-in-Left-clause-rows g t c =
+    subst (λ (r : List _). MayHaveRows g.P.Plane.widths c.args.self.now (height_of g.P.Plane.widths c.args.self.now c.args.branch.now.node.0) (exchanged c.args.gap.now r (branch_rows (rows_table c.args.self.now) c.args.branch.now)) c.in-Left.left) (sym (mapped-none (plain_row g.P.Plane.plain) c.args.rows.now c.is_empty.result c.is_empty.ensures c.if-not-is_empty.false)) (subst (IsWhole g.P.Plane.widths c.args.self.now c.args.branch.now c.args.gap.now (map (plain_row g.P.Plane.plain) c.args.out.now.items) (map (plain_row g.P.Plane.plain) c.whole_exchanged.new.out.items)) c.in-Left.is c.in_ok-whole.ensures).0
+
+pub branch_exchanged-returns-in-Left-clause-out : goal.branch_exchanged-returns-in-Left-clause-out
+branch_exchanged-returns-in-Left-clause-out g t c =
+    (subst (IsWhole g.P.Plane.widths c.args.self.now c.args.branch.now c.args.gap.now (map (plain_row g.P.Plane.plain) c.args.out.now.items) (map (plain_row g.P.Plane.plain) c.whole_exchanged.new.out.items)) c.in-Left.is c.in_ok-whole.ensures).1
+
+pub branch_exchanged-returns-in-Parts-clause-grows : goal.branch_exchanged-returns-in-Parts-clause-grows
+branch_exchanged-returns-in-Parts-clause-grows g t c =
+    c.parts_exchanged-in-Parts.ensures.grows
+
+pub branch_exchanged-returns-in-Parts-clause-rows : goal.branch_exchanged-returns-in-Parts-clause-rows
+branch_exchanged-returns-in-Parts-clause-rows g t c =
+    c.parts_exchanged-in-Parts.ensures.rows
+
+pub branch_exchanged-returns-in-Parts-clause-out : goal.branch_exchanged-returns-in-Parts-clause-out
+branch_exchanged-returns-in-Parts-clause-out g t c =
+    subst (λ (r : List _). OnOk c.parts_exchanged-in-Parts.result ((map (plain_row g.P.Plane.plain) c.parts_exchanged-in-Parts.new.out.items) ≡ r ++ taken_out c.args.gap.now.from c.args.gap.now.to (branch_rows (rows_table c.args.self.now) c.args.branch.now))) (subst (IsWhole g.P.Plane.widths c.args.self.now c.args.branch.now c.args.gap.now (map (plain_row g.P.Plane.plain) c.args.out.now.items) (map (plain_row g.P.Plane.plain) c.whole_exchanged.new.out.items)) c.in-Parts.is c.in_ok-whole.ensures) c.parts_exchanged-in-Parts.ensures.out
+
+pub parts_exchanged-node_exchanged-requires : goal.parts_exchanged-node_exchanged-requires
+parts_exchanged-node_exchanged-requires g t c κs within =
+    (omega (arith, c.decreases), (within.0, (within.1, (c.requires.up_to, (at-of_part g.P.Plane.widths c.args.self.now c.args.branch.now c.requires.part, c.requires.right)))))
+
+pub parts_exchanged-returns-in_err-children-clause-grows : goal.parts_exchanged-returns-in_err-children-clause-grows
+parts_exchanged-returns-in_err-children-clause-grows g t c =
+    c.node_exchanged.ensures.grows
+
+pub parts_exchanged-returns-then-is_empty-clause-grows : goal.parts_exchanged-returns-then-is_empty-clause-grows
+parts_exchanged-returns-then-is_empty-clause-grows g t c =
+    c.node_exchanged.ensures.grows
+
+pub parts_exchanged-returns-then-is_empty-clause-rows : goal.parts_exchanged-returns-then-is_empty-clause-rows
+parts_exchanged-returns-then-is_empty-clause-rows g t c =
+    none-left g.P.Plane.plain g.P.Plane.widths c.node_exchanged.new.self (height_of g.P.Plane.widths c.args.self.now c.args.branch.now.node.0) (exchanged c.args.gap.now (map (plain_row g.P.Plane.plain) c.args.rows.now) (branch_rows (rows_table c.args.self.now) c.args.branch.now)) c.in_ok-children.children c.is_empty.result c.in_ok-children.ensures.rows c.is_empty.ensures c.if-is_empty.true
+
+pub parts_exchanged-returns-then-is_empty-clause-out : goal.parts_exchanged-returns-then-is_empty-clause-out
+parts_exchanged-returns-then-is_empty-clause-out g t c =
+    c.in_ok-children.ensures.out
+
+pub parts_exchanged-packed-requires-clause-right : goal.parts_exchanged-packed-requires-clause-right
+parts_exchanged-packed-requires-clause-right g t c =
+    (some-left g.P.Plane.plain g.P.Plane.widths c.node_exchanged.new.self (height_of g.P.Plane.widths c.args.self.now c.args.branch.now.node.0) (exchanged c.args.gap.now (map (plain_row g.P.Plane.plain) c.args.rows.now) (branch_rows (rows_table c.args.self.now) c.args.branch.now)) c.in_ok-children.children c.is_empty.result c.in_ok-children.ensures.rows c.is_empty.ensures c.if-is_empty.false).has.right
+
+pub parts_exchanged-packed-requires-clause-filled : goal.parts_exchanged-packed-requires-clause-filled
+parts_exchanged-packed-requires-clause-filled g t c =
+    (some-left g.P.Plane.plain g.P.Plane.widths c.node_exchanged.new.self (height_of g.P.Plane.widths c.args.self.now c.args.branch.now.node.0) (exchanged c.args.gap.now (map (plain_row g.P.Plane.plain) c.args.rows.now) (branch_rows (rows_table c.args.self.now) c.args.branch.now)) c.in_ok-children.children c.is_empty.result c.in_ok-children.ensures.rows c.is_empty.ensures c.if-is_empty.false).filled
+
+pub parts_exchanged-returns-in_err-branch-clause-grows : goal.parts_exchanged-returns-in_err-branch-clause-grows
+parts_exchanged-returns-in_err-branch-clause-grows g t c =
+    grows-more c.args.self.now c.node_exchanged.new.self c.packed.new.self c.node_exchanged.ensures.grows c.packed.ensures.grows
+
+pub parts_exchanged-returns-clause-grows : goal.parts_exchanged-returns-clause-grows
+parts_exchanged-returns-clause-grows g t c =
+    grows-more c.args.self.now c.node_exchanged.new.self c.packed.new.self c.node_exchanged.ensures.grows c.packed.ensures.grows
+
+pub parts_exchanged-returns-clause-rows : goal.parts_exchanged-returns-clause-rows
+parts_exchanged-returns-clause-rows g t c =
+    packed-has g.P.Plane.widths c.node_exchanged.new.self c.packed.new.self (height_of g.P.Plane.widths c.args.self.now c.args.branch.now.node.0) (exchanged c.args.gap.now (map (plain_row g.P.Plane.plain) c.args.rows.now) (branch_rows (rows_table c.args.self.now) c.args.branch.now)) (shape g.P.Plane.plain c.in_ok-children.children) c.in_ok-branch.branch (some-left g.P.Plane.plain g.P.Plane.widths c.node_exchanged.new.self (height_of g.P.Plane.widths c.args.self.now c.args.branch.now.node.0) (exchanged c.args.gap.now (map (plain_row g.P.Plane.plain) c.args.rows.now) (branch_rows (rows_table c.args.self.now) c.args.branch.now)) c.in_ok-children.children c.is_empty.result c.in_ok-children.ensures.rows c.is_empty.ensures c.if-is_empty.false).has c.in_ok-branch.ensures.packed
+
+pub parts_exchanged-returns-clause-out : goal.parts_exchanged-returns-clause-out
+parts_exchanged-returns-clause-out g t c =
+    c.in_ok-children.ensures.out
+
+pub branches_exchanged-split_at-requires : goal.branches_exchanged-split_at-requires
+branches_exchanged-split_at-requires g t c =
+    omega (arith, c.chosen-at.ensures.there)
+
+pub branches_exchanged-split_at-requires-2 : goal.branches_exchanged-split_at-requires-2
+branches_exchanged-split_at-requires-2 g t c =
+    omega (arith, c.chosen-at.ensures.there)
+
+pub branches_exchanged-returns-in_err-made-clause-grows : goal.branches_exchanged-returns-in_err-made-clause-grows
+branches_exchanged-returns-in_err-made-clause-grows g t c =
+    grows-same c.args.self.now
+
+pub branches_exchanged-branch_exchanged-requires : goal.branches_exchanged-branch_exchanged-requires
+branches_exchanged-branch_exchanged-requires g t c κs within =
+    let at : BranchesAt g.P.Plane.widths c.args.gap.now (map (plain_row g.P.Plane.plain) c.args.rows.now) c.args.self.now c.args.branches.now c.chosen-at.result c.index-branches-at.result = record { up_to = c.requires.up_to; node = c.requires.node; right = c.requires.right; chosen = c.chosen-at.ensures; is = c.index-branches-at.is } in
+    let lower = item-right (λ branch. branch.node.0 < c.args.below.0) c.args.branches.now c.chosen-at.result c.index-branches-at.result c.chosen-at.ensures.there c.index-branches-at.is c.requires.named in
+    (omega (arith, lower, c.decreases), (within.0, (within.1, (c.requires.up_to, (chosen-part g.P.Plane.widths c.args.gap.now (map (plain_row g.P.Plane.plain) c.args.rows.now) c.args.self.now c.args.branches.now c.chosen-at.result c.index-branches-at.result at, chosen-right g.P.Plane.widths c.args.gap.now (map (plain_row g.P.Plane.plain) c.args.rows.now) c.args.self.now c.args.branches.now c.chosen-at.result c.index-branches-at.result at)))))
+
+pub branches_exchanged-returns-in_err-branch-clause-grows : goal.branches_exchanged-returns-in_err-branch-clause-grows
+branches_exchanged-returns-in_err-branch-clause-grows g t c =
+    c.branch_exchanged.ensures.grows
+
+pub branches_exchanged-returns-in_err-append_branch-clause-grows : goal.branches_exchanged-returns-in_err-append_branch-clause-grows
+branches_exchanged-returns-in_err-append_branch-clause-grows g t c =
+    c.branch_exchanged.ensures.grows
+
+pub branches_exchanged-rest_exchanged-requires : goal.branches_exchanged-rest_exchanged-requires
+branches_exchanged-rest_exchanged-requires g t c κs within =
+    let at : BranchesAt g.P.Plane.widths c.args.gap.now (map (plain_row g.P.Plane.plain) c.args.rows.now) c.args.self.now c.args.branches.now c.chosen-at.result c.index-branches-at.result = record { up_to = c.requires.up_to; node = c.requires.node; right = c.requires.right; chosen = c.chosen-at.ensures; is = c.index-branches-at.is } in
+    let ready = chosen-rest g.P.Plane.widths c.args.gap.now (map (plain_row g.P.Plane.plain) c.args.rows.now) c.args.self.now c.branch_exchanged.new.self c.args.below.0 c.args.branches.now c.chosen-at.result c.index-branches-at.result c.split_at-2.result.1.now at c.branch_exchanged.ensures.grows c.requires.named c.split_at-2.ensures.back in
+    (omega (arith, c.decreases), (within.0, (within.1, (c.requires.up_to, (ready.named, (ready.parts, (ready.past, ready.right)))))))
+
+pub branches_exchanged-returns-in_err-rest_exchanged-clause-grows : goal.branches_exchanged-returns-in_err-rest_exchanged-clause-grows
+branches_exchanged-returns-in_err-rest_exchanged-clause-grows g t c =
+    grows-more c.args.self.now c.branch_exchanged.new.self c.rest_exchanged.new.self c.branch_exchanged.ensures.grows c.rest_exchanged.ensures.grows
+
+pub branches_exchanged-returns-clause-grows : goal.branches_exchanged-returns-clause-grows
+branches_exchanged-returns-clause-grows g t c =
+    grows-more c.args.self.now c.branch_exchanged.new.self c.rest_exchanged.new.self c.branch_exchanged.ensures.grows c.rest_exchanged.ensures.grows
+
+pub branches_exchanged-returns-clause-rows : goal.branches_exchanged-returns-clause-rows
+branches_exchanged-returns-clause-rows g t c =
+    branches-made g.P.Plane.widths c.args.gap.now (map (plain_row g.P.Plane.plain) c.args.rows.now) c.args.self.now c.branch_exchanged.new.self c.rest_exchanged.new.self c.args.branches.now c.chosen-at.result c.index-branches-at.result c.split_at-2.result.1.now c.in_ok-made.made.items c.append_branch.new.into.items c.rest_exchanged.new.made.items c.in_ok-branch.branch
+    record { up_to = c.requires.up_to; node = c.requires.node; right = c.requires.right; chosen = c.chosen-at.ensures; is = c.index-branches-at.is } record {
+      grows = c.branch_exchanged.ensures.grows;
+      later = c.rest_exchanged.ensures.grows;
+      front_is = c.in_ok-made.ensures ∙ c.split_at.ensures.front;
+      rest_is = c.split_at-2.ensures.back;
+      has = c.in_ok-branch.ensures.rows;
+      made_is = c.in_ok-append_branch.ensures;
+      appends = c.in_ok-rest_exchanged.ensures.rows;
+    }
+
+pub branches_exchanged-returns-clause-out : goal.branches_exchanged-returns-clause-out
+branches_exchanged-returns-clause-out g t c =
+    branches-taken g.P.Plane.widths c.args.gap.now (map (plain_row g.P.Plane.plain) c.args.rows.now) c.args.self.now c.branch_exchanged.new.self c.args.branches.now c.chosen-at.result c.index-branches-at.result c.split_at-2.result.1.now (map (plain_row g.P.Plane.plain) c.args.out.now.items) (map (plain_row g.P.Plane.plain) c.branch_exchanged.new.out.items) (map (plain_row g.P.Plane.plain) c.rest_exchanged.new.out.items)
+    record { up_to = c.requires.up_to; node = c.requires.node; right = c.requires.right; chosen = c.chosen-at.ensures; is = c.index-branches-at.is } c.branch_exchanged.ensures.grows c.split_at-2.ensures.back c.in_ok-branch.ensures.out c.in_ok-rest_exchanged.ensures.out
+
+pub node_exchanged-opened-requires : goal.node_exchanged-opened-requires
+node_exchanged-opened-requires g t c =
+    c.requires.at
+
+pub node_exchanged-returns-in_err-children-clause-grows : goal.node_exchanged-returns-in_err-children-clause-grows
+node_exchanged-returns-in_err-children-clause-grows g t c =
+    grows-same c.args.self.now
+
+pub node_exchanged-rows_exchanged-requires-clause-up_to : goal.node_exchanged-rows_exchanged-requires-clause-up_to
+node_exchanged-rows_exchanged-requires-clause-up_to g t c =
+    c.requires.up_to
+
+pub node_exchanged-rows_exchanged-requires-clause-old_right : goal.node_exchanged-rows_exchanged-requires-clause-old_right
+node_exchanged-rows_exchanged-requires-clause-old_right g t c =
+    let opened = (opened-bottom g.P.Plane.plain g.P.Plane.widths c.args.self.now c.args.node.0 c.args.first.now c.args.second.now c.in_ok-children.children c.in-Bottom.old c.as_slice.result.now c.in_ok-children.ensures c.in-Bottom.is c.as_slice.ensures) in record { each = opened.right.rows; ordered = opened.right.ordered }
+
+pub node_exchanged-rows_exchanged-requires-clause-right : goal.node_exchanged-rows_exchanged-requires-clause-right
+node_exchanged-rows_exchanged-requires-clause-right g t c =
+    (right-opened g.P.Plane.widths c.args.self.now c.args.node.0 c.args.first.now c.args.second.now (Rows (map (plain_row g.P.Plane.plain) c.as_slice.result.now)) c.args.gap.now (map (plain_row g.P.Plane.plain) c.args.rows.now) (opened-bottom g.P.Plane.plain g.P.Plane.widths c.args.self.now c.args.node.0 c.args.first.now c.args.second.now c.in_ok-children.children c.in-Bottom.old c.as_slice.result.now c.in_ok-children.ensures c.in-Bottom.is c.as_slice.ensures) c.requires.right).each
+
+pub node_exchanged-returns-in_err-made-in-Bottom-clause-grows : goal.node_exchanged-returns-in_err-made-in-Bottom-clause-grows
+node_exchanged-returns-in_err-made-in-Bottom-clause-grows g t c =
+    grows-same c.args.self.now
+
+pub node_exchanged-branches_exchanged-requires : goal.node_exchanged-branches_exchanged-requires
+node_exchanged-branches_exchanged-requires g t c κs within =
+    let opened = (opened-inner g.P.Plane.plain g.P.Plane.widths c.args.self.now c.args.node.0 c.args.first.now c.args.second.now c.in_ok-children.children c.in-Inner.branches c.as_slice-in-Inner.result.now c.in_ok-children.ensures c.in-Inner.is c.as_slice-in-Inner.ensures) in
+    (omega (arith, c.decreases), (within.0, (within.1, (c.requires.up_to, (opened.named, (opened.right, right-opened g.P.Plane.widths c.args.self.now c.args.node.0 c.args.first.now c.args.second.now (Branches c.as_slice-in-Inner.result.now) c.args.gap.now (map (plain_row g.P.Plane.plain) c.args.rows.now) opened c.requires.right))))))
+
+pub node_exchanged-returns-in_err-made-in-Inner-clause-grows : goal.node_exchanged-returns-in_err-made-in-Inner-clause-grows
+node_exchanged-returns-in_err-made-in-Inner-clause-grows g t c =
+    c.branches_exchanged.ensures.grows
+
+pub node_exchanged-returns-in_ok-made-in-Bottom-clause-grows : goal.node_exchanged-returns-in_ok-made-in-Bottom-clause-grows
+node_exchanged-returns-in_ok-made-in-Bottom-clause-grows g t c =
+    grows-same c.args.self.now
+
+pub node_exchanged-returns-in_ok-made-in-Bottom-clause-rows : goal.node_exchanged-returns-in_ok-made-in-Bottom-clause-rows
+node_exchanged-returns-in_ok-made-in-Bottom-clause-rows g t c =
+    bottom-exchanged g.P.Plane.widths c.args.self.now c.args.node.0 c.args.first.now c.args.second.now c.args.gap.now (map (plain_row g.P.Plane.plain) c.args.rows.now) (map (plain_row g.P.Plane.plain) c.as_slice.result.now) (map (plain_row g.P.Plane.plain) c.in_ok-made-in-Bottom.made.items) (opened-bottom g.P.Plane.plain g.P.Plane.widths c.args.self.now c.args.node.0 c.args.first.now c.args.second.now c.in_ok-children.children c.in-Bottom.old c.as_slice.result.now c.in_ok-children.ensures c.in-Bottom.is c.as_slice.ensures) c.requires.right c.in_ok-made-in-Bottom.ensures.rows
+
+pub node_exchanged-returns-in_ok-made-in-Bottom-clause-out : goal.node_exchanged-returns-in_ok-made-in-Bottom-clause-out
+node_exchanged-returns-in_ok-made-in-Bottom-clause-out g t c =
+    taken-opened g.P.Plane.widths c.args.self.now c.args.node.0 c.args.first.now c.args.second.now (Rows (map (plain_row g.P.Plane.plain) c.as_slice.result.now)) c.args.gap.now (map (plain_row g.P.Plane.plain) c.args.out.now.items) (map (plain_row g.P.Plane.plain) c.rows_exchanged.new.out.items) (opened-bottom g.P.Plane.plain g.P.Plane.widths c.args.self.now c.args.node.0 c.args.first.now c.args.second.now c.in_ok-children.children c.in-Bottom.old c.as_slice.result.now c.in_ok-children.ensures c.in-Bottom.is c.as_slice.ensures) c.in_ok-made-in-Bottom.ensures.out
+
+pub node_exchanged-returns-in_ok-made-in-Inner-clause-grows : goal.node_exchanged-returns-in_ok-made-in-Inner-clause-grows
+node_exchanged-returns-in_ok-made-in-Inner-clause-grows g t c =
+    c.branches_exchanged.ensures.grows
+
+pub node_exchanged-returns-in_ok-made-in-Inner-clause-rows : goal.node_exchanged-returns-in_ok-made-in-Inner-clause-rows
+node_exchanged-returns-in_ok-made-in-Inner-clause-rows g t c =
+    inner-exchanged g.P.Plane.widths c.args.self.now c.branches_exchanged.new.self c.args.node.0 c.args.first.now c.args.second.now c.args.gap.now (map (plain_row g.P.Plane.plain) c.args.rows.now) c.as_slice-in-Inner.result.now c.in_ok-made-in-Inner.made.items (opened-inner g.P.Plane.plain g.P.Plane.widths c.args.self.now c.args.node.0 c.args.first.now c.args.second.now c.in_ok-children.children c.in-Inner.branches c.as_slice-in-Inner.result.now c.in_ok-children.ensures c.in-Inner.is c.as_slice-in-Inner.ensures) c.requires.right c.in_ok-made-in-Inner.ensures.rows
+
+pub node_exchanged-returns-in_ok-made-in-Inner-clause-out : goal.node_exchanged-returns-in_ok-made-in-Inner-clause-out
+node_exchanged-returns-in_ok-made-in-Inner-clause-out g t c =
+    taken-opened g.P.Plane.widths c.args.self.now c.args.node.0 c.args.first.now c.args.second.now (Branches c.as_slice-in-Inner.result.now) c.args.gap.now (map (plain_row g.P.Plane.plain) c.args.out.now.items) (map (plain_row g.P.Plane.plain) c.branches_exchanged.new.out.items) (opened-inner g.P.Plane.plain g.P.Plane.widths c.args.self.now c.args.node.0 c.args.first.now c.args.second.now c.in_ok-children.children c.in-Inner.branches c.as_slice-in-Inner.result.now c.in_ok-children.ensures c.in-Inner.is c.as_slice-in-Inner.ensures) c.in_ok-made-in-Inner.ensures.out
+
+pub rest_exchanged-loop-branch-init : goal.rest_exchanged-loop-branch-init
+rest_exchanged-loop-branch-init g t c =
+    rest-start g.P.Plane.widths c.args.gap.now c.args.self.now c.args.branches.now c.args.made.now.items (map (plain_row g.P.Plane.plain) c.args.out.now.items)
+
+pub rest_exchanged-branch_exchanged-requires : goal.rest_exchanged-branch_exchanged-requires
+rest_exchanged-branch_exchanged-requires g t c κs within =
+    let at : RestAt g.P.Plane.widths c.args.gap.now c.args.self.now c.loop-branch.self c.args.branches.now c.loop-branch.branch-index c.branch-item.result = record { grows = c.loop-branch.invariant.grows; lt = c.loop-branch-test.true; is = c.branch-item.is; parts = c.requires.parts; past = c.requires.past; right = c.requires.right } in
+    let lower = item-right (λ branch. branch.node.0 < c.args.below.0) c.args.branches.now c.loop-branch.branch-index c.branch-item.result c.loop-branch-test.true c.branch-item.is c.requires.named in
+    (omega (arith, lower, c.decreases), (within.0, (within.1, (c.requires.up_to, (rest-part g.P.Plane.widths c.args.gap.now c.args.self.now c.loop-branch.self c.args.branches.now c.loop-branch.branch-index c.branch-item.result at, rest-right g.P.Plane.widths c.args.gap.now c.args.self.now c.loop-branch.self c.args.branches.now c.loop-branch.branch-index c.branch-item.result (map (plain_row g.P.Plane.plain) c.as_slice.result.now) (ap (map (plain_row g.P.Plane.plain)) (c.as_slice.ensures ∙ c.new-none.ensures.items)) at)))))
+
+pub rest_exchanged-returns-in_err-branch-clause-grows : goal.rest_exchanged-returns-in_err-branch-clause-grows
+rest_exchanged-returns-in_err-branch-clause-grows g t c =
+    grows-more c.args.self.now c.loop-branch.self c.branch_exchanged.new.self c.loop-branch.invariant.grows c.branch_exchanged.ensures.grows
+
+pub rest_exchanged-returns-in_err-append_branch-clause-grows : goal.rest_exchanged-returns-in_err-append_branch-clause-grows
+rest_exchanged-returns-in_err-append_branch-clause-grows g t c =
+    grows-more c.args.self.now c.loop-branch.self c.branch_exchanged.new.self c.loop-branch.invariant.grows c.branch_exchanged.ensures.grows
+
+pub rest_exchanged-loop-branch-preserved : goal.rest_exchanged-loop-branch-preserved
+rest_exchanged-loop-branch-preserved g t c =
+    rest-more g.P.Plane.widths c.args.gap.now c.args.self.now c.loop-branch.self c.branch_exchanged.new.self c.args.branches.now c.loop-branch.branch-index c.branch-item.result c.args.made.now.items c.loop-branch.made.items c.append_branch.new.into.items (map (plain_row g.P.Plane.plain) c.as_slice.result.now) (map (plain_row g.P.Plane.plain) c.args.out.now.items) (map (plain_row g.P.Plane.plain) c.loop-branch.out.items) (map (plain_row g.P.Plane.plain) c.branch_exchanged.new.out.items) c.in_ok-branch.branch
+    (ap (map (plain_row g.P.Plane.plain)) (c.as_slice.ensures ∙ c.new-none.ensures.items)) record { grows = c.loop-branch.invariant.grows; lt = c.loop-branch-test.true; is = c.branch-item.is; parts = c.requires.parts; past = c.requires.past; right = c.requires.right } c.loop-branch.invariant c.branch_exchanged.ensures.grows c.in_ok-branch.ensures.rows c.in_ok-append_branch.ensures c.in_ok-branch.ensures.out
+
+pub rest_exchanged-returns-clause-grows : goal.rest_exchanged-returns-clause-grows
+rest_exchanged-returns-clause-grows g t c =
+    c.loop-branch.invariant.grows
+
+pub rest_exchanged-returns-clause-rows : goal.rest_exchanged-returns-clause-rows
+rest_exchanged-returns-clause-rows g t c =
+    (rest-all g.P.Plane.widths c.args.gap.now c.args.self.now c.loop-branch.self c.args.branches.now c.loop-branch.branch-index c.args.made.now.items c.loop-branch.made.items (map (plain_row g.P.Plane.plain) c.args.out.now.items) (map (plain_row g.P.Plane.plain) c.loop-branch.out.items) c.loop-branch-test.false c.loop-branch.invariant).0
+
+pub rest_exchanged-returns-clause-out : goal.rest_exchanged-returns-clause-out
+rest_exchanged-returns-clause-out g t c =
+    (rest-all g.P.Plane.widths c.args.gap.now c.args.self.now c.loop-branch.self c.args.branches.now c.loop-branch.branch-index c.args.made.now.items c.loop-branch.made.items (map (plain_row g.P.Plane.plain) c.args.out.now.items) (map (plain_row g.P.Plane.plain) c.loop-branch.out.items) c.loop-branch-test.false c.loop-branch.invariant).1

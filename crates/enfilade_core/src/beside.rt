@@ -1,0 +1,106 @@
+//! Where a branch stands beside a gap, and branches that move as a whole.
+ghost use Rattle.std.specs.Prelude.{◌≡◌, ◌≢◌, [], All, IfSome};
+ghost use Rattle.enfilade_core.specs.Rows.{branch_rows, rows_table};
+ghost use Rattle.enfilade_core.specs.Axes.{InOrder, IsRightRow};
+ghost use Rattle.enfilade_core.specs.Right.{IsRightPart};
+ghost use Rattle.enfilade_core.specs.Summary.{height_of};
+ghost use Rattle.enfilade_core.specs.Following.{first_place, last_place};
+ghost use Rattle.enfilade_core.specs.Edits.{shifted};
+ghost use Rattle.enfilade_core.specs.Exchange.{IsBeside, BranchHasRows};
+ghost use Rattle.enfilade_core.specs.declared.beside.Beside.TheVariants.{Past as AllPast};
+
+use crate::arena::Arena;
+use crate::gap::Gap;
+use crate::plane::Plane;
+use crate::tree::Branch;
+use tumbler::Tumbler;
+
+/// Where the rows of a branch stand, beside a gap.
+#[derive(Clone, Copy, Debug, PartialEq, Eq)]
+pub enum Beside {
+    /// All before the gap.
+    Before,
+    /// All in it.
+    Within,
+    /// All behind it.
+    Past,
+    /// Some here and some there.
+    Across,
+}
+
+impl<P: Plane> Arena<P> {
+    /// Where the first row of a branch stands on the first axis.
+    pub(crate) fn first_of(&self, branch: &Branch) -> Tumbler
+        requires part { IsRightPart P.widths self.now branch.now }
+        ensures value { result ≡ first_place (branch_rows (rows_table self.now) branch.now) }
+        ensures some { branch_rows (rows_table self.now) branch.now ≢ [] }
+        ensures ordered { InOrder (branch_rows (rows_table self.now) branch.now) }
+    {
+        let summary = self.summary(branch.node);
+        branch.first.add(&summary.first)
+    }
+
+    /// Where the last row of a branch stands on the first axis.
+    pub(crate) fn last_of(&self, branch: &Branch) -> Tumbler
+        requires part { IsRightPart P.widths self.now branch.now }
+        ensures value { result ≡ last_place (branch_rows (rows_table self.now) branch.now) }
+        ensures some { branch_rows (rows_table self.now) branch.now ≢ [] }
+        ensures ordered { InOrder (branch_rows (rows_table self.now) branch.now) }
+    {
+        let summary = self.summary(branch.node);
+        branch.first.add(&summary.last)
+    }
+
+    /// Where the rows of a branch stand, beside a gap: by its first and its last row.
+    pub(crate) fn beside(&self, branch: &Branch, gap: &Gap) -> Beside
+        requires part { IsRightPart P.widths self.now branch.now }
+        ensures { IsBeside gap.now (branch_rows (rows_table self.now) branch.now) result }
+    {
+        let last = self.last_of(branch);
+        if last.is_before(&gap.from) {
+            return Beside::Before;
+        }
+        let first = self.first_of(branch);
+        if !first.is_before(&gap.to) {
+            return Beside::Past;
+        }
+        if first.is_before(&gap.from) {
+            return Beside::Across;
+        }
+        if last.is_before(&gap.to) {
+            return Beside::Within;
+        }
+        Beside::Across
+    }
+
+    /// The branch with all its rows moved as those behind a gap are, by its displacement alone, if its
+    /// origin is behind the gap and all below has room where it comes to stand.
+    pub(crate) fn moved_whole(&self, branch: &Branch, gap: &Gap) -> Option<Branch>
+        requires part { IsRightPart P.widths self.now branch.now }
+        requires rows { All (IsRightRow P.widths) (shifted gap.now.to gap.now.onto (branch_rows (rows_table self.now) branch.now)) }
+        requires past { IsBeside gap.now (branch_rows (rows_table self.now) branch.now) AllPast }
+        ensures { IfSome result (λ made. BranchHasRows P.widths self.now (height_of P.widths self.now branch.now.node.0) (shifted gap.now.to gap.now.onto (branch_rows (rows_table self.now) branch.now)) made) }
+    {
+        if branch.first.is_before(&gap.to) {
+            return None;
+        }
+        let ahead = branch.first.minus(&gap.to);
+        if !gap.onto.fits(&ahead) {
+            return None;
+        }
+        let first = gap.onto.add(&ahead);
+        let _first = first.places();
+        let _second = branch.second.places();
+        let summary = self.summary(branch.node);
+        if !first.has_room(&summary.along_first.reach) {
+            return None;
+        }
+        Some(Branch {
+            node: branch.node,
+            first,
+            second: branch.second.copy(),
+            first_extent: branch.first_extent.copy(),
+            second_extent: branch.second_extent.copy(),
+        })
+    }
+}

@@ -1,0 +1,318 @@
+//! What stands in a gap of a tree is exchanged.
+ghost use Rattle.std.specs.Prelude.{ℕ, List as ListOf, ◌≡◌, ◌≢◌, ◌+◌, ◌<◌, ◌≤◌, [], ◌∷◌, ◌++◌, map, drop, take, length, All, IsTrue, IfOk, IfSome, IfNone, OnOk, false, true};
+ghost use Rattle.tumbler.specs.Places.{IsUpTo, IsTumbler, comes_before};
+ghost use Rattle.enfilade_core.specs.Rows.{Rows, Branches, moved, branch_rows, rows_in, rows_table, rows_of};
+ghost use Rattle.enfilade_core.specs.Axes.{IsRightRow, IsRightRows, InOrder};
+ghost use Rattle.enfilade_core.specs.Right.{IsRight, IsRightPart, NamesBelow};
+ghost use Rattle.enfilade_core.specs.Summary.{height_of};
+ghost use Rattle.enfilade_core.specs.Plain.{shape, plain_row};
+ghost use Rattle.enfilade_core.specs.Edits.{taken_out, shift_place, shift_row, shifted, is_within, KeepsRows};
+ghost use Rattle.enfilade_core.specs.Exchange.{exchanged, rows_before, rows_past, IsRightAt, height_in, Grows, HasRows, BranchesHaveRows, MayHaveRows, MayHaveChildren, BranchHasRows, IsBeside, IsChosen, branches_if, IsWhole, LevelRows, AppendsRows};
+
+use crate::arena::Arena;
+use crate::beside::Beside;
+use crate::gap::Gap;
+use crate::plane::Plane;
+use crate::tree::{Branch, Children, Node, Row};
+use std::alloc::Global;
+use tumbler::{List, Memory, Tumbler};
+
+/// What comes of a branch where no new rows come in.
+#[derive(Drop)]
+enum Whole {
+    /// All its rows stand on one side of the gap, and this is left of it.
+    Left(Option<Branch>),
+    /// It has to be taken apart.
+    Parts,
+}
+
+/// How many rows come before a place.
+fn count_before<L>(rows: &[Row<L>], at: &Tumbler) -> usize
+    ensures { result ≡ length (rows_before at.now rows.now) }
+{
+    rows.iter().filter(|row| row.first.is_before(at)).count()
+}
+
+/// Copies of rows go behind others.
+fn append_copies<P: Plane>(
+    alloc: Global,
+    rows: &[Row<P::Leaf>],
+    into: &mut List<Row<P::Leaf>>,
+) -> Result<(), Memory>
+    ensures { OnOk result (map (plain_row P.plain) into.new.items ≡ map (plain_row P.plain) into.old.items ++ map (plain_row P.plain) rows.now) }
+{
+    for row in rows {
+        into.push(Row {
+            first: row.first.copy(),
+            second: row.second.copy(),
+            leaf: P::copy_leaf(alloc, &row.leaf)?,
+        })?;
+    }
+    Ok(())
+}
+
+/// A row behind a gap, where it comes to stand.
+fn row_shifted<P: Plane>(
+    alloc: Global,
+    row: &Row<P::Leaf>,
+    gap: &Gap,
+) -> Result<Row<P::Leaf>, Memory>
+    requires past { comes_before row.now.first gap.now.to ≡ false }
+    requires right { IsTumbler (shift_place gap.now.to gap.now.onto row.now.first) }
+    ensures { IfOk result (λ made. plain_row P.plain made ≡ shift_row gap.now.to gap.now.onto (plain_row P.plain row.now)) }
+{
+    let distance = row.first.minus(&gap.to);
+    Ok(Row {
+        first: gap.onto.add(&distance),
+        second: row.second.copy(),
+        leaf: P::copy_leaf(alloc, &row.leaf)?,
+    })
+}
+
+/// Rows behind a gap go behind others, where they come to stand.
+fn append_shifted<P: Plane>(
+    alloc: Global,
+    rows: &[Row<P::Leaf>],
+    gap: &Gap,
+    into: &mut List<Row<P::Leaf>>,
+) -> Result<(), Memory>
+    requires past { All (λ row. comes_before row.first gap.now.to ≡ false) (map (plain_row P.plain) rows.now) }
+    requires right { All (IsRightRow P.widths) (shifted gap.now.to gap.now.onto (map (plain_row P.plain) rows.now)) }
+    ensures { OnOk result (map (plain_row P.plain) into.new.items ≡ map (plain_row P.plain) into.old.items ++ shifted gap.now.to gap.now.onto (map (plain_row P.plain) rows.now)) }
+{
+    for row in rows {
+        into.push(row_shifted::<P>(alloc, row, gap)?)?;
+    }
+    Ok(())
+}
+
+/// Rows of a bottom node, with those in the gap exchanged. What was taken out goes behind `out`.
+fn rows_exchanged<P: Plane>(
+    alloc: Global,
+    old: &[Row<P::Leaf>],
+    gap: &Gap,
+    rows: &[Row<P::Leaf>],
+    out: &mut List<Row<P::Leaf>>,
+) -> Result<List<Row<P::Leaf>>, Memory>
+    requires up_to { IsUpTo gap.now.from gap.now.to }
+    requires old_right { IsRightRows P.widths (map (plain_row P.plain) old.now) }
+    requires right { All (IsRightRow P.widths) (exchanged gap.now (map (plain_row P.plain) rows.now) (map (plain_row P.plain) old.now)) }
+    ensures rows { IfOk result (λ made. map (plain_row P.plain) made.items ≡ exchanged gap.now (map (plain_row P.plain) rows.now) (map (plain_row P.plain) old.now)) }
+    ensures out { OnOk result (map (plain_row P.plain) out.new.items ≡ map (plain_row P.plain) out.old.items ++ taken_out gap.now.from gap.now.to (map (plain_row P.plain) old.now)) }
+{
+    let (before, _) = old.split_at(count_before(old, &gap.from));
+    let (up_to, past) = old.split_at(count_before(old, &gap.to));
+    let (_, within) = up_to.split_at(before.len());
+    let mut made = List::new(alloc);
+    append_copies::<P>(alloc, before, &mut made)?;
+    append_copies::<P>(alloc, rows, &mut made)?;
+    append_copies::<P>(alloc, within, out)?;
+    append_shifted::<P>(alloc, past, gap, &mut made)?;
+    Ok(made)
+}
+
+/// Copies of branches.
+fn branches_copied(alloc: Global, branches: &[Branch]) -> Result<List<Branch>, Memory>
+    ensures { IfOk result (λ made. made.items ≡ branches.now) }
+{
+    let mut made = List::new(alloc);
+    for branch in branches {
+        made.push(branch.copy())?;
+    }
+    Ok(made)
+}
+
+/// A branch, if there is one, goes behind others.
+fn append_branch(branch: Option<Branch>, into: &mut List<Branch>) -> Result<(), Memory>
+    ensures { OnOk result (into.new.items ≡ into.old.items ++ branches_if branch) }
+{
+    match branch {
+        Some(branch) => into.push(branch),
+        None => Ok(()),
+    }
+}
+
+impl<P: Plane> Arena<P> {
+    /// The last branch that has a row before a place, or the first one: new rows go in there.
+    fn chosen(&self, branches: &[Branch], at: &Tumbler) -> usize
+        requires right { IsRight P.widths self.now (Branches branches.now) }
+        ensures { IsChosen self.now branches.now at.now result }
+    {
+        for k in 1..branches.len() {
+            if !self.first_of(&branches[k]).is_before(at) {
+                return k - 1;
+            }
+        }
+        branches.len() - 1
+    }
+
+    /// What comes of a branch as a whole, by where its rows stand beside a gap.
+    fn whole_exchanged(
+        &self,
+        branch: &Branch,
+        gap: &Gap,
+        out: &mut List<Row<P::Leaf>>,
+    ) -> Result<Whole, Memory>
+        requires up_to { IsUpTo gap.now.from gap.now.to }
+        requires part { IsRightPart P.widths self.now branch.now }
+        requires right { IsRightRows P.widths (exchanged gap.now [] (branch_rows (rows_table self.now) branch.now)) }
+        ensures { IfOk result (IsWhole P.widths self.now branch.now gap.now (map (plain_row P.plain) out.old.items) (map (plain_row P.plain) out.new.items)) }
+    {
+        match self.beside(branch, gap) {
+            Beside::Before => Ok(Whole::Left(Some(branch.copy()))),
+            Beside::Within => {
+                self.append_rows(branch.node, &branch.first, &branch.second, out)?;
+                Ok(Whole::Left(None))
+            }
+            Beside::Past => match self.moved_whole(branch, gap) {
+                Some(moved) => Ok(Whole::Left(Some(moved))),
+                None => Ok(Whole::Parts),
+            },
+            Beside::Across => Ok(Whole::Parts),
+        }
+    }
+
+    /// A branch, with what stands in a gap exchanged, if any row is left.
+    #[cycle(exchanging)]
+    fn branch_exchanged(
+        &mut self,
+        branch: &Branch,
+        gap: &Gap,
+        rows: &[Row<P::Leaf>],
+        out: &mut List<Row<P::Leaf>>,
+    ) -> Result<Option<Branch>, Memory>
+        requires up_to { IsUpTo gap.now.from gap.now.to }
+        requires part { IsRightPart P.widths self.old branch.now }
+        requires right { IsRightRows P.widths (exchanged gap.now (map (plain_row P.plain) rows.now) (branch_rows (rows_table self.old) branch.now)) }
+        ensures grows { Grows self.old self.new }
+        ensures rows { IfOk result (MayHaveRows P.widths self.new (height_of P.widths self.old branch.now.node.0) (exchanged gap.now (map (plain_row P.plain) rows.now) (branch_rows (rows_table self.old) branch.now))) }
+        ensures out { OnOk result (map (plain_row P.plain) out.new.items ≡ map (plain_row P.plain) out.old.items ++ taken_out gap.now.from gap.now.to (branch_rows (rows_table self.old) branch.now)) }
+    {
+        if !rows.is_empty() {
+            return self.parts_exchanged(branch, gap, rows, out);
+        }
+        let whole = self.whole_exchanged(branch, gap, out)?;
+        match whole {
+            Whole::Left(left) => Ok(left),
+            Whole::Parts => self.parts_exchanged(branch, gap, rows, out),
+        }
+    }
+
+    /// The same, where the branch is taken apart.
+    #[cycle(exchanging)]
+    fn parts_exchanged(
+        &mut self,
+        branch: &Branch,
+        gap: &Gap,
+        rows: &[Row<P::Leaf>],
+        out: &mut List<Row<P::Leaf>>,
+    ) -> Result<Option<Branch>, Memory>
+        requires up_to { IsUpTo gap.now.from gap.now.to }
+        requires part { IsRightPart P.widths self.old branch.now }
+        requires right { IsRightRows P.widths (exchanged gap.now (map (plain_row P.plain) rows.now) (branch_rows (rows_table self.old) branch.now)) }
+        ensures grows { Grows self.old self.new }
+        ensures rows { IfOk result (MayHaveRows P.widths self.new (height_of P.widths self.old branch.now.node.0) (exchanged gap.now (map (plain_row P.plain) rows.now) (branch_rows (rows_table self.old) branch.now))) }
+        ensures out { OnOk result (map (plain_row P.plain) out.new.items ≡ map (plain_row P.plain) out.old.items ++ taken_out gap.now.from gap.now.to (branch_rows (rows_table self.old) branch.now)) }
+    {
+        let children = self.node_exchanged(
+            branch.node,
+            &branch.first,
+            &branch.second,
+            gap,
+            rows,
+            out,
+        )?;
+        if children.is_empty() {
+            return Ok(None);
+        }
+        let branch = self.packed(&children)?;
+        Ok(Some(branch))
+    }
+
+    /// The branches, each with what stands in a gap taken out and what is behind it moved, go behind others.
+    #[cycle(exchanging)]
+    fn rest_exchanged(
+        &mut self,
+        below: Node,
+        branches: &[Branch],
+        gap: &Gap,
+        made: &mut List<Branch>,
+        out: &mut List<Row<P::Leaf>>,
+    ) -> Result<(), Memory>
+        requires up_to { IsUpTo gap.now.from gap.now.to }
+        requires named { All (λ branch. branch.node.0 < below.0) branches.now }
+        requires parts { All (IsRightPart P.widths self.old) branches.now }
+        requires past { All (λ row. comes_before row.first gap.now.from ≡ false) (rows_in (rows_table self.old) (Branches branches.now)) }
+        requires right { IsRightRows P.widths (exchanged gap.now [] (rows_in (rows_table self.old) (Branches branches.now))) }
+        ensures grows { Grows self.old self.new }
+        ensures rows { OnOk result (AppendsRows P.widths self.old self.new branches.now (exchanged gap.now [] (rows_in (rows_table self.old) (Branches branches.now))) made.old.items made.new.items) }
+        ensures out { OnOk result (map (plain_row P.plain) out.new.items ≡ map (plain_row P.plain) out.old.items ++ taken_out gap.now.from gap.now.to (rows_in (rows_table self.old) (Branches branches.now))) }
+    {
+        let none: List<Row<P::Leaf>> = List::new(self.allocator());
+        for branch in branches {
+            let branch = self.branch_exchanged(branch, gap, none.as_slice(), out)?;
+            append_branch(branch, made)?;
+        }
+        Ok(())
+    }
+
+    /// The branches of a node, with what stands in a gap exchanged.
+    #[cycle(exchanging)]
+    fn branches_exchanged(
+        &mut self,
+        below: Node,
+        branches: &[Branch],
+        gap: &Gap,
+        rows: &[Row<P::Leaf>],
+        out: &mut List<Row<P::Leaf>>,
+    ) -> Result<List<Branch>, Memory>
+        requires up_to { IsUpTo gap.now.from gap.now.to }
+        requires named { All (λ branch. branch.node.0 < below.0) branches.now }
+        requires node { IsRight P.widths self.old (Branches branches.now) }
+        requires right { IsRightRows P.widths (exchanged gap.now (map (plain_row P.plain) rows.now) (rows_in (rows_table self.old) (Branches branches.now))) }
+        ensures grows { Grows self.old self.new }
+        ensures rows { IfOk result (λ made. LevelRows P.widths self.old self.new branches.now (exchanged gap.now (map (plain_row P.plain) rows.now) (rows_in (rows_table self.old) (Branches branches.now))) made.items) }
+        ensures out { OnOk result (map (plain_row P.plain) out.new.items ≡ map (plain_row P.plain) out.old.items ++ taken_out gap.now.from gap.now.to (rows_in (rows_table self.old) (Branches branches.now))) }
+    {
+        let at = self.chosen(branches, &gap.from);
+        let (front, _) = branches.split_at(at);
+        let (_, rest) = branches.split_at(at + 1);
+        let mut made = branches_copied(self.allocator(), front)?;
+        let branch = self.branch_exchanged(&branches[at], gap, rows, out)?;
+        append_branch(branch, &mut made)?;
+        self.rest_exchanged(below, rest, gap, &mut made, out)?;
+        Ok(made)
+    }
+
+    /// The children of a node, seen from a base, with what stands in a gap exchanged. An inner node may
+    /// have no children left.
+    #[cycle(exchanging)]
+    pub(crate) fn node_exchanged(
+        &mut self,
+        node: Node,
+        first: &Tumbler,
+        second: &Tumbler,
+        gap: &Gap,
+        rows: &[Row<P::Leaf>],
+        out: &mut List<Row<P::Leaf>>,
+    ) -> Result<Children<P::Leaf>, Memory>
+        requires up_to { IsUpTo gap.now.from gap.now.to }
+        requires at { IsRightAt P.widths self.old node.0 first.now second.now }
+        requires right { IsRightRows P.widths (exchanged gap.now (map (plain_row P.plain) rows.now) (map (moved first.now second.now) (rows_of self.old node.0))) }
+        ensures grows { Grows self.old self.new }
+        ensures rows { IfOk result (λ made. MayHaveChildren P.widths self.new (height_of P.widths self.old node.0) (exchanged gap.now (map (plain_row P.plain) rows.now) (map (moved first.now second.now) (rows_of self.old node.0))) (shape P.plain made)) }
+        ensures out { OnOk result (map (plain_row P.plain) out.new.items ≡ map (plain_row P.plain) out.old.items ++ taken_out gap.now.from gap.now.to (map (moved first.now second.now) (rows_of self.old node.0))) }
+    {
+        let children = self.opened(node, first, second)?;
+        match children {
+            Children::Bottom(old) => {
+                let made = rows_exchanged::<P>(self.allocator(), old.as_slice(), gap, rows, out)?;
+                Ok(Children::Bottom(made))
+            }
+            Children::Inner(branches) => {
+                let made = self.branches_exchanged(node, branches.as_slice(), gap, rows, out)?;
+                Ok(Children::Inner(made))
+            }
+        }
+    }
+}

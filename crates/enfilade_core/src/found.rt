@@ -1,0 +1,111 @@
+//! The last row of a tree that comes before a place.
+ghost use Rattle.std.specs.Prelude.{◌≡◌, ◌<◌, map, length, All, Contains, IfSome, IfNone, Some, None};
+ghost use Rattle.enfilade_core.specs.Rows.{Branches, moved, branch_rows, rows_in, rows_table, rows_of};
+ghost use Rattle.enfilade_core.specs.Axes.{InOrder, IsRightRow};
+ghost use Rattle.enfilade_core.specs.Right.{IsRightPart};
+ghost use Rattle.enfilade_core.specs.Plain.{plain_row, found_row};
+ghost use Rattle.enfilade_core.specs.Edits.{last_before};
+ghost use Rattle.enfilade_core.specs.Exchange.{IsRightAt, branch_at};
+
+use crate::arena::Arena;
+use crate::opening::branch_moved;
+use crate::plane::Plane;
+use crate::tree::{Branch, Children, Node, Row};
+use tumbler::Tumbler;
+
+/// A row of a tree: where it stands, and its leaf.
+#[derive(Drop)]
+pub struct RowAt<'a, L> {
+    /// Where it stands on the first axis, from the tree's origin.
+    pub first: Tumbler,
+    /// Where it stands on the second axis, from the tree's origin.
+    pub second: Tumbler,
+    pub leaf: &'a L,
+}
+
+/// The last of some rows, seen from a base, that comes before a place.
+fn last_row<'a, P: Plane>(
+    rows: &'a [Row<P::Leaf>],
+    first: &Tumbler,
+    second: &Tumbler,
+    at: &Tumbler,
+) -> Option<RowAt<'a, P::Leaf>>
+    requires right { All (IsRightRow P.widths) (map (moved first.now second.now) (map (plain_row P.plain) rows.now)) }
+    requires ordered { InOrder (map (moved first.now second.now) (map (plain_row P.plain) rows.now)) }
+    ensures found { IfSome result (λ found. last_before at.now (map (moved first.now second.now) (map (plain_row P.plain) rows.now)) ≡ Some (found_row P.plain found)) }
+    ensures none { IfNone result (last_before at.now (map (moved first.now second.now) (map (plain_row P.plain) rows.now)) ≡ None) }
+{
+    let mut found = None;
+    for row in rows {
+        let place = first.add(&row.first);
+        if !place.is_before(at) {
+            return found;
+        }
+        found = Some(RowAt {
+            first: place,
+            second: second.add(&row.second),
+            leaf: &row.leaf,
+        });
+    }
+    found
+}
+
+impl<P: Plane> Arena<P> {
+    /// The last of some branches, seen from a base, that has a row before a place.
+    fn last_branch(
+        &self,
+        branches: &[Branch],
+        first: &Tumbler,
+        second: &Tumbler,
+        at: &Tumbler,
+    ) -> Option<Branch>
+        requires parts { All (IsRightPart P.widths self.now) (map (branch_at first.now second.now) branches.now) }
+        requires ordered { InOrder (rows_in (rows_table self.now) (Branches (map (branch_at first.now second.now) branches.now))) }
+        ensures found { IfSome result (λ found. last_before at.now (rows_in (rows_table self.now) (Branches (map (branch_at first.now second.now) branches.now))) ≡ last_before at.now (branch_rows (rows_table self.now) found)) }
+        ensures one { IfSome result (λ found. Contains (map (branch_at first.now second.now) branches.now) found) }
+        ensures none { IfNone result (last_before at.now (rows_in (rows_table self.now) (Branches (map (branch_at first.now second.now) branches.now))) ≡ None) }
+    {
+        let mut found = None;
+        for branch in branches {
+            let branch = branch_moved(branch, first, second);
+            if !self.first_of(&branch).is_before(at) {
+                return found;
+            }
+            found = Some(branch);
+        }
+        found
+    }
+
+    /// The last row below a node, seen from a base, that comes before a place.
+    fn row_below(
+        &self,
+        node: Node,
+        first: &Tumbler,
+        second: &Tumbler,
+        at: &Tumbler,
+    ) -> Option<RowAt<'_, P::Leaf>>
+        requires { IsRightAt P.widths self.now node.0 first.now second.now }
+        ensures found { IfSome result (λ found. last_before at.now (map (moved first.now second.now) (rows_of self.now node.0)) ≡ Some (found_row P.plain found)) }
+        ensures none { IfNone result (last_before at.now (map (moved first.now second.now) (rows_of self.now node.0)) ≡ None) }
+    {
+        let _ = self.allocator();
+        match self.node(node) {
+            Children::Bottom(rows) => last_row::<P>(rows.as_slice(), first, second, at),
+            Children::Inner(branches) => {
+                let branch = self.last_branch(branches.as_slice(), first, second, at)?;
+                self.row_below(branch.node, &branch.first, &branch.second, at)
+            }
+        }
+    }
+
+    /// The last row of a tree that comes before a place on the first axis. It goes down one path, and takes
+    /// no memory.
+    pub fn row_before(&self, root: Node, at: &Tumbler) -> Option<RowAt<'_, P::Leaf>>
+        requires { root.0 < length self.now }
+        ensures found { IfSome result (λ found. last_before at.now (rows_of self.now root.0) ≡ Some (found_row P.plain found)) }
+        ensures none { IfNone result (last_before at.now (rows_of self.now root.0) ≡ None) }
+    {
+        let zero = Tumbler::zero(self.allocator());
+        self.row_below(root, &zero, &zero, at)
+    }
+}

@@ -1,0 +1,112 @@
+//! The children of a node, moved to where they stand from a base.
+ghost use Rattle.std.specs.Prelude.{◌≡◌, map, All, IfOk};
+ghost use Rattle.tumbler.specs.Places.{IsTumbler, sum, Fits};
+ghost use Rattle.enfilade_core.specs.Rows.{moved};
+ghost use Rattle.enfilade_core.specs.Axes.{IsRightRow};
+ghost use Rattle.enfilade_core.specs.Plain.{shape, plain_row};
+ghost use Rattle.enfilade_core.specs.Exchange.{IsRightAt, branch_at, IsOpened};
+
+use crate::arena::Arena;
+use crate::plane::Plane;
+use crate::tree::{Branch, Children, Node, Row};
+use std::alloc::Global;
+use tumbler::{List, Memory, Tumbler};
+
+/// A row, moved on both axes.
+pub(crate) fn row_moved<P: Plane>(
+    alloc: Global,
+    row: &Row<P::Leaf>,
+    first: &Tumbler,
+    second: &Tumbler,
+) -> Result<Row<P::Leaf>, Memory>
+    requires first_fits { Fits first.now row.now.first }
+    requires second_fits { Fits second.now row.now.second }
+    ensures { IfOk result (λ made. plain_row P.plain made ≡ moved first.now second.now (plain_row P.plain row.now)) }
+{
+    Ok(Row {
+        first: first.add(&row.first),
+        second: second.add(&row.second),
+        leaf: P::copy_leaf(alloc, &row.leaf)?,
+    })
+}
+
+/// A branch, moved on both axes.
+pub(crate) fn branch_moved(branch: &Branch, first: &Tumbler, second: &Tumbler) -> Branch
+    requires first_fits { Fits first.now branch.now.first }
+    requires second_fits { Fits second.now branch.now.second }
+    ensures { result ≡ record branch.now { first = sum first.now branch.now.first; second = sum second.now branch.now.second } }
+{
+    Branch {
+        node: branch.node,
+        first: first.add(&branch.first),
+        second: second.add(&branch.second),
+        first_extent: branch.first_extent.copy(),
+        second_extent: branch.second_extent.copy(),
+    }
+}
+
+/// Rows, moved on both axes.
+fn rows_moved<P: Plane>(
+    alloc: Global,
+    rows: &[Row<P::Leaf>],
+    first: &Tumbler,
+    second: &Tumbler,
+) -> Result<List<Row<P::Leaf>>, Memory>
+    requires { All (IsRightRow P.widths) (map (moved first.now second.now) (map (plain_row P.plain) rows.now)) }
+    ensures { IfOk result (λ made. map (plain_row P.plain) made.items ≡ map (moved first.now second.now) (map (plain_row P.plain) rows.now)) }
+{
+    let mut made = List::new(alloc);
+    made.reserve(rows.len())?;
+    for row in rows {
+        made.push_reserved(row_moved::<P>(alloc, row, first, second)?);
+    }
+    Ok(made)
+}
+
+/// Branches, moved on both axes.
+fn branches_moved(
+    alloc: Global,
+    branches: &[Branch],
+    first: &Tumbler,
+    second: &Tumbler,
+) -> Result<List<Branch>, Memory>
+    requires first_origins { All (λ branch. IsTumbler (sum first.now branch.first)) branches.now }
+    requires second_origins { All (λ branch. IsTumbler (sum second.now branch.second)) branches.now }
+    ensures { IfOk result (λ made. made.items ≡ map (branch_at first.now second.now) branches.now) }
+{
+    let mut made = List::new(alloc);
+    made.reserve(branches.len())?;
+    for branch in branches {
+        made.push_reserved(branch_moved(branch, first, second));
+    }
+    Ok(made)
+}
+
+impl<P: Plane> Arena<P> {
+    /// The children of a node, seen from a base.
+    pub(crate) fn opened(
+        &self,
+        node: Node,
+        first: &Tumbler,
+        second: &Tumbler,
+    ) -> Result<Children<P::Leaf>, Memory>
+        requires { IsRightAt P.widths self.now node.0 first.now second.now }
+        ensures { IfOk result (λ made. IsOpened P.widths self.now node.0 first.now second.now (shape P.plain made)) }
+    {
+        match self.node(node) {
+            Children::Bottom(rows) => {
+                let rows = rows_moved::<P>(self.allocator(), rows.as_slice(), first, second)?;
+                Ok(Children::Bottom(rows))
+            }
+            Children::Inner(branches) => {
+                let branches = branches_moved(
+                    self.allocator(),
+                    branches.as_slice(),
+                    first,
+                    second,
+                )?;
+                Ok(Children::Inner(branches))
+            }
+        }
+    }
+}
