@@ -1,0 +1,6 @@
+pub mod Touching
+pub mod Skipping
+pub mod Placing
+pub mod Children
+pub mod Gathering
+pub mod Stopping

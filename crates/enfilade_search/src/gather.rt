@@ -1,0 +1,146 @@
+//! What is sought below a node.
+ghost use Rattle.std.specs.Prelude.{◌≡◌, ◌++◌, ◌∷◌, [], ◌<◌, not, map, length, All, IfOk, OnOk};
+ghost use Rattle.std.specs.List.{filter};
+ghost use Rattle.tumbler.specs.Places.{sum};
+ghost use Rattle.enfilade_core.specs.Rows.{moved, rows_of};
+ghost use Rattle.enfilade_core.specs.Axes.{IsRightRow, InOrder};
+ghost use Rattle.enfilade_core.specs.Plain.{plain_row};
+ghost use Rattle.enfilade_core.specs.Laws.{rows_from};
+ghost use Rattle.enfilade_search.specs.Sought.{is_sought, is_past, FitsAt, ChildFits};
+
+use crate::sought::Sought;
+use enfilade_core::{Arena, Branch, Children, Node, Plane, Row};
+use std::alloc::Global;
+use tumbler::{List, Memory, Tumbler};
+
+/// The row from a base, if it is sought, behind `out`. The answer is whether rows behind it can be sought too.
+fn take_row<P: Plane>(
+    alloc: Global,
+    row: &Row<P::Leaf>,
+    first: &Tumbler,
+    second: &Tumbler,
+    sought: &Sought,
+    out: &mut List<Row<P::Leaf>>,
+) -> Result<bool, Memory>
+    requires own { IsRightRow P.widths (plain_row P.plain row.now) }
+    requires there { IsRightRow P.widths (moved first.now second.now (plain_row P.plain row.now)) }
+    ensures taken { OnOk result (map (plain_row P.plain) out.new.items ≡ map (plain_row P.plain) out.old.items ++ filter (is_sought P.widths sought.now) (moved first.now second.now (plain_row P.plain row.now) ∷ [])) }
+    ensures goes_on { IfOk result (λ more. more ≡ not (is_past sought.now (sum first.now row.now.first))) }
+{
+    let first = first.add(&row.first);
+    if sought.is_past(&first) {
+        return Ok(false);
+    }
+    let second = second.add(&row.second);
+    if !sought.is_met::<P>(row, &first, &second) {
+        return Ok(true);
+    }
+    let leaf = P::copy_leaf(alloc, &row.leaf)?;
+    out.push(Row {
+        first,
+        second,
+        leaf,
+    })?;
+    Ok(true)
+}
+
+/// The rows from a base that are sought, behind `out`.
+fn take_rows<P: Plane>(
+    alloc: Global,
+    rows: &[Row<P::Leaf>],
+    first: &Tumbler,
+    second: &Tumbler,
+    sought: &Sought,
+    out: &mut List<Row<P::Leaf>>,
+) -> Result<(), Memory>
+    requires own { All (IsRightRow P.widths) (map (plain_row P.plain) rows.now) }
+    requires there { All (IsRightRow P.widths) (map (moved first.now second.now) (map (plain_row P.plain) rows.now)) }
+    requires ordered { InOrder (map (moved first.now second.now) (map (plain_row P.plain) rows.now)) }
+    ensures { OnOk result (map (plain_row P.plain) out.new.items ≡ map (plain_row P.plain) out.old.items ++ filter (is_sought P.widths sought.now) (map (moved first.now second.now) (map (plain_row P.plain) rows.now))) }
+{
+    for row in rows {
+        if !take_row::<P>(alloc, row, first, second, sought, out)? {
+            return Ok(());
+        }
+    }
+    Ok(())
+}
+
+/// The rows of a node from a base that are sought, behind `out`.
+#[cycle(below)]
+pub(crate) fn gather<P: Plane>(
+    arena: &Arena<P>,
+    node: Node,
+    first: &Tumbler,
+    second: &Tumbler,
+    sought: &Sought,
+    out: &mut List<Row<P::Leaf>>,
+) -> Result<(), Memory>
+    requires { FitsAt P.widths arena.now node.0 first.now second.now }
+    ensures { OnOk result (map (plain_row P.plain) out.new.items ≡ map (plain_row P.plain) out.old.items ++ filter (is_sought P.widths sought.now) (rows_from arena.now node.0 first.now second.now)) }
+{
+    let alloc = arena.allocator();
+    match arena.node(node) {
+        Children::Bottom(rows) => take_rows::<P>(
+            alloc,
+            rows.as_slice(),
+            first,
+            second,
+            sought,
+            out,
+        ),
+        Children::Inner(branches) => {
+            let children = branches.as_slice();
+            for child in children {
+                if !gather_child(arena, child, first, second, sought, out)? {
+                    return Ok(());
+                }
+            }
+            Ok(())
+        }
+    }
+}
+
+/// The rows of a child that are sought, behind `out`, where its node is seen from a base. The answer is whether
+/// rows behind the child can be sought too.
+#[cycle(below)]
+fn gather_child<P: Plane>(
+    arena: &Arena<P>,
+    child: &Branch,
+    first: &Tumbler,
+    second: &Tumbler,
+    sought: &Sought,
+    out: &mut List<Row<P::Leaf>>,
+) -> Result<bool, Memory>
+    requires { ChildFits P.widths arena.now child.now first.now second.now }
+    ensures gathered { OnOk result (map (plain_row P.plain) out.new.items ≡ map (plain_row P.plain) out.old.items ++ filter (is_sought P.widths sought.now) (rows_from arena.now child.now.node.0 (sum first.now child.now.first) (sum second.now child.now.second))) }
+    ensures goes_on { IfOk result (λ more. more ≡ not (is_past sought.now (sum first.now child.now.first))) }
+{
+    let _alloc = arena.allocator();
+    let first = first.add(&child.first);
+    if sought.is_past(&first) {
+        return Ok(false);
+    }
+    let second = second.add(&child.second);
+    if !sought.can_be_below(child, &first, &second) {
+        return Ok(true);
+    }
+    gather(arena, child.node, &first, &second, sought, out)?;
+    Ok(true)
+}
+
+/// The rows of a tree that are sought.
+pub(crate) fn found<P: Plane>(
+    arena: &Arena<P>,
+    root: Node,
+    sought: &Sought,
+) -> Result<List<Row<P::Leaf>>, Memory>
+    requires { root.0 < length arena.now }
+    ensures { IfOk result (λ made. map (plain_row P.plain) made.items ≡ filter (is_sought P.widths sought.now) (rows_of arena.now root.0)) }
+{
+    let alloc = arena.allocator();
+    let zero = Tumbler::zero(alloc);
+    let mut out = List::new(alloc);
+    gather(arena, root, &zero, &zero, sought, &mut out)?;
+    Ok(out)
+}

@@ -1,0 +1,11 @@
+//! The rows of a tree that stand in a range, or that meet a span.
+#![tactic(auto)]
+
+mod calls;
+mod gather;
+pub mod laws;
+mod sought;
+#[cfg(test)]
+mod tests;
+
+pub use calls::{in_range, meeting, overlapping};
