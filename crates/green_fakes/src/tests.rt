@@ -1,8 +1,10 @@
-//! Pieces and failing calls, as they were asked for.
+//! Pieces, failing calls and images, as they were asked for.
 
-use crate::{MemorySink, MemorySource};
-use febe_data::List;
-use green_io::{ReadAnswer, Sink, Source, WriteAnswer};
+use crate::{MemoryDisk, MemorySink, MemorySource};
+use febe_data::{List, Memory};
+use green_io::{Area, Disk, DiskFailed, ReadAnswer, Sink, Source, WriteAnswer};
+use std::alloc::Global;
+use std::process::Abort;
 use std::test::Fail;
 
 #[test]
@@ -40,5 +42,49 @@ fn failing_writes(rt: HostRuntime) -> Result<(), Fail> {
     }
     assert_eq!(rt; sink.bytes(), b"cdeg".as_slice());
     assert_eq!(rt; sink.faults(), 2);
+    Ok(())
+}
+
+/// A disk after a write, a sync, a write that fails, a cut, and a call that looks.
+fn used_disk(rt: &impl Abort, alloc: Global) -> Result<MemoryDisk, Memory> {
+    let mut disk = MemoryDisk::new(alloc, List::from_slice(alloc, &[3])?);
+    assert_eq!(rt; disk.write(Area::Log, 1, b"ab"), Ok(()));
+    assert_eq!(rt; disk.sync(Area::Log), Ok(()));
+    assert_eq!(rt; disk.write(Area::Log, 0, b"xyz"), Err(DiskFailed));
+    assert_eq!(rt; disk.cut(Area::Log, 1), Ok(()));
+    assert_eq!(rt; disk.length(Area::Log), Ok(1));
+    Ok(disk)
+}
+
+/// What the log of an image is.
+fn check_image(
+    rt: &impl Abort,
+    disk: &MemoryDisk,
+    moment: u64,
+    pick: u64,
+    wanted: &[u8],
+) -> Result<(), Fail> {
+    let image = disk.crash(moment, pick)?;
+    assert_eq!(rt; image.area(Area::Log), wanted);
+    Ok(())
+}
+
+// The bytes that are drawn were computed from the generator's rule.
+#[test]
+fn images(rt: HostRuntime) -> Result<(), Fail> {
+    let disk = used_disk(&rt, rt.alloc())?;
+    for (moment, pick, wanted) in [
+        (0, 0, b"".as_slice()),
+        (1, 0, b"\0ab".as_slice()),
+        (1, 1, b"".as_slice()),
+        (2, 3, b"\0ab".as_slice()),
+        (3, 0, b"\0ab".as_slice()),
+        (3, 2, b"\xb0\x8f\x96".as_slice()),
+        (5, 1, b"\0ab".as_slice()),
+        (9, 0, b"\0".as_slice()),
+        (9, 2, b"\xb0\x8f".as_slice()),
+    ] {
+        check_image(&rt, &disk, moment, pick, wanted)?;
+    }
     Ok(())
 }
