@@ -4,6 +4,7 @@ pub mod Durable
 pub mod Ends
 pub mod Opens
 pub mod Parts
+pub mod Readings
 pub mod Scans
 pub mod Steps
 pub mod Unique

@@ -8,7 +8,7 @@ use Rattle.entry_codec.specs.Laws.{OneBody, BodySaysLength}
 use Rattle.edit_log.specs.Log.{gated, IsEnd}
 
 -- bytes that begin with an open gate and a body are no end
-no_end : BodySaysLength → (entry : PlainEntry) (rest end : List ℕ) → HasBody entry → end ≡ 1 ∷ (body_of entry ++ rest) → IsEnd end → ⊥
+pub no_end : BodySaysLength → (entry : PlainEntry) (rest end : List ℕ) → HasBody entry → end ≡ 1 ∷ (body_of entry ++ rest) → IsEnd end → ⊥
 no_end says entry rest [] has is ends = absurd (omega (arith, ap length is))
 no_end says entry rest (gate ∷ more) has is ends =
     ⊎_elim (λ other. other (head_is gate more is)) (λ none. absurd (none_is none)) ends
@@ -22,10 +22,10 @@ no_end says entry rest (gate ∷ more) has is ends =
     none_is : more ≡ [] → ⊥
     none_is none = absurd (omega (arith, long, ap length none, ap length is, length-append (body_of entry) rest))
 
-tail_of : (x : ℕ) (p q : List ℕ) → x ∷ p ≡ x ∷ q → p ≡ q
+pub tail_of : (x : ℕ) (p q : List ℕ) → x ∷ p ≡ x ∷ q → p ≡ q
 tail_of x p q eq = cc
 
-cancel_one : (m p q : List ℕ) → m ++ p ≡ m ++ q → p ≡ q
+pub cancel_one : (m p q : List ℕ) → m ++ p ≡ m ++ q → p ≡ q
 cancel_one [] p q eq = eq
 cancel_one (x ∷ m) p q eq = cancel_one m p q (tail_of x (m ++ p) (m ++ q) eq)
 

@@ -8,5 +8,6 @@ pub use Rattle.green_io.specs.Outside
 pub mod Answers
 pub mod Images
 pub mod inside
+pub mod Laws
 pub mod Log
 pub mod LogView

@@ -1,6 +1,7 @@
 //! The log of edits on a disk, where each edit stands behind a gate of its own.
 #![tactic(auto)]
 
+pub mod laws;
 mod log;
 mod opening;
 mod pending;

@@ -1,26 +1,11 @@
 //! The writes of a log, each of which is synced before the next begins.
-ghost use Rattle.std.specs.Prelude.{◌≡◌, ◌<◌, ◌≤◌, ◌^◌, ℕ, List, [], ◌∷◌, ◌++◌, length, IsSome, OnOk, OnErr};
-ghost use Rattle.green_io.specs.Disk.{Written, Torn, Changes, LeftBy, LeavesOnly, IsDurable, images_now};
+ghost use Rattle.std.specs.Prelude.{◌≡◌, ◌<◌, ◌≤◌, ◌^◌, ℕ, List, [], ◌∷◌, ◌++◌, length, OnOk, OnErr};
+ghost use Rattle.green_io.specs.Disk.{LeavesOnly};
 ghost use Rattle.green_io.specs.Outside.{HasRisen};
 ghost use Rattle.edit_log.specs.Images.{IsShut, IsAjar, LogImages, InLog};
 ghost use Rattle.edit_log.specs.inside.Ends.{IsLog, HasTornGate, begins_shut};
 
-use green_io::{Area, Disk, DiskFailed};
-
-/// Writes bytes at a place of the log and syncs it.
-#[tactic(auto, using(green_io::proofs::Crash::crash_steps))]
-fn write_log<D: Disk>(disk: &mut D, at: u64, bytes: &[u8]) -> Result<(), DiskFailed>
-    ensures told { IsSome (D.state disk.old).reads → IsSome (D.state disk.new).reads }
-    ensures written { OnOk result (Changes Area.Log (Written at bytes.now) (D.state disk.old).reads (D.state disk.new).reads) }
-    ensures durable { OnOk result (IsDurable Area.Log (D.state disk.new).reads (images_now (D.state disk.new))) }
-    ensures crash { LeavesOnly (D.state disk.old) (D.state disk.new) (LeftBy Area.Log (Torn at (length bytes.now)) (images_now (D.state disk.old))) }
-    ensures never_falls { D.fault_count disk.old ≤ D.fault_count disk.new }
-    ensures failed { OnErr result (HasRisen (D.fault_count disk.old) (D.fault_count disk.new)) }
-{
-    disk.write(Area::Log, at, bytes)?;
-    disk.sync(Area::Log)?;
-    Ok(())
-}
+use green_io::{Area, Disk, DiskFailed, write_and_sync};
 
 /// Puts a body, and the byte 0 behind it, behind the end gate, which stays a stable 0.
 pub(crate) fn stage<D: Disk>(disk: &mut D, end: u64, bytes: &[u8]) -> Result<(), DiskFailed>
@@ -30,7 +15,7 @@ pub(crate) fn stage<D: Disk>(disk: &mut D, end: u64, bytes: &[u8]) -> Result<(),
     ensures never_falls { D.fault_count disk.old ≤ D.fault_count disk.new }
     ensures failed { OnErr result (HasRisen (D.fault_count disk.old) (D.fault_count disk.new)) }
 {
-    write_log(disk, end.saturating_add(1), bytes)
+    write_and_sync(disk, Area::Log, end.saturating_add(1), bytes)
 }
 
 /// Writes 1 to the end gate, behind which one more body and a byte 0 are stable.
@@ -41,7 +26,7 @@ pub(crate) fn open_gate<D: Disk>(disk: &mut D, end: u64) -> Result<(), DiskFaile
     ensures never_falls { D.fault_count disk.old ≤ D.fault_count disk.new }
     ensures failed { OnErr result (HasRisen (D.fault_count disk.old) (D.fault_count disk.new)) }
 {
-    write_log(disk, end, &[1])
+    write_and_sync(disk, Area::Log, end, &[1])
 }
 
 /// Writes 0 to the end gate, behind which one more body and a byte 0 are stable.
@@ -52,7 +37,7 @@ pub(crate) fn close_gate<D: Disk>(disk: &mut D, end: u64) -> Result<(), DiskFail
     ensures never_falls { D.fault_count disk.old ≤ D.fault_count disk.new }
     ensures failed { OnErr result (HasRisen (D.fault_count disk.old) (D.fault_count disk.new)) }
 {
-    write_log(disk, end, &[0])
+    write_and_sync(disk, Area::Log, end, &[0])
 }
 
 /// Whether a gate stands there, and is 0.
@@ -76,5 +61,5 @@ pub(crate) fn close_end<D: Disk>(disk: &mut D, at: u64, end: &[u8]) -> Result<()
     if is_closed(end) {
         return Ok(());
     }
-    write_log(disk, at, &[0])
+    write_and_sync(disk, Area::Log, at, &[0])
 }

@@ -17,12 +17,12 @@ returns-then-is_closed-clause-closed g c front images = record {
 
 pub returns-clause-any_moment : goal.returns-clause-any_moment
 returns-clause-any_moment g c front images =
-    torn_images _ _ _ _ _ front (IsLog (front ++ c.args.end.now)) (HasTornGate front c.args.end.now) images c.write_log.ensures.crash
+    torn_images _ _ _ _ _ front (IsLog (front ++ c.args.end.now)) (HasTornGate front c.args.end.now) images c.write_and_sync.ensures.crash
     (λ old new was torn. torn_at_end front c.args.end.now old new (sym c.is_closed.ensures ∙ c.if-is_closed.false) was (subst (λ at. Torn at 1 old new) images.at_end torn))
 
 pub returns-clause-closed : goal.returns-clause-closed
 returns-clause-closed g c front images =
-    on_ok _ _ _ _ c.write_log.ensures.written c.write_log.ensures.durable
-    (λ written durable. written_images _ _ _ _ _ _ front front (IsLog (front ++ c.args.end.now)) (IsShut front) (g.met.D.Disk.is_disk c.args.disk.now) images c.write_log.ensures.told written durable
+    on_ok _ _ _ _ c.write_and_sync.ensures.written c.write_and_sync.ensures.durable
+    (λ written durable. written_images _ _ _ _ _ _ front front (IsLog (front ++ c.args.end.now)) (IsShut front) (g.met.D.Disk.is_disk c.args.disk.now) images c.write_and_sync.ensures.told written durable
     (λ old new was put. written_at_end front c.args.end.now old new was (subst (λ at. Written at (0 ∷ []) old new) images.at_end put))
     images.at_end)

@@ -9,16 +9,16 @@ use Rattle.edit_log.proofs.phases.open_gate.Goals as goal
 
 pub returns-clause-any_moment : goal.returns-clause-any_moment
 returns-clause-any_moment g c front body images =
-    torn_images _ _ _ _ _ front (IsAjar front body) (IsAjar front body) images c.write_log.ensures.crash
+    torn_images _ _ _ _ _ front (IsAjar front body) (IsAjar front body) images c.write_and_sync.ensures.crash
     (λ old new was torn. torn_ajar front body old new was (subst (λ at. Torn at 1 old new) images.at_end torn))
 
 pub returns-clause-opened : goal.returns-clause-opened
 returns-clause-opened g c front body images =
-    on_ok _ _ _ _ c.write_log.ensures.written c.write_log.ensures.durable
-    (λ written durable. written_images _ _ _ _ _ _ front (front ++ (1 ∷ body)) (IsAjar front body) (IsShut (front ++ (1 ∷ body))) (g.met.D.Disk.is_disk c.args.disk.now) images c.write_log.ensures.told written durable
+    on_ok _ _ _ _ c.write_and_sync.ensures.written c.write_and_sync.ensures.durable
+    (λ written durable. written_images _ _ _ _ _ _ front (front ++ (1 ∷ body)) (IsAjar front body) (IsShut (front ++ (1 ∷ body))) (g.met.D.Disk.is_disk c.args.disk.now) images c.write_and_sync.ensures.told written durable
     (λ old new was put. written_open front body old new was (subst (λ at. Written at (1 ∷ []) old new) images.at_end put))
     refl)
 
 pub returns-clause-ajar : goal.returns-clause-ajar
 returns-clause-ajar g c front body images =
-    on_err _ _ (kept_images _ _ _ front (IsAjar front body) (g.met.D.Disk.is_disk c.write_log.new.disk) images c.write_log.ensures.told (returns-clause-any_moment g c front body images))
+    on_err _ _ (kept_images _ _ _ front (IsAjar front body) (g.met.D.Disk.is_disk c.write_and_sync.new.disk) images c.write_and_sync.ensures.told (returns-clause-any_moment g c front body images))
