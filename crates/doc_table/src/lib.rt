@@ -5,6 +5,8 @@ mod counts;
 mod rows;
 mod siblings;
 mod table;
+#[cfg(test)]
+mod tests;
 
 pub use rows::DocumentRow;
 pub use table::DocTable;
