@@ -1,0 +1,9 @@
+pub use Rattle.enfilade_core.specs.Rows
+pub use Rattle.enfilade_core.specs.Edits
+pub use Rattle.enfilade_core.specs.Exchange
+pub mod Pieces
+pub mod Laid
+pub mod Cuts
+pub mod Edited
+pub mod Picked
+pub mod Bounds
