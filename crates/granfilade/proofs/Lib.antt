@@ -1,0 +1,14 @@
+pub mod Stepping
+pub mod Counting
+pub mod Picking
+pub mod RightRows
+pub mod Finding
+pub mod TreeRows
+pub mod Documents
+pub mod Beside
+pub mod Putting
+pub mod NewLeaves
+pub mod PutRows
+pub mod TestPlaces
+pub mod LastRow
+pub mod LongerRow

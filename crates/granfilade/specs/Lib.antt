@@ -1,0 +1,5 @@
+pub mod Content
+pub mod Steps
+pub mod Puts
+pub mod Leaves
+pub mod Lengthening

@@ -1,0 +1,129 @@
+//! The tree of contents.
+ghost use Rattle.std.specs.Prelude.{◌≡◌, ℕ, ◌+◌, ◌<◌, ◌≤◌, ◌++◌, [], length, take, IfOk, OnOk, OnErr};
+ghost use Rattle.tumbler.specs.Places.{place_bound};
+ghost use Rattle.tumbler.specs.Span.{SpanFits};
+ghost use Rattle.enfilade_core.specs.Rows.{rows_of};
+ghost use Rattle.enfilade_core.specs.Exchange.{Grows};
+ghost use Rattle.granfilade.specs.Content.{laid, content, tree_rows, laid_out, bytes_in};
+ghost use Rattle.granfilade.specs.Steps.{last_of};
+ghost use Rattle.granfilade.specs.Puts.{IsNext, IsContent, put_in};
+
+use crate::leaves::leaves;
+use crate::lengthened::last_lengthened;
+use crate::parts::append_parts;
+use enfilade_core::{Arena, ContentPlane, Gap, Node, TreeMark};
+use enfilade_search::overlapping;
+use std::alloc::Global;
+use std::marker::Model;
+use tumbler::{Memory, Span, Text, Tumbler};
+
+/// The bytes of all documents, each at its address, in one tree.
+///
+/// A contract sees the arena's nodes and the tree's root. What the tree holds is its rows' bytes, laid out
+/// each at an address of its own.
+#[derive(Drop)]
+pub struct Granfilade {
+    arena: Arena<ContentPlane>,
+    root: Node,
+}
+
+impl Model for Granfilade {
+    ghost use Rattle.std.specs.Prelude.{◌<◌, length};
+    ghost use Rattle.granfilade.specs.Content.{ContentTree};
+
+    ghost Value = { ContentTree };
+
+    ghost view = { λ g. record { nodes = g.arena; root = g.root.0 } };
+
+    ghost invariant = { λ g. g.root.0 < length g.arena };
+}
+
+impl Granfilade {
+    /// One that holds nothing.
+    pub fn new(alloc: Global) -> Result<Granfilade, Memory>
+        ensures bytes { IfOk result (λ made. content made ≡ []) }
+        ensures rows { IfOk result (λ made. IsContent (tree_rows made)) }
+    {
+        let mut arena = Arena::new(alloc);
+        let root = arena.empty()?;
+        Ok(Granfilade { arena, root })
+    }
+
+    /// Puts bytes in, the first one at `start` and each other at the address after the one in front of it.
+    ///
+    /// A row of the tree has at most 1,024 of them. Where the last row in front ends at `start` and has room, it
+    /// becomes longer. Where memory is refused, the tree is as before, though the arena may have more nodes.
+    pub fn put(&mut self, start: &Tumbler, bytes: &[u8]) -> Result<(), Memory>
+        requires next { IsNext start.now (content self.old) }
+        requires room { last_of start.now + length bytes.now < place_bound }
+        ensures grows { Grows self.old.nodes self.new.nodes }
+        ensures bytes { IsContent (tree_rows self.old) → OnOk result (content self.new ≡ put_in start.now (laid start.now bytes.now) (content self.old)) }
+        ensures rows { IsContent (tree_rows self.old) → OnOk result (IsContent (tree_rows self.new)) }
+        ensures root { OnErr result (self.new.root ≡ self.old.root) }
+        ensures refused { OnErr result (tree_rows self.new ≡ tree_rows self.old) }
+    {
+        let _alloc = self.arena.allocator();
+        let Some(longer) = last_lengthened(&self.arena, self.root, start, bytes)? else {
+            let rows = leaves(start, bytes)?;
+            self.root = self.arena.splice(self.root, start, &rows)?;
+            return Ok(());
+        };
+        let rows = leaves(&longer.from, longer.text.as_slice())?;
+        let gap = Gap {
+            from: longer.from.copy(),
+            to: start.copy(),
+            onto: start.copy(),
+        };
+        let made = self.arena.exchange(self.root, &gap, &rows)?;
+        self.root = made.root;
+        Ok(())
+    }
+
+    /// The arena and the tree's root, lent.
+    pub fn parts(&self) -> (&Arena<ContentPlane>, Node)
+        ensures arena { result.0.now ≡ self.now.nodes }
+        ensures root { result.1.0 ≡ self.now.root }
+        ensures below { result.1.0 < length self.now.nodes }
+    {
+        (&self.arena, self.root)
+    }
+
+    /// What `back` goes back to. It takes no memory.
+    pub fn mark(&self) -> TreeMark
+        ensures root { result.root.0 ≡ self.now.root }
+        ensures count { result.count ≡ length self.now.nodes }
+        ensures below { result.root.0 < result.count }
+    {
+        TreeMark {
+            root: self.root,
+            count: self.arena.mark(),
+        }
+    }
+
+    /// Goes back to the tree of the mark, and drops the nodes that came after it. It takes no memory.
+    pub fn back(&mut self, mark: &TreeMark)
+        requires below { mark.now.root.0 < mark.now.count }
+        requires held { mark.now.count ≤ length self.old.nodes }
+        ensures root { self.new.root ≡ mark.now.root.0 }
+        ensures nodes { self.new.nodes ≡ take mark.now.count self.old.nodes }
+        ensures rows { tree_rows self.new ≡ rows_of self.old.nodes mark.now.root.0 }
+        ensures bytes { content self.new ≡ laid_out (rows_of self.old.nodes mark.now.root.0) }
+    {
+        self.arena.truncate(mark.count);
+        self.root = mark.root;
+    }
+
+    /// Appends the bytes whose addresses are in the span, in the order of their addresses.
+    ///
+    /// Where memory is refused, `into` may have some of them behind what it held.
+    pub fn bytes_of(&self, span: &Span, into: &mut Text) -> Result<(), Memory>
+        requires fits { SpanFits span.now }
+        ensures ok { OnOk result (into.new.items ≡ into.old.items ++ bytes_in span.now (content self.now)) }
+        ensures kept { take (length into.old.items) into.new.items ≡ into.old.items }
+    {
+        let _alloc = self.arena.allocator();
+        let _places = span.start.places();
+        let rows = overlapping(&self.arena, self.root, span)?;
+        append_parts(rows.as_slice(), span, into)
+    }
+}

@@ -1,0 +1,9 @@
+//! Contents by address: the bytes of all documents in one tree.
+#![tactic(auto)]
+
+mod granfilade;
+mod leaves;
+mod lengthened;
+mod parts;
+
+pub use granfilade::Granfilade;
