@@ -1,0 +1,6 @@
+pub mod Rows
+pub mod Adding
+pub mod Ascending
+pub mod KeysMet
+pub mod AsOne
+pub mod OneGap

@@ -1,0 +1,10 @@
+//! Spans and the keys that they were added for, found by what they meet.
+#![tactic(auto)]
+
+mod joining;
+mod keys;
+mod spanfilade;
+#[cfg(test)]
+mod tests;
+
+pub use spanfilade::Spanfilade;

@@ -1,0 +1,141 @@
+//! The index.
+ghost use Rattle.std.specs.Prelude.{◌≡◌, ◌<◌, ◌≤◌, [], ◌∷◌, length, All, IfOk, OnOk, OnErr};
+ghost use Rattle.tumbler.specs.Span.{SpanFits};
+ghost use Rattle.enfilade_core.specs.Rows.{rows_of};
+ghost use Rattle.enfilade_core.specs.Exchange.{Grows};
+ghost use Rattle.enfilade_core.specs.Axes.{IsRightRow};
+ghost use Rattle.enfilade_core.specs.Planes.{key_widths};
+ghost use Rattle.spanfilade.specs.Index.{IndexTree, rows_in_index, row_of, with_span, mark_of, at_mark};
+ghost use Rattle.spanfilade.specs.Keys.{keys_met};
+
+use crate::joining::joined;
+use crate::keys::{listed, take_keys};
+use enfilade_core::{Arena, KeyPlane, Node, Row, TreeMark};
+use enfilade_search::overlapping;
+use std::alloc::Global;
+use std::collections::BTreeSet;
+use std::marker::Model;
+use tumbler::{List, Memory, Span, Tumbler};
+
+/// Spans, each with the key that it was added for.
+///
+/// A tree has a row for each span that was added: the span's start, its width, and the key. The rows are in
+/// the order of their starts. None is taken out, but by going back to a mark.
+#[derive(Drop)]
+pub struct Spanfilade {
+    arena: Arena<KeyPlane>,
+    root: Node,
+}
+
+impl Model for Spanfilade {
+    ghost use Rattle.std.specs.Prelude.{length, ◌<◌};
+    ghost use Rattle.spanfilade.specs.Index.{IndexTree};
+
+    ghost Value = { IndexTree };
+
+    ghost view = { λ s. record { nodes = s.arena; root = s.root } };
+
+    ghost invariant = { λ s. s.root.0 < length s.arena };
+}
+
+impl Spanfilade {
+    /// An index of no spans.
+    pub fn new(alloc: Global) -> Result<Spanfilade, Memory>
+        ensures { IfOk result (λ made. rows_in_index made ≡ []) }
+    {
+        let mut arena = Arena::new(alloc);
+        let root = arena.empty()?;
+        Ok(Spanfilade { arena, root })
+    }
+
+    /// Adds a span for a key, in front of the spans that start where it does.
+    ///
+    /// Where it is refused the spans are as before, though the arena may hold more nodes.
+    pub fn add(&mut self, span: &Span, key: &Tumbler) -> Result<(), Memory>
+        requires { SpanFits span.now }
+        ensures added { OnOk result (rows_in_index self.new ≡ with_span span.now key.now (rows_in_index self.old)) }
+        ensures refused { OnErr result (rows_in_index self.new ≡ rows_in_index self.old) }
+        ensures stays { OnErr result (self.new.root ≡ self.old.root) }
+        ensures grows { Grows self.old.nodes self.new.nodes }
+    {
+        let rows = one_row(self.arena.allocator(), span, key)?;
+        self.root = self.arena.splice(self.root, &span.start, &rows)?;
+        Ok(())
+    }
+
+    /// The keys of the spans that meet one of these, in ascending order, each once.
+    ///
+    /// Spans are sorted and joined first, so many equal ones cost as one. Each joined span is looked up by
+    /// itself, among those nodes alone whose spans can reach into it.
+    pub fn keys_meeting(&self, spans: &List<Span>) -> Result<List<Tumbler>, Memory>
+        requires { All SpanFits spans.now.items }
+        ensures { IfOk result (λ found. found.items ≡ keys_met spans.now.items (rows_in_index self.now)) }
+    {
+        let alloc = self.arena.allocator();
+        let joined = joined(alloc, spans.as_slice())?;
+        let mut keys = BTreeSet::new(alloc);
+        for span in joined.as_slice() {
+            let rows = overlapping(&self.arena, self.root, span)?;
+            take_keys(rows.as_slice(), &mut keys)?;
+        }
+        listed(alloc, &keys)
+    }
+
+    /// What `back` goes back to. It takes no memory.
+    pub fn mark(&self) -> TreeMark
+        ensures mark { result ≡ mark_of self.now }
+        ensures below { result.root.0 < result.count }
+    {
+        TreeMark {
+            root: self.root,
+            count: self.arena.mark(),
+        }
+    }
+
+    /// Goes back to a mark: the spans that were added since are there no more. It takes no memory.
+    pub fn back(&mut self, mark: &TreeMark)
+        requires below { mark.now.root.0 < mark.now.count }
+        requires counted { mark.now.count ≤ length self.old.nodes }
+        ensures value { self.new ≡ at_mark mark.now self.old }
+        ensures restored { (before : IndexTree) → Grows before.nodes self.old.nodes → mark.now ≡ mark_of before → self.new ≡ before }
+    {
+        self.arena.truncate(mark.count);
+        self.root = mark.root;
+    }
+
+    /// The arena and the root of the tree in it. It takes no memory.
+    pub fn parts(&self) -> (&Arena<KeyPlane>, Node)
+        ensures arena { result.0.now ≡ self.now.nodes }
+        ensures root { result.1 ≡ self.now.root }
+        ensures below { result.1.0 < length self.now.nodes }
+    {
+        (&self.arena, self.root)
+    }
+}
+
+/// The row of a span that is added for a key.
+fn row_of(span: &Span, key: &Tumbler) -> Row<Tumbler>
+    requires { SpanFits span.now }
+    ensures value { result ≡ row_of span.now key.now }
+    ensures right { IsRightRow key_widths (row_of span.now key.now) }
+{
+    let _start = span.start.places();
+    let _width = span.width.places();
+    let _key = key.places();
+    Row {
+        first: span.start.copy(),
+        second: key.copy(),
+        leaf: span.width.copy(),
+    }
+}
+
+/// That row alone.
+fn one_row(alloc: Global, span: &Span, key: &Tumbler) -> Result<List<Row<Tumbler>>, Memory>
+    requires { SpanFits span.now }
+    ensures value { IfOk result (λ rows. rows.items ≡ row_of span.now key.now ∷ []) }
+    ensures right { IsRightRow key_widths (row_of span.now key.now) }
+{
+    let mut rows = List::new(alloc);
+    rows.push(row_of(span, key))?;
+    Ok(rows)
+}
