@@ -81,7 +81,7 @@ module _ {E J A : Type 0} (owner : E → ℕ) (plays : List ℕ → List E → �
 
   -- what holds where the lock is ended: the last history and the fixed numbers are the value's that it kept
   pub record Holds (last : List E) (numbers : List ℕ) {w : View E} (life : Life w) : Type 0 where
-    -- the last history has what each pass added, once and in order, and each entry is one pass's
+    -- the last history has what each pass added, once and in order, and no entry is two passes'
     pub own : All (IsOwn owner last) (passes life)
     pub apart : AreApart (passes life)
     pub stand : AllStand last life

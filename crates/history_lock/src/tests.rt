@@ -51,7 +51,7 @@ fn a_pass_from_a_pass_ends_into_another(rt: HostRuntime) -> Result<(), Fail> {
     let mut third = lock.new_pass(&mut second);
     assert_eq!(rt; act(&rt, &lock, &mut third, 5), (5, 1));
     assert_eq!(rt; (third.number(), second.number()), (1, 0));
-    lock.end_pass(&mut second, third);
+    lock.end_pass(&mut first, third);
     let Trial::Done(acted) = lock.try_act(&mut second, 7) else {
         panic!(rt; "nobody holds the lock")
     };
