@@ -1,4 +1,6 @@
 pub use Rattle.world_rules.specs.World
+pub use Rattle.world_rules.specs.FlatView
+pub use Rattle.world_rules.specs.Refusals
 pub use Rattle.world_rules.specs.Apply
 pub use Rattle.world_rules.specs.History
 pub use Rattle.world_rules.specs.Effects
@@ -6,4 +8,5 @@ pub use Rattle.world_rules.specs.Legal
 pub use Rattle.world_rules.specs.Placed
 pub use Rattle.world_rules.specs.Serials
 pub mod Fits
+pub mod Greatest
 pub mod Laws
