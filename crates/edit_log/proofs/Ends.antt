@@ -1,9 +1,9 @@
 -- What a log has at its end while its gate is closed.
-use Rattle.std.proofs.Common.{◌≡◌, ◌≢◌, ◌⊎◌, inl, inr, ⊎_elim, ℕ, zero, suc, ◌+◌, ◌-◌, ◌<◌, ◌≤◌, Bool, true, false, List, [], ◌∷◌, ◌++◌, length, take, drop, replicate, refl, sym, ◌∙◌, ap, subst, arith, append_assoc, length-append}
+use Rattle.std.proofs.Common.{◌≡◌, ◌≢◌, ◌⊎◌, inl, inr, ⊎_elim, ℕ, ◌≤◌, true, false, List, [], ◌∷◌, ◌++◌, length, refl, sym, ◌∙◌, ap, arith, length-append}
 use Rattle.std.proofs.lemmas.Bool.Decides.{nat_tests}
 use Rattle.std.proofs.lemmas.List.{append-nil}
 use Rattle.green_io.specs.Disk.{Written, Torn}
-use Rattle.edit_log.specs.Images.{IsShut, IsAjar}
+use Rattle.edit_log.specs.Images.{IsShut}
 use Rattle.edit_log.specs.inside.Ends.{IsLog, HasTornGate, begins_shut}
 use Rattle.edit_log.proofs.Parts.{torn_behind, written_behind, torn_gate, written_at}
 

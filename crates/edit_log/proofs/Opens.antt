@@ -1,15 +1,15 @@
 -- What opening leaves of a whole log.
-use Rattle.std.proofs.Common.{◌≡◌, ◌≢◌, ◌⊎◌, inl, inr, ⊎_elim, ℕ, suc, ◌+◌, ◌<◌, ◌≤◌, List, [], ◌∷◌, ◌++◌, length, drop, Option, None, Some, IsSome, refl, sym, ◌∙◌, ap, subst, arith}
+use Rattle.std.proofs.Common.{◌≡◌, ◌⊎◌, inl, inr, ⊎_elim, ℕ, List, [], ◌∷◌, ◌++◌, length, Option, None, Some, IsSome, refl, sym, ◌∙◌, ap, subst}
 use Rattle.std.proofs.lemmas.List.{append-nil}
 use Rattle.febe_data.specs.Plain.{PlainEntry}
 use Rattle.entry_codec.specs.Format.{body_of}
 use Rattle.entry_codec.specs.Laws.{OneBody, BodySaysLength}
 use Rattle.green_io.specs.declared.disk.Area.TheVariants as area
 use Rattle.green_io.specs.Areas.{Areas}
-use Rattle.green_io.specs.Disk.{DiskState, IsDisk, WhereTold, LeavesOnly, Nothing, IsDurable, images_now}
-use Rattle.green_io.proofs.Crash.{weaker, nothing_new, nothing_then}
-use Rattle.edit_log.specs.Log.{gated, IsEnd, HasEntries, ReadsAs, HasNext, IsWholeEnd, IsWhole}
-use Rattle.edit_log.specs.Images.{IsShut, IsAjar, InLog, LogImages, AreEntries, Hides, AsRead, HoldsAsRead}
+use Rattle.green_io.specs.Disk.{DiskState, WhereTold, LeavesOnly, Nothing, IsDurable, images_now}
+use Rattle.green_io.proofs.Crash.{weaker, nothing_then}
+use Rattle.edit_log.specs.Log.{gated, IsEnd, HasEntries, HasNext, IsWholeEnd, IsWhole}
+use Rattle.edit_log.specs.Images.{IsAjar, InLog, LogImages, AreEntries, Hides, AsRead, HoldsAsRead}
 use Rattle.edit_log.specs.inside.Ends.{IsLog, HasTornGate}
 use Rattle.edit_log.proofs.Unique.{read_once}
 use Rattle.edit_log.proofs.Wholes.{ajar_whole}

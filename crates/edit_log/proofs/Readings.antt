@@ -1,12 +1,12 @@
 -- A log that is read is not damaged, and a damaged one is damaged at one place.
-use Rattle.std.proofs.Common.{◌≡◌, ◌≢◌, ◌⊎◌, inl, inr, ⊎_elim, ℕ, suc, ◌+◌, ◌<◌, ◌≤◌, List, [], ◌∷◌, ◌++◌, length, refl, sym, ◌∙◌, ap, subst, arith, append_assoc, length-append}
+use Rattle.std.proofs.Common.{◌≡◌, ◌≢◌, ◌⊎◌, inl, inr, ⊎_elim, ℕ, ◌≤◌, List, [], ◌∷◌, ◌++◌, length, refl, sym, ◌∙◌, ap, subst, arith, append_assoc}
 use Rattle.std.specs.List.{AllByRecursion}
 use Rattle.febe_data.specs.Plain.{PlainEntry}
-use Rattle.entry_codec.specs.Bodies.{HasBody, IsBodyOf, IsBody, BeginsWithBody}
+use Rattle.entry_codec.specs.Bodies.{HasBody, BeginsWithBody}
 use Rattle.entry_codec.specs.Format.{body_of}
 use Rattle.entry_codec.specs.Laws.{OneBody, BodySaysLength}
-use Rattle.edit_log.specs.Log.{gated, most_entries, IsEnd, HasEntries, ReadsAs, IsDamagedAt}
-use Rattle.edit_log.specs.Laws.{OneReading, EachHasOneReading}
+use Rattle.edit_log.specs.Log.{gated, most_entries, IsEnd}
+use Rattle.edit_log.specs.Laws.{EachHasOneReading}
 use Rattle.edit_log.proofs.Unique.{read_once, no_end, tail_of, cancel_one}
 
 -- what stands behind a gate that is the first of a damaged log's rest: no body, or there is no room for an entry

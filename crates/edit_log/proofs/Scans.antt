@@ -1,7 +1,6 @@
 -- The entries that a scan has passed.
-use Rattle.std.proofs.Common.{◌≡◌, ℕ, suc, ◌+◌, ◌<◌, ◌≤◌, List, [], ◌∷◌, ◌++◌, length, drop, map, refl, sym, ◌∙◌, ap, subst, arith, append_assoc, length-append, length-drop}
+use Rattle.std.proofs.Common.{◌≡◌, ℕ, ◌+◌, ◌<◌, ◌≤◌, List, [], ◌∷◌, ◌++◌, length, drop, sym, ◌∙◌, ap, arith, length-append}
 use Rattle.std.proofs.lemmas.List.{drop-drop, drop_at}
-use Rattle.std.specs.List.{AllByRecursion}
 use Rattle.febe_data.specs.Plain.{PlainEntry}
 use Rattle.entry_codec.specs.Bodies.{HasBody, IsBodyOf}
 use Rattle.entry_codec.specs.Format.{body_of}

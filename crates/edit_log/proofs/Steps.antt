@@ -1,7 +1,7 @@
 -- What one write of a log and its sync leave of the images.
-use Rattle.std.proofs.Common.{◌≡◌, ℕ, ◌+◌, List, length, Option, None, Some, IsSome, sym, subst}
+use Rattle.std.proofs.Common.{◌≡◌, ℕ, List, length, Option, None, Some, IsSome, sym, subst}
 use Rattle.green_io.specs.declared.disk.Area.TheVariants as area
-use Rattle.green_io.specs.Areas.{Areas, area_of}
+use Rattle.green_io.specs.Areas.{Areas}
 use Rattle.green_io.specs.Disk.{DiskState, IsDisk, WhereTold, images_now, Written, Torn, Changes, LeftBy, LeavesOnly, IsDurable}
 use Rattle.green_io.proofs.Crash.{weaker, now_has}
 use Rattle.edit_log.specs.Images.{LogImages, InLog}

@@ -1,8 +1,8 @@
 -- A log is read in one way.
-use Rattle.std.proofs.Common.{◌≡◌, ◌≢◌, ◌⊎◌, inl, inr, ⊎_elim, ℕ, suc, ◌+◌, ◌<◌, ◌≤◌, List, [], ◌∷◌, ◌++◌, length, refl, sym, ◌∙◌, ap, subst, arith, append_assoc, length-append}
+use Rattle.std.proofs.Common.{◌≡◌, ⊎_elim, ℕ, ◌≤◌, List, [], ◌∷◌, ◌++◌, length, refl, sym, ◌∙◌, ap, arith, append_assoc, length-append}
 use Rattle.std.specs.List.{AllByRecursion}
 use Rattle.febe_data.specs.Plain.{PlainEntry}
-use Rattle.entry_codec.specs.Bodies.{HasBody, IsBodyOf, IsBody}
+use Rattle.entry_codec.specs.Bodies.{HasBody}
 use Rattle.entry_codec.specs.Format.{body_of}
 use Rattle.entry_codec.specs.Laws.{OneBody, BodySaysLength}
 use Rattle.edit_log.specs.Log.{gated, IsEnd}

@@ -1,5 +1,5 @@
 -- Logs that are whole.
-use Rattle.std.proofs.Common.{◌≡◌, ◌≢◌, ◌⊎◌, inl, inr, ⊎_elim, ℕ, suc, ◌+◌, ◌*◌, ◌^◌, ◌<◌, ◌≤◌, List, [], ◌∷◌, ◌++◌, length, refl, sym, ◌∙◌, ap, subst, arith, append_assoc, length-append}
+use Rattle.std.proofs.Common.{◌≡◌, ◌⊎◌, inl, inr, ℕ, suc, ◌+◌, ◌*◌, ◌^◌, ◌<◌, ◌≤◌, List, [], ◌∷◌, ◌++◌, length, refl, sym, ◌∙◌, ap, subst, arith, append_assoc, length-append}
 use Rattle.std.proofs.lemmas.Bool.{cases_eq}
 use Rattle.std.proofs.lemmas.List.{append-nil}
 use Rattle.std.specs.List.{AllByRecursion}
@@ -8,8 +8,10 @@ use Rattle.entry_codec.specs.Bodies.{HasBody}
 use Rattle.entry_codec.specs.Format.{body_of}
 use Rattle.entry_codec.specs.Laws.{BodySaysLength}
 use Rattle.entry_fits.specs.Fits.{Fits, AllFit}
-use Rattle.edit_log.specs.Log.{gated, most_entries, HasEntries, IsNext, HasNext, IsWhole}
-use Rattle.edit_log.specs.Images.{IsShut, IsAjar, AreEntries}
+use Rattle.edit_log.specs.Log.{gated, most_entries, IsNext, IsWhole}
+use Rattle.edit_log.specs.Images.{IsShut, IsAjar, AreEntries, HasGate}
+use Rattle.edit_log.specs.declared.pending.Pending.{Pending}
+use Rattle.edit_log.specs.declared.pending.Pending.TheVariants.{Nothing, Shut, Gated}
 
 pub gated-push : (entries : List PlainEntry) (entry : PlainEntry) → gated (entries ++ entry ∷ []) ≡ gated entries ++ (1 ∷ body_of entry)
 gated-push [] entry = ap (λ (l : List ℕ). 1 ∷ l) (append-nil (body_of entry))
@@ -78,3 +80,9 @@ ajar_whole entries entry log are next (gate, behind, is) = elim (cases_eq gate 1
     whole = inr (inr record { entry = entry; behind = behind; next = next; parts = refl });
   }
 ]
+
+-- so is a log in which an edit is pending
+pub pending_whole : (pending : Pending) (entries : List PlainEntry) (entry : PlainEntry) (log : List ℕ) → AreEntries entries → IsNext entries entry → HasGate pending entries entry log → IsWhole entries log ⊎ IsWhole (entries ++ entry ∷ []) log
+pending_whole Nothing entries entry log are next is = absurd is
+pending_whole Shut entries entry log are next is = inl (shut_whole entries log are is)
+pending_whole Gated entries entry log are next is = ajar_whole entries entry log are next is

@@ -1,7 +1,5 @@
 -- Reading a log piece by piece.
-use Rattle.std.specs.Prelude.{◌≡◌, ℕ, ◌+◌, ◌≤◌, Bool, true, false, List, ◌++◌, length, take, drop, Option}
-use Rattle.green_io.specs.Areas.{Areas}
-use Rattle.green_io.specs.Disk.{WhereTold}
+use Rattle.std.specs.Prelude.{◌≡◌, ℕ, ◌+◌, ◌≤◌, Bool, true, false, List, ◌++◌, length, take, drop}
 
 -- Behind what was read of the log some bytes more were read; or there are none.
 abbrev pub ReadsOn : Bool → List ℕ → List ℕ → List ℕ → Type 0

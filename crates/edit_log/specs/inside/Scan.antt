@@ -1,5 +1,5 @@
 -- What reading a log's bytes finds.
-use Rattle.std.specs.Prelude.{◌≡◌, ◌≢◌, ◌⊎◌, ℕ, ◌+◌, ◌<◌, ◌≤◌, List, [], ◌∷◌, ◌++◌, length, take, drop}
+use Rattle.std.specs.Prelude.{◌≡◌, ◌≢◌, ◌⊎◌, ℕ, ◌+◌, ◌<◌, ◌≤◌, List, [], ◌∷◌, ◌++◌, length, drop}
 use Rattle.febe_data.specs.Plain.{plain_entry, plain_history}
 use Rattle.entry_codec.specs.Bodies.{HasBody, BeginsWithBody}
 use Rattle.entry_codec.specs.Format.{body_of}

@@ -1,5 +1,5 @@
 -- A gate that is 0 stays as it is; another may have any byte until it is written.
-use Rattle.std.proofs.Common.{◌≡◌, ℕ, List, [], ◌∷◌, ◌++◌, refl, sym, ◌∙◌, subst}
+use Rattle.std.proofs.Common.{[], ◌∷◌, ◌++◌, sym, ◌∙◌, subst}
 use Rattle.green_io.specs.Disk.{Torn, Written}
 use Rattle.edit_log.specs.Images.{IsShut}
 use Rattle.edit_log.specs.inside.Ends.{IsLog, HasTornGate}

@@ -1,5 +1,5 @@
 -- The gate may have any byte until it is written, and then it is 0.
-use Rattle.std.proofs.Common.{◌≡◌, [], ◌∷◌, length, refl, sym, subst}
+use Rattle.std.proofs.Common.{[], ◌∷◌, subst}
 use Rattle.green_io.specs.Disk.{Torn, Written}
 use Rattle.edit_log.specs.Images.{IsShut, IsAjar}
 use Rattle.edit_log.proofs.Answering.{on_ok, on_err}

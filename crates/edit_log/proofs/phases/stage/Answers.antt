@@ -1,5 +1,5 @@
 -- The byte 0 stays in front of what is written, and is where the body is then found.
-use Rattle.std.proofs.Common.{◌≡◌, ◌+◌, ◌-◌, ◌^◌, min, [], ◌∷◌, ◌++◌, length, refl, sym, subst, arith}
+use Rattle.std.proofs.Common.{◌≡◌, ◌+◌, length, subst, arith}
 use Rattle.green_io.specs.Disk.{Torn, Written}
 use Rattle.edit_log.specs.Images.{IsShut, IsAjar}
 use Rattle.edit_log.proofs.Answering.{on_ok, on_err}

@@ -1,5 +1,5 @@
 -- The bytes behind the gate are the body, which was decoded, and more.
-use Rattle.std.proofs.Common.{◌≡◌, ◌∷◌, Some, subst, arith, sym, ◌∙◌}
+use Rattle.std.proofs.Common.{subst}
 use Rattle.febe_data.specs.Plain.{plain_entry}
 use Rattle.entry_codec.specs.Bodies.{IsDecoded, IsBodyOf}
 use Rattle.edit_log.proofs.Scans.{steps_over}

@@ -1,5 +1,5 @@
 -- Behind the entry that was read the scan goes on.
-use Rattle.std.proofs.Common.{◌≡◌, ℕ, ◌+◌, ◌≤◌, List, [], ◌∷◌, ◌++◌, length, drop, map, sym, ◌∙◌, ap, subst, arith, length-drop}
+use Rattle.std.proofs.Common.{◌≡◌, ◌+◌, List, [], ◌∷◌, ◌++◌, length, drop, sym, ◌∙◌, ap, subst, arith, length-drop}
 use Rattle.std.proofs.lemmas.List.{map-append, length-map}
 use Rattle.febe_data.specs.Plain.{plain_entry, plain_history, PlainEntry}
 use Rattle.edit_log.specs.Log.{gated, HasEntries}

@@ -1,5 +1,5 @@
 -- While the body is written the log has what it had; from then on, whatever byte the gate is, with the body or without.
-use Rattle.std.proofs.Common.{◌≡◌, ℕ, List, [], ◌∷◌, ◌++◌, refl, sym, ◌∙◌, subst}
+use Rattle.std.proofs.Common.{refl, sym, ◌∙◌, subst}
 use Rattle.edit_log.specs.Images.{IsOpen, IsAppendable}
 use Rattle.edit_log.specs.Log.{gated}
 use Rattle.entry_codec.specs.Format.{body_of}

@@ -1,5 +1,5 @@
 -- A gate that may be open may have any byte until it is closed.
-use Rattle.std.proofs.Common.{◌≡◌, ℕ, List, refl, sym, subst}
+use Rattle.std.proofs.Common.{refl, sym, subst}
 use Rattle.entry_codec.specs.Format.{body_of}
 use Rattle.edit_log.specs.Log.{gated}
 use Rattle.edit_log.specs.Images.{IsPending, LogImages, HasGate}

@@ -1,10 +1,8 @@
 -- The log is read as it stands, and its end gate is closed behind what was read.
-use Rattle.std.proofs.Common.{◌≡◌, ℕ, List, [], ◌∷◌, ◌++◌, length, drop, IsSome, refl, sym, ◌∙◌, ap, subst}
+use Rattle.std.proofs.Common.{◌≡◌, ℕ, List, refl, sym, subst}
 use Rattle.febe_data.specs.Plain.{plain_history}
 use Rattle.green_io.specs.Disk.{WhereTold}
-use Rattle.edit_log.specs.Log.{gated, HasEntries, IsEnd, IsWhole}
-use Rattle.edit_log.specs.Images.{LogImages}
-use Rattle.edit_log.specs.inside.Ends.{IsLog}
+use Rattle.edit_log.specs.Log.{gated, HasEntries, IsEnd}
 use Rattle.edit_log.specs.inside.Scan.{HasScanned}
 use Rattle.edit_log.proofs.Opens.{stable_images, closing_holds, told_read}
 use Rattle.edit_log.proofs.log.EditLog.open.Goals as goal
