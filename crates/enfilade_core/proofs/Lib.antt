@@ -33,3 +33,4 @@ pub mod EditsAre
 pub mod Rooted
 pub mod WalkedBefore
 pub mod WalkedDown
+pub mod AskedEdits

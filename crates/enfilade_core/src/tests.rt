@@ -1,6 +1,10 @@
 //! Nodes that are added, and what is told of them.
 ghost use Rattle.std.specs.Prelude.{◌<◌, length, IfOk, IfSome};
 
+mod edits;
+mod left;
+mod random;
+
 use crate::{Arena, Branch, Children, Node, Row, TextPlane};
 use std::alloc::Global;
 use std::test::Fail;
