@@ -5,5 +5,7 @@ mod granfilade;
 mod leaves;
 mod lengthened;
 mod parts;
+#[cfg(test)]
+mod tests;
 
 pub use granfilade::Granfilade;
