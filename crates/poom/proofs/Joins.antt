@@ -1,11 +1,13 @@
 -- A piece that goes on where another ends makes that one longer.
-use Rattle.std.proofs.Common.{◌≡◌, ◌≢◌, ℕ, zero, suc, ◌+◌, ◌-◌, ◌<◌, ◌≤◌, List, [], ◌∷◌, ◌++◌, length, take, get_or, arith, ap, sym, subst, ◌∙◌, append_assoc, append-nil}
+use Rattle.std.proofs.Common.{◌≡◌, ◌≢◌, ℕ, zero, suc, ◌+◌, ◌-◌, ◌<◌, ◌≤◌, Bool, true, false, List, [], ◌∷◌, ◌++◌, length, take, get_or, refl, arith, ap, sym, subst, ◌∙◌, append_assoc, append-nil}
+use Rattle.std.specs.Prelude.{◌↔◌, IsTrue}
 use Rattle.std.specs.List.{All}
+use Rattle.std.proofs.lemmas.Bool.{both_ways}
 use Rattle.std.proofs.lemmas.List.{take_more, take_all}
 use Rattle.std.proofs.lemmas.List.Elements.{All-push, All-get_or, All-take}
 use Rattle.poom.specs.declared.piece.Piece.{Piece}
 use Rattle.poom.specs.Pieces.{IsPiece, addresses_from, piece_addresses, laid}
-use Rattle.poom.specs.Cuts.{Continues, Lengthens}
+use Rattle.poom.specs.Cuts.{Continues, EndApart, AreApart, Lengthens}
 use Rattle.poom.proofs.Back.{laid-append}
 
 pub addresses-more : (part : ℕ) (document : List ℕ) (first count next more : ℕ) → next ≡ first + count → addresses_from part document first (count + more) ≡ addresses_from part document first count ++ addresses_from part document next more
@@ -45,9 +47,47 @@ split_last pieces n last e h is =
     let there : get_or pieces (length pieces - 1) last ≡ last = sym (is ∙ ap (λ (k : ℕ). get_or pieces k last) at) in
     sym (take_all (length pieces) pieces (omega arith)) ∙ (ap (λ (k : ℕ). take k pieces) (sym whole) ∙ (take_more pieces (length pieces - 1) last within ∙ ap (λ (x : Piece). take (length pieces - 1) pieces ++ x ∷ []) there))
 
-pub lengthens : (pieces : List Piece) (n : ℕ) (last next : Piece) → n ≡ length pieces → n ≢ 0 → last ≡ get_or pieces (n - 1) last → Continues last next → All IsPiece pieces → IsPiece next
+-- ---- apart stays apart
+
+-- another last piece that begins where the last one did
+apart-longer : (front : List Piece) (last longer : Piece) → longer.document ≡ last.document → longer.first ≡ last.first → AreApart (front ++ last ∷ []) → AreApart (front ++ longer ∷ [])
+apart-longer [] last longer d f are = tt
+apart-longer (x ∷ []) last longer d f are = (λ c. are.0 (record { document = c.document ∙ d; first = c.first ∙ f }), tt)
+apart-longer (x ∷ y ∷ front) last longer d f are = (are.0, apart-longer (y ∷ front) last longer d f are.1)
+
+apart-push : (front : List Piece) (x : Piece) → EndApart front x → AreApart front → AreApart (front ++ x ∷ [])
+apart-push [] x end are = tt
+apart-push (y ∷ []) x end are = (end, tt)
+apart-push (y ∷ z ∷ front) x end are = (are.0, apart-push (z ∷ front) x end are.1)
+
+ends-apart-at : (pieces : List Piece) (k : ℕ) (last next : Piece) → length pieces ≡ suc k → last ≡ get_or pieces k last → ¬ Continues last next → EndApart pieces next
+ends-apart-at [] k last next e is differs = absurd (omega arith)
+ends-apart-at (x ∷ []) zero last next e is differs = subst (λ (p : Piece). ¬ Continues p next) is differs
+ends-apart-at (x ∷ []) (suc k) last next e is differs = absurd (omega arith)
+ends-apart-at (x ∷ y ∷ pieces) zero last next e is differs = absurd (omega arith)
+ends-apart-at (x ∷ y ∷ pieces) (suc k) last next e is differs = ends-apart-at (y ∷ pieces) k last next (omega arith) is differs
+
+-- the test was false
+pub ends-apart : (pieces : List Piece) (n : ℕ) (last next : Piece) (test : Bool) → n ≡ length pieces → n ≢ 0 → last ≡ get_or pieces (n - 1) last → (IsTrue test ↔ Continues last next) → test ≡ false → EndApart pieces next
+ends-apart pieces n last next test e h is tests fails = ends-apart-at pieces (n - 1) last next (omega arith) is (λ c. both_ways test fails (tests.1 c))
+
+pub none-apart : (pieces : List Piece) (n : ℕ) (next : Piece) → n ≡ length pieces → n ≡ 0 → EndApart pieces next
+none-apart [] n next e h = tt
+none-apart (x ∷ pieces) n next e h = absurd (omega arith)
+
+pub apart-pushed : (old new : List Piece) (x : Piece) → new ≡ old ++ x ∷ [] → EndApart old x → AreApart old → AreApart new
+apart-pushed old new x e end are = subst AreApart (sym e) (apart-push old x end are)
+
+pub apart-lengthened : (old front new : List Piece) (n : ℕ) (piece longer : Piece) → Lengthens old piece longer → n ≡ length old → front ≡ take (n - 1) old → new ≡ front ++ longer ∷ [] → AreApart old → AreApart new
+apart-lengthened old front new n piece longer l e f is are =
+    let same : take (length old - 1) old ≡ front = ap (λ (k : ℕ). take (k - 1) old) (sym e) ∙ sym f in
+    subst AreApart (ap (λ (ps : List Piece). ps ++ longer ∷ []) same ∙ sym is) (l.apart are)
+
+-- ---- longer pieces
+
+lengthened : (pieces : List Piece) (n : ℕ) (last next : Piece) → n ≡ length pieces → n ≢ 0 → last ≡ get_or pieces (n - 1) last → Continues last next → All IsPiece pieces → IsPiece next
     → Lengthens pieces next (record { document = last.document; first = last.first; count = last.count + next.count })
-lengthens pieces n last next e h is c each also =
+lengthened pieces n last next e h is c each also =
     let split = split_last pieces n last e h is in
     let own : IsPiece last = subst IsPiece (sym is) (All-get_or IsPiece pieces (n - 1) last (omega arith) each) in
     record {
@@ -57,7 +97,14 @@ lengthens pieces n last next e h is c each also =
           ap (λ (rest : List (List ℕ)). laid part (take (length pieces - 1) pieces) ++ rest) (longer_addresses part last next c)
           ∙ (sym (append_assoc (laid part (take (length pieces - 1) pieces)) (piece_addresses part last) (piece_addresses part next))
           ∙ ap (λ (front : List (List ℕ)). front ++ piece_addresses part next) (sym (ap (laid part) split ∙ laid-push part (take (length pieces - 1) pieces) last)));
+      apart = λ are. apart-longer (take (length pieces - 1) pieces) last (record { document = last.document; first = last.first; count = last.count + next.count }) refl refl (subst AreApart split are);
     }
+
+-- the same, where the document was copied
+pub lengthens : (pieces : List Piece) (n : ℕ) (last next : Piece) (document : List ℕ) → n ≡ length pieces → n ≢ 0 → last ≡ get_or pieces (n - 1) last → document ≡ last.document → Continues last next → All IsPiece pieces → IsPiece next
+    → Lengthens pieces next (record { document = document; first = last.first; count = last.count + next.count })
+lengthens pieces n last next document e h is copied c each also =
+    subst (λ (d : List ℕ). Lengthens pieces next (record { document = d; first = last.first; count = last.count + next.count })) (sym copied) (lengthened pieces n last next e h is c each also)
 
 pub own_piece : (pieces : List Piece) (k : ℕ) (x : Piece) → x ≡ get_or pieces k x → k < length pieces → All IsPiece pieces → IsPiece x
 own_piece pieces k x is h each = subst IsPiece (sym is) (All-get_or IsPiece pieces k x h each)
@@ -85,4 +132,6 @@ laid-so_far part first now next more i x h is so step =
 pub laid-all : (part : ℕ) (first now more : List Piece) (i : ℕ) → length more ≤ i → laid part now ≡ laid part first ++ laid part (take i more) → laid part now ≡ laid part first ++ laid part more
 laid-all part first now more i h so = so ∙ ap (λ (ps : List Piece). laid part first ++ laid part ps) (take_all i more h)
 
-pub ruleset joins = (lengthens, own_piece, laid-pushed, laid-longer, pushed_pieces, longer_pieces, laid-so_far, laid-all)
+pub ruleset lengthening = (lengthens, own_piece, ends-apart, none-apart)
+
+pub ruleset joins = (own_piece, laid-pushed, laid-longer, pushed_pieces, longer_pieces, laid-so_far, laid-all, apart-pushed, apart-lengthened)

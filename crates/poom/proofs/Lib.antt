@@ -18,3 +18,10 @@ pub mod Rearranges
 pub mod Bounded
 pub mod Deletes
 pub mod Picks
+pub mod Stretched
+pub mod Counting
+pub mod Clips
+pub mod Intervals
+pub mod Showing
+pub mod Maximal
+pub mod Trials

@@ -16,6 +16,7 @@ use Rattle.poom.proofs.Places.{if_true, if_false}
 use Rattle.poom.proofs.RightRows.{short_document}
 use Rattle.poom.proofs.Joins.{addresses-more, laid-push, own_piece}
 use Rattle.poom.proofs.Looks.{fits_in}
+use Rattle.poom.proofs.Betweens.{none_apart}
 use Rattle.poom.proofs.Deletes.{Picks, later_picks, picks_by, bound_from_one, bound_to_end}
 
 take-none : {X : Type 0} (n : ℕ) → take {A = X} n [] ≡ []
@@ -76,7 +77,7 @@ none_picked part a b span end long S none e f t same h n =
 pub none_of_them : (none : List Piece) → none ≡ [] → All IsPiece none
 none_of_them none e = subst (All IsPiece) (sym e) (All-nil IsPiece)
 
-pub ruleset spans = (picked_between, none_picked, none_of_them, bound_from_one, bound_to_end, fits_in)
+pub ruleset spans = (picked_between, none_picked, none_of_them, none_apart, bound_from_one, bound_to_end, fits_in)
 
 -- ---- addresses one by one
 

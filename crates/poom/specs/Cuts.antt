@@ -42,8 +42,21 @@ pub record Continues (last next : Piece) : Type 0 where
   pub document : last.document ≡ next.document
   pub first : last.first + last.count ≡ next.first
 
+-- the piece does not go on where the last of these ends
+abbrev pub EndApart : List Piece → Piece → Type 0
+EndApart [] piece = Unit {0}
+EndApart (x ∷ []) piece = ¬ Continues x piece
+EndApart (x ∷ y ∷ pieces) piece = EndApart (y ∷ pieces) piece
+
+-- no piece goes on where the one in front of it ends
+abbrev pub AreApart : List Piece → Type 0
+AreApart [] = Unit {0}
+AreApart (x ∷ []) = Unit {0}
+AreApart (x ∷ y ∷ pieces) = (¬ Continues x y) × AreApart (y ∷ pieces)
+
 -- the last of some pieces, made longer by another piece
 pub record Lengthens (pieces : List Piece) (piece longer : Piece) : Type 0 where
   pub some : 1 ≤ length pieces
   pub is_piece : IsPiece longer
   pub lays : (part : ℕ) → laid part (take (length pieces - 1) pieces) ++ piece_addresses part longer ≡ laid part pieces ++ piece_addresses part piece
+  pub apart : AreApart pieces → AreApart (take (length pieces - 1) pieces ++ longer ∷ [])

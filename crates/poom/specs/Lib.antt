@@ -6,4 +6,7 @@ pub mod Laid
 pub mod Cuts
 pub mod Edited
 pub mod Picked
+pub mod Runs
+pub mod Shown
+pub mod Positions
 pub mod Bounds

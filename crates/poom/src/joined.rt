@@ -1,8 +1,8 @@
 //! Lists of pieces, in which a piece that goes on where the one in front ends makes that one longer.
-ghost use Rattle.std.specs.Prelude.{◌≡◌, ℕ, ◌+◌, ◌^◌, ◌<◌, ◌↔◌, ◌++◌, All, IsTrue, IfSome, OnOk};
+ghost use Rattle.std.specs.Prelude.{◌≡◌, ℕ, ◌+◌, ◌^◌, ◌<◌, ◌↔◌, ◌++◌, All, IsTrue, IfSome, IfNone, OnOk};
 ghost use Rattle.std.specs.Option.{option_to_list};
 ghost use Rattle.poom.specs.Pieces.{IsPiece, piece_addresses, laid};
-ghost use Rattle.poom.specs.Cuts.{Continues, Lengthens};
+ghost use Rattle.poom.specs.Cuts.{Continues, EndApart, AreApart, Lengthens};
 
 use crate::piece::Piece;
 use tumbler::{List, Memory};
@@ -17,11 +17,12 @@ pub(crate) fn continues(last: &Piece, next: &Piece) -> bool
 }
 
 /// The last of the pieces, made longer by another one that goes on where it ends.
-#[tactic(auto, using(crate::proofs::Joins::joins))]
+#[tactic(auto, using(crate::proofs::Joins::lengthening))]
 fn longer(pieces: &[Piece], piece: &Piece) -> Option<Piece>
     requires each { All IsPiece pieces.now }
     requires piece { IsPiece piece.now }
-    ensures { IfSome result (λ longer. Lengthens pieces.now piece.now longer) }
+    ensures some { IfSome result (λ longer. Lengthens pieces.now piece.now longer) }
+    ensures none { IfNone result (EndApart pieces.now piece.now) }
 {
     let n = pieces.len();
     if n == 0 {
@@ -45,6 +46,7 @@ pub(crate) fn push_piece(pieces: &mut List<Piece>, piece: Piece) -> Result<(), M
     requires piece { IsPiece piece }
     ensures laid { OnOk result ((part : ℕ) → laid part pieces.new.items ≡ laid part pieces.old.items ++ piece_addresses part piece) }
     ensures each { OnOk result (All IsPiece pieces.new.items) }
+    ensures apart { OnOk result (AreApart pieces.old.items → AreApart pieces.new.items) }
 {
     let Some(longer) = longer(pieces.as_slice(), &piece) else {
         pieces.push(piece)?;

@@ -12,6 +12,7 @@ mod picked;
 mod piece;
 mod poom;
 mod put;
+mod shown;
 mod swap;
 #[cfg(test)]
 mod tests;

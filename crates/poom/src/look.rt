@@ -37,7 +37,7 @@ pub struct Found {
 
 /// The piece of so many bytes or links whose first address this is.
 #[tactic(auto, using(crate::proofs::Looks::looks))]
-fn piece_of(address: &Tumbler, count: u32) -> Piece
+pub(crate) fn piece_of(address: &Tumbler, count: u32) -> Piece
     requires { (document : ListOf ℕ) × IsMadeIn address.now document }
     ensures { result ≡ row_piece (record { first = []; second = address.now; leaf = count }) }
 {

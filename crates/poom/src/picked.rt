@@ -5,7 +5,9 @@ ghost use Rattle.enfilade_core.specs.Rows.{rows_of};
 ghost use Rattle.poom.specs.Pieces.{IsPiece, address_in, piece_addresses, laid};
 ghost use Rattle.poom.specs.Laid.{IsRoot, part_number, standing_in, texts, links};
 ghost use Rattle.poom.specs.Picked.{picked_from};
+ghost use Rattle.poom.specs.Cuts.{AreApart};
 ghost use Rattle.poom.specs.Edited.{IsContentRun, piece_run, run_addresses};
+ghost use Rattle.poom.specs.Runs.{as_runs};
 
 use crate::delete::bound;
 use crate::part::Part;
@@ -87,6 +89,7 @@ impl Poom {
         requires fits { SpanFits span.now }
         ensures laid { IfOk result (λ made. laid (part_number part) made.items ≡ picked_from (part_number part) span.now 1 (standing_in part (rows_of self.now root.0))) }
         ensures each { IfOk result (λ made. All IsPiece made.items) }
+        ensures apart { IfOk result (λ made. AreApart made.items) }
     {
         let length = self.length_of(root, part);
         let from = bound(part, &span.start, length);
@@ -98,11 +101,12 @@ impl Poom {
         Ok(pieces)
     }
 
-    /// The runs of what a span picks from the text, read through this document.
+    /// The runs of what a span picks from the text, read through this document: as few as can be, in V order.
     #[tactic(auto, using(crate::proofs::Picks::runs))]
     pub fn picked(&self, root: Node, document: &Tumbler, span: &Span) -> Result<List<Run>, Memory>
         requires root { IsRoot self.now root.0 }
         requires fits { SpanFits span.now }
+        ensures runs { IfOk result (λ runs. runs.items ≡ as_runs document.now (picked_from 1 span.now 1 (texts (rows_of self.now root.0)))) }
         ensures bytes { IfOk result (λ runs. run_addresses runs.items ≡ picked_from 1 span.now 1 (texts (rows_of self.now root.0))) }
         ensures origin { IfOk result (λ runs. All (λ run. run.origin ≡ document.now) runs.items) }
         ensures content { IfOk result (λ runs. All IsContentRun runs.items) }

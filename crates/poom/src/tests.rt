@@ -1,12 +1,79 @@
 //! Documents, call by call.
+ghost use Rattle.std.specs.Prelude.{◌≡◌, ◌+◌, ◌^◌, ◌<◌, ◌≤◌, length, All, IfOk};
+ghost use Rattle.tumbler.specs.Address.{IsDocument};
+ghost use Rattle.tumbler.specs.Span.{SpanFits};
+ghost use Rattle.poom.specs.Edited.{IsContentRun, run_addresses};
 
 use crate::Poom;
+use febe_data::Run;
 use std::alloc::Global;
 use std::test::Fail;
-use tumbler::{BadTumbler, Tumbler};
+use tumbler::{List, Memory, Span, Tumbler};
 
-fn document(alloc: Global) -> Result<Tumbler, BadTumbler> {
-    Tumbler::from_places(alloc, &[1, 1, 0, 1, 0, 1])
+fn at(alloc: Global, places: &[u32]) -> Result<Tumbler, Memory> {
+    match Tumbler::from_places(alloc, places) {
+        Ok(tumbler) => Ok(tumbler),
+        Err(_fault) => Err(Memory),
+    }
+}
+
+fn document(alloc: Global) -> Result<Tumbler, Memory>
+    ensures { IfOk result IsDocument }
+{
+    let document = at(alloc, &[1, 1, 0, 1, 0, 1])?;
+    if !document.is_document() {
+        return Err(Memory);
+    }
+    Ok(document)
+}
+
+fn span(alloc: Global, start: &[u32], width: &[u32]) -> Result<Span, Memory>
+    ensures { IfOk result SpanFits }
+{
+    let span = Span {
+        start: at(alloc, start)?,
+        width: at(alloc, width)?,
+    };
+    if !span.fits() {
+        return Err(Memory);
+    }
+    Ok(span)
+}
+
+/// One run of the document's content.
+#[tactic(auto, using(crate::proofs::Trials::trials))]
+fn one_run(alloc: Global, document: &Tumbler, first: u32, count: u32) -> Result<List<Run>, Memory>
+    requires document { IsDocument document.now }
+    requires from_one { 1 ≤ first }
+    requires filled { 1 ≤ count }
+    requires fits { first + count < 2 ^ 32 }
+    ensures runs { IfOk result (λ runs. All IsContentRun runs.items) }
+    ensures long { IfOk result (λ runs. length (run_addresses runs.items) ≡ count) }
+{
+    let mut runs = List::new(alloc);
+    runs.push(Run {
+        origin: document.copy(),
+        content: document.copy(),
+        first,
+        length: count,
+    })?;
+    Ok(runs)
+}
+
+/// Whether the runs are these, each by its first byte and its length.
+fn are(runs: &List<Run>, expected: &[(u32, u32)]) -> bool {
+    if runs.len() != expected.len() {
+        return false;
+    }
+    for (k, (first, length)) in expected.iter().enumerate() {
+        let Some(run) = runs.get(k) else {
+            return false;
+        };
+        if run.first != *first || run.length != *length {
+            return false;
+        }
+    }
+    true
 }
 
 #[test]
@@ -16,12 +83,85 @@ fn shows_what_came_in(rt: HostRuntime) -> Result<(), Fail> {
     let mut poom = Poom::new(alloc);
     let empty = poom.empty()?;
     assert!(rt; poom.length(empty) == 0);
-    assert!(rt; home.is_document());
     let root = poom.insert(empty, 1, &home, 1, 5)?;
     assert!(rt; poom.length(root) == 5);
     assert!(rt; poom.length(empty) == 0);
     let found = poom.i_of(root, 3).expect(&rt, "a byte");
     assert!(rt; found.number == 3);
     assert!(rt; poom.i_of(root, 6).is_none());
+    Ok(())
+}
+
+#[test]
+fn swaps_blocks(rt: HostRuntime) -> Result<(), Fail> {
+    let alloc = rt.alloc();
+    let mut poom = Poom::new(alloc);
+    let empty = poom.empty()?;
+    assert!(rt; poom.length(empty) == 0);
+    let home = document(alloc)?;
+    let root = poom.insert(empty, 1, &home, 1, 6)?;
+    assert!(rt; poom.length(root) == 6);
+    let swapped = poom.rearrange(root, &List::from_slice(alloc, &[2, 4, 6])?)?;
+    let whole = span(alloc, &[1, 1], &[0, 6])?;
+    let all = are(
+        &poom.picked(swapped, &home, &whole)?,
+        &[(1, 1), (4, 2), (2, 2), (6, 1)],
+    );
+    assert!(rt; all);
+    Ok(())
+}
+
+#[test]
+fn shows_repeats_each_in_its_place(rt: HostRuntime) -> Result<(), Fail> {
+    let alloc = rt.alloc();
+    let mut poom = Poom::new(alloc);
+    let empty = poom.empty()?;
+    assert!(rt; poom.length(empty) == 0);
+    let home = document(alloc)?;
+    let root = poom.insert(empty, 1, &home, 1, 3)?;
+    assert!(rt; poom.length(root) == 3);
+    let root = poom.copy_in(root, 2, &one_run(alloc, &home, 1, 3)?)?;
+    let first = span(
+        alloc,
+        &[1, 1, 0, 1, 0, 1, 0, 1, 1],
+        &[0, 0, 0, 0, 0, 0, 0, 0, 1],
+    )?;
+    let found = poom.v_of(root, &first)?;
+    assert!(rt; found.len() == 1);
+    Ok(())
+}
+
+#[test]
+fn keeps_a_run_for_each_byte_put_in_front(rt: HostRuntime) -> Result<(), Fail> {
+    let alloc = rt.alloc();
+    let home = document(alloc)?;
+    let mut poom = Poom::new(alloc);
+    let mut root = poom.empty()?;
+    for first in 1..18 {
+        let long = poom.length(root);
+        assert!(rt; long < 18);
+        root = poom.insert(root, 1, &home, first, 1)?;
+    }
+    let depth = poom.arena().depth(root);
+    assert!(rt; depth == 1);
+    let leaves = poom.arena().leaves(root);
+    assert!(rt; leaves == 17);
+    Ok(())
+}
+
+#[test]
+fn deletes_text_and_links(rt: HostRuntime) -> Result<(), Fail> {
+    let alloc = rt.alloc();
+    let mut poom = Poom::new(alloc);
+    let empty = poom.empty()?;
+    assert!(rt; poom.length(empty) == 0);
+    let home = document(alloc)?;
+    let root = poom.insert(empty, 1, &home, 1, 5)?;
+    let version = poom.version(root);
+    let mark = poom.mark();
+    let none = poom.delete(root, &span(alloc, &[1, 1], &[1, 5])?)?;
+    assert!(rt; poom.length(none) == 0);
+    poom.back(mark);
+    assert!(rt; poom.length(version) == 5);
     Ok(())
 }

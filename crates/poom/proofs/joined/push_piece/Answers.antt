@@ -9,5 +9,5 @@ returns-in_default-clause-each c = pushed_pieces c.args.pieces.now.items _ c.arg
 
 pub returns-clause-each : goal.returns-clause-each
 returns-clause-each c =
-    longer_pieces c.args.pieces.now.items _ _ c.len-n.result c.args.piece c.in-Some.longer (subst (λ (pieces : List Piece). Lengthens pieces c.args.piece c.in-Some.longer) c.as_slice.ensures c.in-Some.ensures)
+    longer_pieces c.args.pieces.now.items _ _ c.len-n.result c.args.piece c.in-Some.longer (subst (λ (pieces : List Piece). Lengthens pieces c.args.piece c.in-Some.longer) c.as_slice.ensures c.in-Some.ensures.some)
     c.truncate.ensures.items c.in_ok-push-2.ensures.ok c.requires.each
