@@ -1,10 +1,10 @@
 -- Spans that come in.
-use Rattle.std.proofs.Common.{◌≡◌, ℕ, ◌<◌, ◌^◌, Bool, true, false, cond, List, [], ◌∷◌, ◌++◌, map, refl, arith, ap, ◌∙◌, sym, subst, inl, inr}
+use Rattle.std.proofs.Common.{◌≡◌, ℕ, ◌<◌, ◌^◌, List, [], ◌∷◌, ◌++◌, refl, arith, sym, subst, inl, inr}
 use Rattle.std.specs.List.{All}
 use Rattle.std.proofs.lemmas.List.Elements.{All-head, All-tail, All-nil, All-cons, All-weaker, All-append}
 use Rattle.std.proofs.lemmas.Bool.{false≢true}
 use Rattle.tumbler.specs.declared.span.Span.{Span}
-use Rattle.tumbler.specs.Places.{IsTumbler, IsUpTo, Fits, comes_before}
+use Rattle.tumbler.specs.Places.{IsTumbler}
 use Rattle.tumbler.specs.Span.{SpanFits}
 use Rattle.tumbler.proofs.Order.{upto_upto, upto_or_before, upto_if_before, upto_itself}
 use Rattle.tumbler.proofs.Before.{true_if_before, false_if_up_to, up_to_if_false}
@@ -14,6 +14,7 @@ use Rattle.enfilade_core.specs.Axes.{InOrder, IsRightRow}
 use Rattle.enfilade_core.specs.Planes.{key_widths}
 use Rattle.enfilade_core.specs.Edits.{put_before}
 use Rattle.spanfilade.specs.Index.{row_of}
+use Rattle.spanfilade.specs.Groups.{FitIn, IsPast, IsBehind, AreBehind}
 
 -- ---- what comes in is right
 
@@ -32,24 +33,6 @@ right_row span key start width at fits = record {
 }
 
 -- ---- the order stays
-
--- all rows are at or past a place
-abbrev pub IsPast : {L : Type 0} → List ℕ → Row L → Type 0
-IsPast at r = IsUpTo at r.first
-
--- a row that is not before a place is at or past n
-abbrev pub IsBehind : {L : Type 0} → List ℕ → Row L → Row L → Type 0
-IsBehind at n r = comes_before r.first at ≡ false → IsUpTo n.first r.first
-
--- so are all rows
-abbrev pub AreBehind : {L : Type 0} → List ℕ → List (Row L) → Row L → Type 0
-AreBehind at rows n = All (IsBehind at n) rows
-
--- rows come in at a place, and are up to those behind it
-pub record FitIn {L : Type 0} (at : List ℕ) (new rows : List (Row L)) : Type 0 where
-  pub ordered : InOrder new
-  pub past : All (IsPast at) new
-  pub up_to : All (AreBehind at rows) new
 
 behind_itself : {L : Type 0} (row : Row L) (rows : List (Row L)) → AreBehind row.first rows row
 behind_itself row [] = All-nil (IsBehind row.first row)

@@ -7,9 +7,9 @@ use Rattle.std.proofs.lemmas.List.Folds.{list_any-append, list_any_more}
 use Rattle.std.proofs.lemmas.List.Sorted.{All-permutation, list_any-IsPermutation}
 use Rattle.std.proofs.lemmas.Bool.{false≢true}
 use Rattle.tumbler.specs.declared.span.Span.{Span}
-use Rattle.tumbler.specs.Places.{IsBefore, IsUpTo, IsTumbler, Fits, comes_before, sum, difference}
+use Rattle.tumbler.specs.Places.{IsBefore, IsUpTo, IsTumbler, comes_before, sum, difference}
 use Rattle.tumbler.specs.Span.{end_of, SpanFits}
-use Rattle.tumbler.proofs.Order.{upto_upto, upto_before, before_upto, before_before, upto_or_before, upto_if_before, never_before_itself}
+use Rattle.tumbler.proofs.Order.{upto_upto, upto_before, before_upto, upto_or_before}
 use Rattle.tumbler.proofs.Before.{before_if_true, true_if_before, up_to_if_false, false_if_up_to}
 use Rattle.tumbler.proofs.Differences.{sum-difference}
 use Rattle.tumbler.proofs.SumOrder.{fits_if_tumbler}

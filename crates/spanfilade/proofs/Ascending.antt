@@ -1,5 +1,5 @@
 -- Keys in ascending order, each once: they are settled by which keys there are.
-use Rattle.std.proofs.Common.{◌≡◌, ℕ, Bool, true, false, ◌||◌, cond, List, [], ◌∷◌, ◌++◌, refl, ap, ◌∙◌, sym}
+use Rattle.std.proofs.Common.{◌≡◌, ℕ, Bool, true, false, ◌||◌, List, [], ◌∷◌, refl, ap, ◌∙◌, sym}
 use Rattle.std.specs.List.{list_any, AllByRecursion}
 use Rattle.std.specs.List.Sorted.{IsStrictlySortedBy}
 use Rattle.std.specs.declared.cmp.Ordering.{Ordering}
@@ -49,7 +49,7 @@ inserted_among (x ∷ xs) key q = by_order (slice_cmp nat_cmp key x) refl (inser
         ∙ ap (λ (k : List ℕ). is_eq (slice_cmp nat_cmp q k) || (is_eq (slice_cmp nat_cmp q x) || among q xs)) (sym (same_if_tied key x e))
     by_order Greater e rest = ap (λ (b : Bool). is_eq (slice_cmp nat_cmp q x) || b) rest ∙ or_across (is_eq (slice_cmp nat_cmp q x)) (is_eq (slice_cmp nat_cmp q key)) (among q xs)
 
-with_keys-among : (more keys : List (List ℕ)) (q : List ℕ) → among q (with_keys keys more) ≡ (among q keys || among q more)
+pub with_keys-among : (more keys : List (List ℕ)) (q : List ℕ) → among q (with_keys keys more) ≡ (among q keys || among q more)
 with_keys-among [] keys q = or_none (among q keys)
 with_keys-among (key ∷ more) keys q =
     with_keys-among more (insert_key (slice_cmp nat_cmp) keys key) q
@@ -86,11 +86,11 @@ inserted_ascends (x ∷ xs) key s = by_order (slice_cmp nat_cmp key x) refl (ins
     by_order Equal e rest = s
     by_order Greater e rest = (after_inserted x key xs (nat_list_cmp_total.antisymm x key ∙ ap ordering_reverse e) s.0, rest)
 
-with_keys-ascends : (more keys : List (List ℕ)) → IsStrictlySortedBy (slice_cmp nat_cmp) keys → IsStrictlySortedBy (slice_cmp nat_cmp) (with_keys keys more)
+pub with_keys-ascends : (more keys : List (List ℕ)) → IsStrictlySortedBy (slice_cmp nat_cmp) keys → IsStrictlySortedBy (slice_cmp nat_cmp) (with_keys keys more)
 with_keys-ascends [] keys s = s
 with_keys-ascends (key ∷ more) keys s = with_keys-ascends more (insert_key (slice_cmp nat_cmp) keys key) (inserted_ascends keys key s)
 
-none_ascends : IsStrictlySortedBy (slice_cmp nat_cmp) []
+pub none_ascends : IsStrictlySortedBy (slice_cmp nat_cmp) []
 unfolding IsStrictlySortedBy
 none_ascends = tt
 

@@ -4,3 +4,5 @@ pub mod Ascending
 pub mod KeysMet
 pub mod AsOne
 pub mod OneGap
+pub mod GroupRows
+pub mod Longer

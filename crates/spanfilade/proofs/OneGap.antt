@@ -11,7 +11,8 @@ use Rattle.tumbler.proofs.Before.{before_if_true, true_if_before, false_if_up_to
 use Rattle.enfilade_core.specs.declared.tree.Row.{Row}
 use Rattle.enfilade_core.specs.Axes.{InOrder}
 use Rattle.enfilade_core.specs.Edits.{put_before, last_before, or_else}
-use Rattle.spanfilade.proofs.Adding.{FitIn, IsPast, IsBehind, AreBehind, InOrder-put_all}
+use Rattle.spanfilade.specs.Groups.{FitIn, IsPast, AreBehind, IsAcross}
+use Rattle.spanfilade.proofs.Adding.{InOrder-put_all}
 
 -- rows that come in beside others are those and these
 pub put_moves : {L : Type 0} (at : List ℕ) (new rows : List (Row L)) → IsPermutation (new ++ rows) (put_before at new rows)
@@ -24,10 +25,6 @@ put_moves at new (row ∷ rows) = elim (upto_or_before at row.first) [
 
 -- ---- a gap from one place on and before another
 
--- a row that is not before the one place is at or past the other
-abbrev pub IsAcross : {L : Type 0} → List ℕ → List ℕ → Row L → Type 0
-IsAcross from to row = comes_before row.first from ≡ false → IsUpTo to row.first
-
 -- the last row before the other place is before the one, if there is such a row
 abbrev pub IsFront : {L : Type 0} → List ℕ → Option (Row L) → Type 0
 IsFront from (Some row) = comes_before row.first from ≡ true
@@ -39,7 +36,7 @@ found_in P row found None true rec own e = let same : row ≡ found = cc in subs
 found_in P row found rest false rec own e = let never : ⊥ = cc in absurd never
 
 -- what holds of all rows holds of the one that was found
-found_holds : {L : Type 0} (P : Row L → Type 0) (to : List ℕ) (rows : List (Row L)) (found : Row L) → last_before to rows ≡ Some found → All P rows → P found
+pub found_holds : {L : Type 0} (P : Row L → Type 0) (to : List ℕ) (rows : List (Row L)) (found : Row L) → last_before to rows ≡ Some found → All P rows → P found
 found_holds P to [] found e h = let never : ⊥ = cc in absurd never
 found_holds P to (row ∷ rows) found e h =
     found_in P row found (last_before to rows) (comes_before row.first to) (λ r. found_holds P to rows found r (All-tail P row rows h)) (All-head P row rows h) e

@@ -10,7 +10,7 @@ use std::alloc::Global;
 use tumbler::{List, Memory, Span, Tumbler};
 
 /// The one of two places that comes later.
-fn later(a: &Tumbler, b: &Tumbler) -> Tumbler
+pub(crate) fn later(a: &Tumbler, b: &Tumbler) -> Tumbler
     ensures { result ≡ later a.now b.now }
 {
     if a.is_before(b) { b.copy() } else { a.copy() }

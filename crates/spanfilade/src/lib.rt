@@ -1,8 +1,10 @@
 //! Spans and the keys that they were added for, found by what they meet.
 #![tactic(auto)]
 
+mod groups;
 mod joining;
 mod keys;
+mod lengthening;
 mod spanfilade;
 #[cfg(test)]
 mod tests;

@@ -1,15 +1,18 @@
 //! The index.
-ghost use Rattle.std.specs.Prelude.{◌≡◌, ◌<◌, ◌≤◌, [], ◌∷◌, length, All, IfOk, OnOk, OnErr};
+ghost use Rattle.std.specs.Prelude.{◌≡◌, ◌<◌, ◌≤◌, [], ◌∷◌, ◌++◌, length, All, IfOk, OnOk, OnErr};
+ghost use Rattle.std.specs.List.Sorted.{IsPermutation};
 ghost use Rattle.tumbler.specs.Span.{SpanFits};
 ghost use Rattle.enfilade_core.specs.Rows.{rows_of};
 ghost use Rattle.enfilade_core.specs.Exchange.{Grows};
-ghost use Rattle.enfilade_core.specs.Axes.{IsRightRow};
+ghost use Rattle.enfilade_core.specs.Axes.{IsRightRow, InOrder};
 ghost use Rattle.enfilade_core.specs.Planes.{key_widths};
-ghost use Rattle.spanfilade.specs.Index.{IndexTree, rows_in_index, row_of, with_span, mark_of, at_mark};
+ghost use Rattle.spanfilade.specs.Index.{IndexTree, rows_in_index, row_of, rows_for, with_span, IsCovered, mark_of, at_mark};
 ghost use Rattle.spanfilade.specs.Keys.{keys_met};
 
-use crate::joining::joined;
+use crate::groups::put_all;
+use crate::joining::{by_start, joined};
 use crate::keys::{listed, take_keys};
+use crate::lengthening::{longer_row, put_longer};
 use enfilade_core::{Arena, KeyPlane, Node, Row, TreeMark};
 use enfilade_search::overlapping;
 use std::alloc::Global;
@@ -60,6 +63,45 @@ impl Spanfilade {
     {
         let rows = one_row(self.arena.allocator(), span, key)?;
         self.root = self.arena.splice(self.root, &span.start, &rows)?;
+        Ok(())
+    }
+
+    /// Adds many spans for one key.
+    ///
+    /// The spans are sorted first. Those that no row stands between come in together, with one copy of the path.
+    /// Where it is refused the spans are as before, though the arena may hold more nodes.
+    pub fn add_all(&mut self, spans: &List<Span>, key: &Tumbler) -> Result<(), Memory>
+        requires { All SpanFits spans.now.items }
+        ensures added { OnOk result (IsPermutation (rows_for spans.now.items key.now ++ rows_in_index self.old) (rows_in_index self.new)) }
+        ensures ordered { OnOk result (InOrder (rows_in_index self.new)) }
+        ensures refused { OnErr result (rows_in_index self.new ≡ rows_in_index self.old) }
+        ensures stays { OnErr result (self.new.root ≡ self.old.root) }
+        ensures grows { Grows self.old.nodes self.new.nodes }
+    {
+        let sorted = by_start(self.arena.allocator(), spans.as_slice())?;
+        self.root = put_all(&mut self.arena, self.root, sorted.as_slice(), key)?;
+        Ok(())
+    }
+
+    /// Adds a span for a key, or makes a row of that key longer in which the span begins or where the row ends.
+    ///
+    /// It is for text that is typed: each piece goes on where the one before it ended, and one row covers them
+    /// all. What the spans of the key cover is the same as after `add`. A row that shares its start with others
+    /// stays as it is. Where it is refused the spans are as before, though the arena may hold more nodes.
+    pub fn cover(&mut self, span: &Span, key: &Tumbler) -> Result<(), Memory>
+        requires { SpanFits span.now }
+        ensures covered { OnOk result (IsCovered span.now key.now (rows_in_index self.old) (rows_in_index self.new)) }
+        ensures refused { OnErr result (rows_in_index self.new ≡ rows_in_index self.old) }
+        ensures stays { OnErr result (self.new.root ≡ self.old.root) }
+        ensures grows { Grows self.old.nodes self.new.nodes }
+    {
+        let Some(row) = longer_row(&self.arena, self.root, span, key) else {
+            return self.add(span, key);
+        };
+        let Some(root) = put_longer(&mut self.arena, self.root, row, span, key)? else {
+            return self.add(span, key);
+        };
+        self.root = root;
         Ok(())
     }
 
@@ -114,7 +156,7 @@ impl Spanfilade {
 }
 
 /// The row of a span that is added for a key.
-fn row_of(span: &Span, key: &Tumbler) -> Row<Tumbler>
+pub(crate) fn row_of(span: &Span, key: &Tumbler) -> Row<Tumbler>
     requires { SpanFits span.now }
     ensures value { result ≡ row_of span.now key.now }
     ensures right { IsRightRow key_widths (row_of span.now key.now) }

@@ -1,4 +1,4 @@
-use Rattle.spanfilade.proofs.AsOne.{Touch, touch, joined_met, joined_fits}
+use Rattle.spanfilade.proofs.AsOne.{touch, joined_met, joined_fits}
 use Rattle.spanfilade.proofs.joining.as_one.Goals as goal
 
 pub minus-requires : goal.minus-requires

@@ -1,6 +1,4 @@
-use Rattle.std.proofs.Common.{ap, ◌∙◌}
-use Rattle.std.proofs.Common.{map}
-use Rattle.enfilade_core.specs.Plain.{plain_row}
+use Rattle.std.proofs.Common.{◌∙◌}
 use Rattle.enfilade_core.specs.Planes.{key_widths}
 use Rattle.enfilade_core.proofs.Parts.{rows-ordered}
 use Rattle.spanfilade.specs.Index.{row_of}
