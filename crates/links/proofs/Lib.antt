@@ -1,0 +1,9 @@
+pub mod Placed
+pub mod Ordered
+pub mod Counted
+pub mod Changed
+pub mod RunPlaces
+pub mod EndsKept
+pub mod ListSteps
+pub mod Searched
+pub mod OrderedSpans

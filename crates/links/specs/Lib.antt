@@ -1,0 +1,5 @@
+pub use Rattle.febe_data.specs.Address
+pub use Rattle.world_rules.specs.World
+pub mod LinkLists
+pub mod Finding
+pub mod inside

@@ -1,0 +1,15 @@
+//! Links by id and by the content at their ends.
+#![tactic(auto)]
+
+mod counts;
+mod ends;
+mod finding;
+mod links;
+mod place;
+mod row;
+mod runs;
+mod spans;
+mod table;
+
+pub use links::Links;
+pub use row::{LinkMarks, LinkRow, WantedEnds};

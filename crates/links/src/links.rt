@@ -1,0 +1,219 @@
+//! The table of links and its calls.
+ghost use Rattle.std.specs.Prelude.{◌≡◌, ◌<◌, ◌≤◌, ◌⊎◌, List as ListOf, [], length, slice_get, All, IfOk, OnOk, OnErr, IfSome, false};
+ghost use Rattle.std.specs.Option.{option_map, option_copied};
+ghost use Rattle.tumbler.specs.Span.{SpanFits};
+ghost use Rattle.spanfilade.specs.Index.{rows_in_index, at_mark};
+ghost use Rattle.links.specs.LinkLists.{LinkLists, most_links, plain_link, IsLink, HoldsRuns, index_at, has_in, link_in, count_of_home_in, added, removed, marks_of, at_marks, AllGrow, AsBefore};
+ghost use Rattle.links.specs.Finding.{found_in, spans_met, EndsFit};
+ghost use Rattle.links.specs.inside.Kept.{Hold};
+
+use crate::ends::add_to_all;
+use crate::finding::{found_among, found_in_order};
+use crate::row::{LinkMarks, LinkRow, WantedEnds};
+use crate::runs::run_spans;
+use crate::spans::spans_in_order;
+use crate::table::Table;
+use enfilade_search::overlapping;
+use spanfilade::Spanfilade;
+use std::alloc::Global;
+use std::marker::Model;
+use tumbler::{List, Memory, Span, Tumbler};
+
+/// The links that there are, by id and by the content at their ends.
+///
+/// A table in ascending order of ids, with the number of links of each home, and for each of the three ends an
+/// index of its runs.
+#[derive(Drop)]
+pub struct Links {
+    table: Table,
+    from: Spanfilade,
+    to: Spanfilade,
+    three: Spanfilade,
+}
+
+impl Model for Links {
+    ghost use Rattle.std.specs.Prelude.{All, ◌≤◌, length};
+    ghost use Rattle.links.specs.LinkLists.{LinkLists, IsLink, HoldsRuns, ids_in, most_links};
+
+    ghost Value = { LinkLists };
+
+    ghost view = { λ l. record { links = l.table; from = l.from; to = l.to; three = l.three } };
+
+    ghost invariant = { λ l. All IsLink l.table × HoldsRuns 1 l.table l.from × HoldsRuns 2 l.table l.to × HoldsRuns 3 l.table l.three };
+}
+
+impl Links {
+    /// A table of no links.
+    pub fn new(alloc: Global) -> Result<Links, Memory>
+        ensures { IfOk result (λ made. made.links ≡ []) }
+    {
+        Ok(Links {
+            table: Table::new(alloc),
+            from: Spanfilade::new(alloc)?,
+            to: Spanfilade::new(alloc)?,
+            three: Spanfilade::new(alloc)?,
+        })
+    }
+
+    /// Adds a link.
+    ///
+    /// Where it is refused the links and the rows of the indexes are as before, though their arenas may hold
+    /// more nodes.
+    pub fn add(&mut self, alloc: Global, link: LinkRow) -> Result<(), Memory>
+        requires absent { has_in self.old.links link.id ≡ false }
+        requires room { length self.old.links < most_links }
+        requires runs { IsLink (plain_link link) }
+        ensures added { OnOk result (self.new.links ≡ added self.old.links (plain_link link)) }
+        ensures refused { OnErr result (AsBefore self.old self.new) }
+        ensures grows { AllGrow self.old self.new }
+    {
+        let from = run_spans(alloc, link.from.as_slice())?;
+        let to = run_spans(alloc, link.to.as_slice())?;
+        let three = run_spans(alloc, link.three.as_slice())?;
+        let id = link.id.copy();
+        self.table.add(alloc, link)?;
+        let Ok(()) = add_to_all(
+            &mut self.from,
+            &mut self.to,
+            &mut self.three,
+            &from,
+            &to,
+            &three,
+            &id,
+        ) else {
+            self.table.remove(&id);
+            return Err(Memory);
+        };
+        Ok(())
+    }
+
+    /// The link of an id, if it is there. It takes no memory.
+    pub fn get(&self, id: &Tumbler) -> Option<&LinkRow>
+        ensures { option_map plain_link (option_copied result) ≡ link_in self.now.links id.now }
+    {
+        self.table.get(id)
+    }
+
+    /// The `k`-th link in ascending order of ids, counted from 0. It takes no memory.
+    pub fn nth(&self, k: u32) -> Option<&LinkRow>
+        ensures { option_map plain_link (option_copied result) ≡ slice_get self.now.links k }
+    {
+        self.table.nth(k)
+    }
+
+    /// How many links have the home. It looks a number up, and takes no memory.
+    pub fn count_of_home(&self, home: &Tumbler) -> u32
+        ensures { result ≡ count_of_home_in self.now.links home.now }
+    {
+        self.table.count_of_home(home)
+    }
+
+    /// The first `limit` ids above `after`, in ascending order, of the links whose home lies in one of `homes`,
+    /// or in any place where that is empty, and whose ends meet what is wanted of them.
+    pub fn find(
+        &self,
+        alloc: Global,
+        homes: &List<Span>,
+        ends: &WantedEnds,
+        after: &Tumbler,
+        limit: u32,
+    ) -> Result<List<Tumbler>, Memory>
+        requires homes { All SpanFits homes.now.items }
+        requires ends { EndsFit ends.now }
+        ensures { IfOk result (λ found. found.items ≡ found_in self.now.links homes.now.items ends.now after.now limit) }
+    {
+        let homes = homes.as_slice();
+        let _ascend = self.table.links();
+        let Some(ids) = self.candidates(ends)? else {
+            let links = self.table.not_before(after);
+            return found_in_order(alloc, links, homes, ends, after, limit);
+        };
+        found_among(
+            alloc,
+            &self.table,
+            ids.as_slice(),
+            homes,
+            ends,
+            after,
+            limit,
+        )
+    }
+
+    /// Ids among which all are that are wanted, where spans are given for some end.
+    fn candidates(&self, ends: &WantedEnds) -> Result<Option<List<Tumbler>>, Memory>
+        requires { EndsFit ends.now }
+        ensures { IfOk result (λ found. IfSome found (λ ids. Hold self.now.links ends.now ids.items)) }
+    {
+        let _ids = self.table.links();
+        if let Some(spans) = &ends.from {
+            let ids = self.from.keys_meeting(spans)?;
+            return Ok(Some(ids));
+        }
+        if let Some(spans) = &ends.to {
+            let ids = self.to.keys_meeting(spans)?;
+            return Ok(Some(ids));
+        }
+        if let Some(spans) = &ends.three {
+            let ids = self.three.keys_meeting(spans)?;
+            return Ok(Some(ids));
+        }
+        Ok(None)
+    }
+
+    /// The addresses of the runs of end 1, 2 or 3, over all links, that meet a span: in ascending order, by
+    /// start and then by width, each once.
+    pub fn spans_of_end(
+        &self,
+        alloc: Global,
+        end: u32,
+        meeting: &Span,
+    ) -> Result<List<Span>, Memory>
+        requires end { (end ≡ 1) ⊎ (end ≡ 2) ⊎ (end ≡ 3) }
+        requires fits { SpanFits meeting.now }
+        ensures { IfOk result (λ found. found.items ≡ spans_met end meeting.now self.now.links) }
+    {
+        let (arena, root) = self.index(end).parts();
+        let rows = overlapping(arena, root, meeting)?;
+        spans_in_order(alloc, rows.as_slice())
+    }
+
+    /// What `back` goes back to. It takes no memory.
+    pub fn mark(&self) -> LinkMarks
+        ensures { result ≡ marks_of self.now }
+    {
+        LinkMarks {
+            from: self.from.mark(),
+            to: self.to.mark(),
+            three: self.three.mark(),
+        }
+    }
+
+    /// Takes the link of an id out, if it is there, and takes each index back to its mark. It takes no memory.
+    pub fn back(&mut self, id: &Tumbler, marks: &LinkMarks)
+        requires below { (marks.now.from.root.0 < marks.now.from.count) × (marks.now.to.root.0 < marks.now.to.count) × (marks.now.three.root.0 < marks.now.three.count) }
+        requires counted { (marks.now.from.count ≤ length self.old.from.nodes) × (marks.now.to.count ≤ length self.old.to.nodes) × (marks.now.three.count ≤ length self.old.three.nodes) }
+        requires from { HoldsRuns 1 (removed self.old.links id.now) (at_mark marks.now.from self.old.from) }
+        requires to { HoldsRuns 2 (removed self.old.links id.now) (at_mark marks.now.to self.old.to) }
+        requires three { HoldsRuns 3 (removed self.old.links id.now) (at_mark marks.now.three self.old.three) }
+        ensures value { self.new ≡ at_marks id.now marks.now self.old }
+        ensures restored { (before : LinkLists) → AllGrow before self.old → marks.now ≡ marks_of before → removed self.old.links id.now ≡ before.links → self.new ≡ before }
+    {
+        self.table.remove(id);
+        self.from.back(&marks.from);
+        self.to.back(&marks.to);
+        self.three.back(&marks.three);
+    }
+
+    /// The index of end 1, 2 or 3. It takes no memory.
+    pub fn index(&self, end: u32) -> &Spanfilade
+        requires { (end ≡ 1) ⊎ (end ≡ 2) ⊎ (end ≡ 3) }
+        ensures index { result.now ≡ index_at end self.now }
+        ensures holds { HoldsRuns end self.now.links result.now }
+    {
+        match end {
+            1 => &self.from,
+            2 => &self.to,
+            _ => &self.three,
+        }
+    }
+}
