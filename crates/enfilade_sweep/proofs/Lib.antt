@@ -1,0 +1,6 @@
+pub mod Marking
+pub mod Reaching
+pub mod Naming
+pub mod Ranks
+pub mod Copies
+pub mod Whole

@@ -1,0 +1,74 @@
+-- The copies of all marked nodes are the sweep.
+use Rattle.std.proofs.Common.{◌≡◌, ◌∙◌, ℕ, ◌<◌, Bool, true, List, [], ◌∷◌, length, map, get_or, ap, refl, arith}
+use Rattle.std.specs.Prelude.{All}
+use Rattle.std.specs.List.{Contains}
+use Rattle.std.proofs.lemmas.List.{get_or-map, length-map}
+use Rattle.std.proofs.lemmas.List.Elements.{All-head, All-tail, Contains-get_or}
+use Rattle.enfilade_core.specs.declared.tree.Node.{Node}
+use Rattle.enfilade_core.specs.Rows.{Shape, rows_of, rows_in}
+use Rattle.enfilade_core.specs.Axes.{Widths}
+use Rattle.enfilade_core.specs.Right.{AreRight}
+use Rattle.enfilade_core.proofs.Locals.{rows_local}
+use Rattle.enfilade_sweep.specs.Sweep.{Reached, is_root, hangs, numbers, IsSwept}
+use Rattle.enfilade_sweep.specs.Marks.{is_marked, rank, AreMarked, AreCopied, IsClosed, AreRanks}
+use Rattle.enfilade_sweep.proofs.Naming.{rows_natural}
+use Rattle.enfilade_sweep.proofs.Ranks.{marked_within, rank_once, rank_only}
+use Rattle.enfilade_sweep.proofs.Copies.{inside, agree}
+
+map-alike : {X : Type 0} (f g : ℕ → X) (ks : List ℕ) → All (λ k. f k ≡ g k) ks → map f ks ≡ map g ks
+map-alike f g [] h = refl
+map-alike f g (k ∷ ks) h =
+    ap (λ (x : _). x ∷ map f ks) (All-head (λ (i : ℕ). f i ≡ g i) k ks h) ∙ ap (λ (r : List _). g k ∷ r) (map-alike f g ks (All-tail (λ (i : ℕ). f i ≡ g i) k ks h))
+
+map-map : {X : Type 0} (f : ℕ → ℕ) (g : ℕ → X) (ks : List ℕ) → map g (map f ks) ≡ map (λ k. g (f k)) ks
+map-map f g [] = refl
+map-map f g (k ∷ ks) = ap (λ (r : List _). g (f k) ∷ r) (map-map f g ks)
+
+-- all that is reached is marked
+reached_marked : {L : Type 0} (old : List (Shape L)) (roots : List ℕ) (marks : List Bool) → AreMarked old roots marks 0 → (k : ℕ) → Reached old roots k → is_marked marks k ≡ true
+reached_marked old roots marks m k (is_root c) = m.rooted k c
+reached_marked old roots marks m k (hangs {j = j} r c) = m.closed j k (omega arith) (reached_marked old roots marks m j r) c
+
+module _ {L : Type 0} (w : Widths L) (old new : List (Shape L)) (roots : List ℕ) (marks : List Bool) (ranks : List ℕ) (right_old : AreRight w old) (right_new : AreRight w new) (marked : AreMarked old roots marks 0) (exact : AreRanks marks ranks)
+    (copied : AreCopied marks old new (length old)) where
+  pub closed : IsClosed old marks
+  closed j k here c = marked.closed j k (omega arith) here c
+
+  within : (k : ℕ) → is_marked marks k ≡ true → k < length old
+  within k here = let lt = marked_within marks k here in omega (arith, lt, marked.long)
+
+  roots_marked : All (λ k. is_marked marks k ≡ true) roots
+  roots_marked i d lt = marked.rooted (get_or roots i d) (Contains-get_or roots i d lt)
+
+  pub root_there : (k : ℕ) → is_marked marks k ≡ true → get_or ranks k 0 < length new
+  root_there k here =
+      let lt = within k here in
+      let e = exact.1 k (marked_within marks k here) in
+      let t = inside w marks old new (length old) right_old right_new closed copied (omega arith) k lt here in
+      omega (arith, e, t)
+
+  placed : map (λ k. get_or ranks k 0) roots ≡ map (rank marks) roots
+  placed = map-alike (λ k. get_or ranks k 0) (rank marks) roots (λ i d lt. exact.1 (get_or roots i d) (marked_within marks (get_or roots i d) (roots_marked i d lt)))
+
+  pub is_swept : (new_roots : List ℕ) → new_roots ≡ map (λ k. get_or ranks k 0) roots → IsSwept old roots new new_roots
+  is_swept new_roots is = record {
+    place = rank marks;
+    there = λ k r. let here = reached_marked old roots marks marked k r in inside w marks old new (length old) right_old right_new closed copied (omega arith) k (within k here) here;
+    once = λ j k r s. rank_once marks j k (reached_marked old roots marks marked j r) (reached_marked old roots marks marked k s);
+    only = λ p lt. let found = rank_only marks (length old) p (omega (arith, lt, copied.long)) in (found.0, marked.sound found.0 found.1, found.2);
+    same = λ k r. let here = reached_marked old roots marks marked k r in copied.same k (within k here) here;
+    at = is ∙ placed;
+  }
+
+  pub same_rows : (new_roots : List ℕ) → new_roots ≡ map (λ k. get_or ranks k 0) roots → map (rows_of new) new_roots ≡ map (rows_of old) roots
+  same_rows new_roots is =
+      ap (map (rows_of new)) (is ∙ placed) ∙ map-map (rank marks) (rows_of new) roots
+      ∙ map-alike (λ k. rows_of new (rank marks k)) (rows_of old) roots
+      (λ i d lt. let here = roots_marked i d lt in
+      agree w marks old new (length old) right_old right_new closed copied (omega arith) rows_in [] rows_local rows_natural (get_or roots i d) (within (get_or roots i d) here) here)
+
+-- of the roots as nodes
+pub roots_there : (nodes : List Node) (marks : List Bool) (ranks : List ℕ) (n : ℕ) → ((k : ℕ) → Contains (numbers nodes) k → is_marked marks k ≡ true) → ((k : ℕ) → is_marked marks k ≡ true → get_or ranks k 0 < n) → All (λ (root : Node). get_or ranks root.0 0 < n) nodes
+roots_there nodes marks ranks n rooted there i d lt =
+    let number : Node → ℕ = λ node. node.0 in
+    there (get_or nodes i d).0 (rooted (get_or nodes i d).0 (i, omega (arith, lt, length-map nodes number), get_or-map number nodes i d (get_or nodes i d).0 lt))

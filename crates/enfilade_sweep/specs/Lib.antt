@@ -1,0 +1,3 @@
+pub use Rattle.enfilade_core.specs.Rows
+pub mod Sweep
+pub mod Marks

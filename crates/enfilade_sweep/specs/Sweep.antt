@@ -1,0 +1,41 @@
+-- What a sweep of an arena leaves: the nodes that are reached from its roots, each once.
+use Rattle.std.specs.Prelude.{◌≡◌, ℕ, ◌<◌, List, [], length, map}
+use Rattle.std.specs.List.{Contains}
+use Rattle.enfilade_core.specs.declared.tree.Node.{Node}
+use Rattle.enfilade_core.specs.declared.tree.Branch.{Branch}
+use Rattle.enfilade_core.specs.Rows.{Shape, Rows, Branches, node_at}
+
+-- the nodes' numbers
+abbrev pub numbers : List Node → List ℕ
+numbers nodes = map (λ (node : Node). node.0) nodes
+
+-- the branches under a node, of which rows have none, and the numbers of the nodes that hang there
+abbrev pub branches_of : {L : Type 0} → Shape L → List Branch
+branches_of (Rows rows) = []
+branches_of (Branches branches) = branches
+
+abbrev pub under : {L : Type 0} → Shape L → List ℕ
+under node = map (λ (branch : Branch). branch.node.0) (branches_of node)
+
+-- a node is reached where it is a root, or hangs under one that is reached
+pub data Reached {L : Type 0} (nodes : List (Shape L)) (roots : List ℕ) : ℕ → Type 0 where
+  is_root : {k : ℕ} → Contains roots k → Reached nodes roots k
+  hangs : {j k : ℕ} → Reached nodes roots j → Contains (under (node_at nodes j)) k → Reached nodes roots k
+
+-- a branch, and what hangs under a node, where nodes have other numbers
+abbrev pub renamed_branch : (ℕ → ℕ) → Branch → Branch
+renamed_branch place branch = record branch { node = record { 0 = place branch.node.0 } }
+
+abbrev pub renamed : {L : Type 0} → (ℕ → ℕ) → Shape L → Shape L
+renamed place (Rows rows) = Rows rows
+renamed place (Branches branches) = Branches (map (renamed_branch place) branches)
+
+-- Each node that was reached has its place in the new arena, no two have one place, and no place is another's. What
+-- hangs under it is what hung there, by the new places; so nodes that were shared still are. Each root is where it was.
+pub record IsSwept {L : Type 0} (old : List (Shape L)) (roots : List ℕ) (new : List (Shape L)) (new_roots : List ℕ) : Type 0 where
+  pub place : ℕ → ℕ
+  pub there : (k : ℕ) → Reached old roots k → place k < length new
+  pub once : (j k : ℕ) → Reached old roots j → Reached old roots k → place j ≡ place k → j ≡ k
+  pub only : (p : ℕ) → p < length new → (k : ℕ) × Reached old roots k × (place k ≡ p)
+  pub same : (k : ℕ) → Reached old roots k → node_at new (place k) ≡ renamed place (node_at old k)
+  pub at : new_roots ≡ map place roots

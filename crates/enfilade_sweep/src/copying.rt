@@ -1,0 +1,138 @@
+//! Nodes are copied, with the numbers that they have in the new arena.
+ghost use Rattle.std.specs.Prelude.{◌≡◌, ◌+◌, ◌<◌, length, map, get_or, All, IfOk, OnOk, IsTrue};
+ghost use Rattle.enfilade_core.specs.Plain.{plain_row, shape};
+ghost use Rattle.enfilade_sweep.specs.Sweep.{numbers, branches_of, renamed_branch, renamed};
+ghost use Rattle.enfilade_sweep.specs.Marks.{AreRanks, IsClosed, AreCopied};
+
+use enfilade_core::laws::nodes_are_right;
+use enfilade_core::{Arena, Branch, Children, Node, Plane, Row};
+use std::alloc::Global;
+use tumbler::{List, Memory};
+
+fn copied_rows<P: Plane>(alloc: Global, rows: &[Row<P::Leaf>]) -> Result<List<Row<P::Leaf>>, Memory>
+    ensures { IfOk result (λ made. map (plain_row P.plain) made.items ≡ map (plain_row P.plain) rows.now) }
+{
+    let mut made = List::new(alloc);
+    for row in rows {
+        made.push(Row {
+            first: row.first.copy(),
+            second: row.second.copy(),
+            leaf: P::copy_leaf(alloc, &row.leaf)?,
+        })?;
+    }
+    Ok(made)
+}
+
+/// The node of the new arena at which a node of the old one is.
+fn node_there<P: Plane>(new: &Arena<P>, ranks: &[u64], node: Node) -> Node
+    requires known { node.0 < length ranks.now }
+    requires there { get_or ranks.now node.0 0 < length new.now }
+    ensures { result.0 ≡ get_or ranks.now node.0 0 }
+{
+    let Some(there) = new.at_number(ranks[Arena::<P>::number(node) as usize]) else {
+        unreachable!()
+    };
+    there
+}
+
+fn renamed_branches<P: Plane>(
+    new: &Arena<P>,
+    ranks: &[u64],
+    branches: &[Branch],
+) -> Result<List<Branch>, Memory>
+    requires known { All (λ branch. branch.node.0 < length ranks.now) branches.now }
+    requires there { All (λ branch. get_or ranks.now branch.node.0 0 < length new.now) branches.now }
+    ensures { IfOk result (λ made. made.items ≡ map (renamed_branch (λ k. get_or ranks.now k 0)) branches.now) }
+{
+    let mut made = List::new(new.allocator());
+    for branch in branches {
+        let mut copy = branch.copy();
+        copy.node = node_there(new, ranks, branch.node);
+        made.push(copy)?;
+    }
+    Ok(made)
+}
+
+fn renamed_children<P: Plane>(
+    new: &Arena<P>,
+    ranks: &[u64],
+    children: &Children<P::Leaf>,
+) -> Result<Children<P::Leaf>, Memory>
+    requires known { All (λ branch. branch.node.0 < length ranks.now) (branches_of (shape P.plain children.now)) }
+    requires there { All (λ branch. get_or ranks.now branch.node.0 0 < length new.now) (branches_of (shape P.plain children.now)) }
+    ensures { IfOk result (λ made. shape P.plain made ≡ renamed (λ k. get_or ranks.now k 0) (shape P.plain children.now)) }
+{
+    match children {
+        Children::Bottom(rows) => {
+            let rows = copied_rows::<P>(new.allocator(), rows.as_slice())?;
+            Ok(Children::Bottom(rows))
+        }
+        Children::Inner(branches) => {
+            let branches = renamed_branches(new, ranks, branches.as_slice())?;
+            Ok(Children::Inner(branches))
+        }
+    }
+}
+
+/// Adds a copy of the node of this number, if it is marked.
+fn copy_node<P: Plane>(
+    old: &Arena<P>,
+    marks: &[bool],
+    ranks: &[u64],
+    number: u64,
+    new: &mut Arena<P>,
+) -> Result<(), Memory>
+    requires there { number < length old.now }
+    requires long { length marks.now ≡ length old.now }
+    requires closed { IsClosed old.now marks.now }
+    requires ranks { AreRanks marks.now ranks.now }
+    requires copied { AreCopied marks.now old.now new.old number }
+    ensures { OnOk result (AreCopied marks.now old.now new.new (number + 1)) }
+{
+    nodes_are_right(old);
+    nodes_are_right(new);
+    if !marks[number as usize] {
+        return Ok(());
+    }
+    let Some(node) = old.at_number(number) else {
+        unreachable!()
+    };
+    let children = renamed_children(new, ranks, old.node(node))?;
+    new.add_node(children)?;
+    Ok(())
+}
+
+/// An arena of the marked nodes alone.
+pub(crate) fn copied<P: Plane>(
+    old: &Arena<P>,
+    marks: &[bool],
+    ranks: &[u64],
+) -> Result<Arena<P>, Memory>
+    requires long { length marks.now ≡ length old.now }
+    requires closed { IsClosed old.now marks.now }
+    requires ranks { AreRanks marks.now ranks.now }
+    ensures { IfOk result (λ new. AreCopied marks.now old.now new (length old.now)) }
+{
+    let mut new = Arena::new(old.allocator());
+    for number in 0..old.count() {
+        copy_node(old, marks, ranks, number, &mut new)?;
+    }
+    Ok(new)
+}
+
+/// Where the roots are in the new arena.
+pub(crate) fn renamed_roots<P: Plane>(
+    new: &Arena<P>,
+    ranks: &[u64],
+    roots: &[Node],
+) -> Result<List<Node>, Memory>
+    requires known { All (λ root. root.0 < length ranks.now) roots.now }
+    requires there { All (λ root. get_or ranks.now root.0 0 < length new.now) roots.now }
+    ensures { IfOk result (λ made. numbers made.items ≡ map (λ k. get_or ranks.now k 0) (numbers roots.now)) }
+{
+    let mut made = List::new(new.allocator());
+    for root in roots {
+        made.push(node_there(new, ranks, *root))?;
+    }
+    Ok(made)
+}

@@ -1,0 +1,28 @@
+//! The sweep.
+ghost use Rattle.std.specs.Prelude.{◌≡◌, ℕ, ◌<◌, length, map, All, IfOk};
+ghost use Rattle.enfilade_core.specs.Rows.{rows_of};
+ghost use Rattle.enfilade_sweep.specs.Sweep.{numbers, IsSwept};
+
+use crate::copying::{copied, renamed_roots};
+use crate::marks::{ranks, reached};
+use enfilade_core::laws::nodes_are_right;
+use enfilade_core::{Arena, Node, Plane};
+use tumbler::{List, Memory};
+
+/// A new arena with the nodes that are reached from the roots, each once, and the roots in it.
+///
+/// Each new root has the rows of the old one at its place, roots that were equal still are, and so nodes that were
+/// shared. It goes over the nodes twice and looks at no row but to copy it. The old arena stays as it is.
+pub fn sweep<P: Plane>(old: &Arena<P>, roots: &List<Node>) -> Result<(Arena<P>, List<Node>), Memory>
+    requires { All (λ root. root.0 < length old.now) roots.now.items }
+    ensures swept { IfOk result (λ made. IsSwept old.now (numbers roots.now.items) made.0 (numbers made.1.items)) }
+    ensures rows { IfOk result (λ made. map (rows_of made.0) (numbers made.1.items) ≡ map (rows_of old.now) (numbers roots.now.items)) }
+{
+    let marks = reached(old, roots.as_slice())?;
+    let ranks = ranks(old.allocator(), marks.as_slice())?;
+    let new = copied(old, marks.as_slice(), ranks.as_slice())?;
+    nodes_are_right(old);
+    nodes_are_right(&new);
+    let roots = renamed_roots(&new, ranks.as_slice(), roots.as_slice())?;
+    Ok((new, roots))
+}
