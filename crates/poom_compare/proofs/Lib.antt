@@ -1,0 +1,15 @@
+pub mod Worlds
+pub mod Lists
+pub mod Beginnings
+pub mod Once
+pub mod Mirror
+pub mod Whole
+pub mod Sought
+pub mod Found
+pub mod Behind
+pub mod Belonging
+pub mod Stretches
+pub mod Numbers
+pub mod Bridge
+pub mod IntervalSteps
+pub mod Laying
