@@ -1,0 +1,4 @@
+pub mod Options
+pub mod Counted
+pub mod Writers
+pub mod Looked

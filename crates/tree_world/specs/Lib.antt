@@ -1,0 +1,5 @@
+pub use Rattle.world_rules.specs.FlatView
+pub use Rattle.world_rules.specs.World
+pub mod Trees
+pub mod Standing
+pub mod inside

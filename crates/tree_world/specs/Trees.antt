@@ -1,0 +1,40 @@
+-- A world in trees and tables, as contracts see it.
+use Rattle.std.specs.Prelude.{ℕ, List, [], Option, Some, None}
+use Rattle.enfilade_core.specs.declared.tree.Node.{Node}
+use Rattle.enfilade_core.specs.Rows.{Shape, rows_of}
+use Rattle.granfilade.specs.Content.{ContentTree}
+use Rattle.poom.specs.Laid as laid
+use Rattle.doc_table.specs.declared.rows.DocumentRow.{DocumentRow}
+use Rattle.doc_table.specs.DocumentRows.{root_in}
+use Rattle.access_table.specs.AccessRows.{AccessRows}
+use Rattle.links.specs.LinkLists.{LinkLists}
+use Rattle.world_rules.specs.declared.rows.SessionRow.{SessionRow}
+
+-- the tree of contents and how many bytes it has, the nodes of all documents' trees, the table of documents with their
+-- roots, the links and the indexes of their ends, who has what open, how many entries are counted, and how many each
+-- session has
+pub record Trees : Type 0 where
+  pub contents : ContentTree
+  pub content : ℕ
+  pub nodes : List (Shape ℕ)
+  pub documents : List (DocumentRow Node)
+  pub links : LinkLists
+  pub access : AccessRows
+  pub counted : ℕ
+  pub sessions : List SessionRow
+
+-- the addresses of a tree's text, and of its links; where there is no tree there are none
+abbrev pub text_at : List (Shape ℕ) → Option Node → List (List ℕ)
+text_at nodes None = []
+text_at nodes (Some root) = laid.texts (rows_of nodes root.0)
+
+abbrev pub links_at : List (Shape ℕ) → Option Node → List (List ℕ)
+links_at nodes None = []
+links_at nodes (Some root) = laid.links (rows_of nodes root.0)
+
+-- those of a document, and none where the address is no document's
+abbrev pub text_in : Trees → List ℕ → List (List ℕ)
+text_in trees document = text_at trees.nodes (root_in trees.documents document)
+
+abbrev pub links_in : Trees → List ℕ → List (List ℕ)
+links_in trees document = links_at trees.nodes (root_in trees.documents document)
