@@ -1,8 +1,5 @@
 -- What the last test of a change or an entry decides, where the tests before it have held.
-use Rattle.std.proofs.Common.{◌≡◌, ◌∙◌, ◌↔◌, ℕ, ◌+◌, ◌-◌, ◌^◌, ◌<◌, ◌≤◌, Bool, IsTrue, List, length, All, min, sym, ap, subst, arith}
-use Rattle.std.specs.Prelude.{nat_le}
-use Rattle.std.proofs.lemmas.Bool.{leb-true, le-leb}
-use Rattle.febe_data.specs.declared.run.Run.{Run}
+use Rattle.std.proofs.Common.{◌≡◌, ◌∙◌, ◌↔◌, ℕ, ◌+◌, ◌-◌, ◌^◌, ◌<◌, ◌≤◌, Bool, IsTrue, List, length, All, sym, subst, arith}
 use Rattle.febe_data.specs.Plain.{PlainSpec, PlainEntry}
 use Rattle.world_rules.specs.World.{World, has_document, text_length}
 use Rattle.world_rules.specs.Picking.{picked_addresses, runs_of}
@@ -14,26 +11,23 @@ use Rattle.entry_fits.specs.Fits.{SpecFits, CopyFits, LinkFits, ChangeFits, Fits
 use Rattle.entry_fits.specs.Greatest.{greatest_serial}
 use Rattle.entry_fits.proofs.Greatest.{above_all, above_greatest}
 
-pub copy_decided : (world : World) (document : List ℕ) (at : ℕ) (specs : List PlainSpec) (len picked count : ℕ) (runs : List Run) (fits has : Bool)
+pub copy_decided : (world : World) (document : List ℕ) (at : ℕ) (specs : List PlainSpec) (len picked : ℕ) (fits has : Bool)
     → has ≡ has_document world document → IsTrue has → len ≡ text_length world document → (1 ≤ at) × (at ≤ len + 1) → All (SpecFits world) specs
-    → runs ≡ runs_of world specs → count ≡ length runs → count ≤ 65536 → picked ≡ length (picked_addresses world specs) → IsTrue fits ↔ len + picked ≤ 1073741824
+    → length (runs_of world specs) ≤ 65536 → picked ≡ length (picked_addresses world specs) → IsTrue fits ↔ len + picked ≤ 1073741824
     → IsTrue fits ↔ CopyFits world document at specs
-copy_decided world document at specs len picked count runs fits has tells there is place each are counted few picks iff = (
+copy_decided world document at specs len picked fits has tells there is place each few picks iff = (
   (λ yes. record {
     comes_in = record { there = sym tells ∙ there; from_one = place.0; to_end = omega (arith, is, place.1) };
     each = each;
-    runs = omega (arith, ap length are, counted, few);
+    runs = few;
     positions = omega (arith, is, picks, iff.0 yes);
   }),
   (λ copy. iff.1 (omega (arith, is, picks, copy.positions))),
 )
 
-pub ends_decided : (world : World) (from to three : List PlainSpec) (runs : ℕ) → All (SpecFits world) from → All (SpecFits world) to → All (SpecFits world) three → runs ≡ min (runs_in_all world from to three) (2 ^ 64 - 1)
-    → IsTrue (nat_le runs 65536) ↔ All (SpecFits world) from × All (SpecFits world) to × All (SpecFits world) three × (runs_in_all world from to three ≤ 65536)
-ends_decided world from to three runs a b d is = (
-  (λ yes. (a, b, d, omega (arith, is, leb-true runs 65536 yes))),
-  (λ all. let few : runs_in_all world from to three ≤ 65536 = all.3 in le-leb runs 65536 (omega (arith, is, few))),
-)
+pub ends_decided : (world : World) (from to three : List PlainSpec) (few : Bool) → All (SpecFits world) from → All (SpecFits world) to → All (SpecFits world) three → IsTrue few ↔ runs_in_all world from to three ≤ 65536
+    → IsTrue few ↔ All (SpecFits world) from × All (SpecFits world) to × All (SpecFits world) three × (runs_in_all world from to three ≤ 65536)
+ends_decided world from to three few a b d iff = ((λ yes. (a, b, d, iff.0 yes)), (λ all. iff.1 all.3))
 
 pub link_decided : (world : World) (home : List ℕ) (number place : ℕ) (from to three : List PlainSpec) (fits linked : Bool) → IsTrue linked ↔ IsLinkedAt world home number place → IsTrue linked
     → IsTrue fits ↔ All (SpecFits world) from × All (SpecFits world) to × All (SpecFits world) three × (runs_in_all world from to three ≤ 65536)

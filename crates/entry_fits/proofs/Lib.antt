@@ -6,3 +6,4 @@ pub mod Greatest
 pub mod Picked
 pub mod Next
 pub mod Decided
+pub mod Few

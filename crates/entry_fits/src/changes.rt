@@ -9,8 +9,8 @@ ghost use Rattle.world_rules.specs.Refusals.{runs_in_all};
 ghost use Rattle.entry_fits.specs.Fits.{SpecFits, TextFits, CopyFits, LinkFits, ChangeFits};
 
 use crate::documents::{is_next, is_version};
-use crate::picking::{runs_in_all, specs_fit};
-use febe_data::bounds::{MOST_CONTENT, MOST_ITEMS, MOST_POSITIONS};
+use crate::picking::{are_few_in_all, are_few_runs, specs_fit};
+use febe_data::bounds::{MOST_CONTENT, MOST_POSITIONS};
 use febe_data::{Change, Span, Spec, Tumbler};
 use std::alloc::Global;
 use world_rules::{Finds, Lookups, WorldError, cuts_of};
@@ -101,8 +101,7 @@ fn copy_fits<W: Finds>(
     if !specs_fit(world, specs) {
         return Ok(false);
     }
-    let runs = world.runs_of(alloc, specs)?;
-    if runs.len() > MOST_ITEMS as usize {
+    if !are_few_runs(world, alloc, specs)? {
         return Ok(false);
     }
     let picked = world.picked_length(alloc, specs)?;
@@ -146,8 +145,8 @@ fn ends_fit<W: Finds>(
     if !specs_fit(world, three) {
         return Ok(false);
     }
-    let runs = runs_in_all(world, alloc, from, to, three)?;
-    Ok(runs <= MOST_ITEMS as usize)
+    let few = are_few_in_all(world, alloc, from, to, three)?;
+    Ok(few)
 }
 
 /// Whether a link comes in as it should, with such ends.

@@ -1,14 +1,16 @@
 //! Whether specs can be of a change that comes after what made a world.
-ghost use Rattle.std.specs.Prelude.{◌≡◌, ◌↔◌, ◌-◌, ◌^◌, IsTrue, IfOk, All, map, min};
+ghost use Rattle.std.specs.Prelude.{◌↔◌, ◌≤◌, IsTrue, IfOk, All, length, map};
 ghost use Rattle.tumbler.specs.Span.{SpanFits};
 ghost use Rattle.febe_data.specs.Plain.{plain_spec};
 ghost use Rattle.world_rules.specs.FlatView.{FlatView};
+ghost use Rattle.world_rules.specs.Picking.{runs_of};
 ghost use Rattle.world_rules.specs.Refusals.{runs_in_all};
 ghost use Rattle.entry_fits.specs.Fits.{SpecFits};
 
+use febe_data::bounds::MOST_ITEMS;
 use febe_data::{Span, Spec};
 use std::alloc::Global;
-use world_rules::{Finds, Lookups, WorldError};
+use world_rules::{Finds, Lookups, WorldError, three_runs};
 
 /// Whether all the spans end at an address.
 fn spans_fit(spans: &[Span]) -> bool
@@ -37,18 +39,34 @@ pub(crate) fn specs_fit<W: Lookups>(world: &W, specs: &[Spec]) -> bool
     true
 }
 
-/// How many runs the three lists of specs pick together, counted up to the greatest `usize`.
-pub(crate) fn runs_in_all<W: Finds>(
+/// Whether the specs pick as many runs as a request may work on, or fewer.
+#[tactic(auto, using(crate::proofs::Few::counted))]
+pub(crate) fn are_few_runs<W: Finds>(
+    world: &W,
+    alloc: Global,
+    specs: &[Spec],
+) -> Result<bool, WorldError>
+    ensures { (view : FlatView) → W.stands world.now view → IfOk result (λ few. IsTrue few ↔ length (runs_of view.world (map plain_spec specs.now)) ≤ 65536) }
+{
+    let Some(_runs) = world.runs_up_to(alloc, specs, MOST_ITEMS as usize)? else {
+        return Ok(false);
+    };
+    Ok(true)
+}
+
+/// Whether three lists of specs do together.
+#[tactic(auto, using(crate::proofs::Few::counted))]
+pub(crate) fn are_few_in_all<W: Finds>(
     world: &W,
     alloc: Global,
     from: &[Spec],
     to: &[Spec],
     three: &[Spec],
-) -> Result<usize, WorldError>
-    ensures { (view : FlatView) → W.stands world.now view → IfOk result (λ runs. runs ≡ min (runs_in_all view.world (map plain_spec from.now) (map plain_spec to.now) (map plain_spec three.now)) (2 ^ 64 - 1)) }
+) -> Result<bool, WorldError>
+    ensures { (view : FlatView) → W.stands world.now view → IfOk result (λ few. IsTrue few ↔ runs_in_all view.world (map plain_spec from.now) (map plain_spec to.now) (map plain_spec three.now) ≤ 65536) }
 {
-    let from = world.runs_of(alloc, from)?.len();
-    let to = world.runs_of(alloc, to)?.len();
-    let three = world.runs_of(alloc, three)?.len();
-    Ok(from.saturating_add(to).saturating_add(three))
+    let Some(_runs) = three_runs(world, alloc, from, to, three)? else {
+        return Ok(false);
+    };
+    Ok(true)
 }

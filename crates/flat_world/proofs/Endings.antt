@@ -14,17 +14,17 @@ use Rattle.febe_data.specs.ListView.{ListView}
 use Rattle.febe_data.specs.declared.spec.Spec.{Spec}
 use Rattle.febe_data.specs.Plain.{PlainSpec, plain_spec}
 use Rattle.febe_data.specs.Validity.{IsList, IsSpecSet, spans_in_all}
-use Rattle.flat_world.specs.declared.links.LinkRow.{LinkRow}
+use Rattle.flat_rows.specs.declared.links.LinkRow.{LinkRow}
 use Rattle.world_rules.specs.World as world
 use Rattle.world_rules.specs.World.{is_same, is_text_of}
 use Rattle.world_rules.specs.declared.ends.End.{End}
 use Rattle.flat_world.specs.declared.ends.Extent.{Extent}
 use Rattle.world_rules.specs.declared.rows.Row.{Row}
 use Rattle.world_rules.specs.Picking.{picks, is_within, is_in_runs, picked_once, places_of, intervals}
-use Rattle.flat_world.specs.PlainLink.{plain_link}
+use Rattle.flat_rows.specs.PlainLink.{plain_link}
 use Rattle.world_rules.specs.Ends.{NamesSpans, runs_of_end, is_in_end, end_set}
-use Rattle.flat_world.specs.declared.end_index.Piece.{Piece}
-use Rattle.flat_world.specs.inside.EndIndex.{is_indexed, indexed_of, Indexes}
+use Rattle.flat_rows.specs.declared.end_index.Piece.{Piece}
+use Rattle.flat_rows.specs.EndIndex.{is_indexed, indexed_of, Indexes}
 use Rattle.world_rules.specs.Refusals.{is_too_long}
 use Rattle.world_rules.proofs.Specs.{list_any-map}
 

@@ -1,14 +1,3 @@
-pub mod Sizes
 pub mod ByteIndexes
 pub mod Retrieved
-pub mod Edited
-pub mod Swapped
-pub mod Closed
-pub mod Counted
-pub mod Picked
-pub mod Found
-pub mod Relations
-pub mod Positions
 pub mod Endings
-pub mod SharedBytes
-pub mod Indexed

@@ -18,8 +18,8 @@ use Rattle.world_rules.specs.World.{World, byte_at, is_text_of, is_link_of}
 use Rattle.world_rules.specs.Picking.{is_within, picked_text, picked_links, addresses_of}
 use Rattle.world_rules.specs.Answers.{items_of_span, items_of, text_of, text_item}
 use Rattle.flat_world.specs.inside.ByteIndex.{ByteIndex, HasByteAt, HasBytesOf, byte_of, bytes_of, item_of}
-use Rattle.flat_world.proofs.Picked.{filter_more_yes, filter_more_no}
-use Rattle.flat_world.proofs.Sizes.{span_fits_at, spec_fits_at}
+use Rattle.flat_rows.proofs.Picked.{filter_more_yes, filter_more_no}
+use Rattle.flat_rows.proofs.Sizes.{span_fits_at, spec_fits_at}
 
 -- the bytes with a row more
 bytes_push : (index : ByteIndex) (rows : List Row) (row : Row) → bytes_of index (rows ++ row ∷ []) ≡ bytes_of index rows ++ option_to_list (byte_of index row.address)

@@ -15,5 +15,5 @@ pub use Rattle.world_rules.specs.InPlace
 pub use Rattle.world_rules.specs.Fitting
 pub use Rattle.world_rules.specs.Holding
 pub use Rattle.world_rules.specs.Served
-pub mod PlainLink
+pub use Rattle.flat_rows.specs.PlainLink
 pub mod inside

@@ -8,8 +8,8 @@ ghost use Rattle.world_rules.specs.Picking.{is_within, picked_text, addresses_of
 ghost use Rattle.flat_world.specs.inside.ByteIndex.{WantsMore, TakesByte, FindsBytes, HasBytesOf, entry_at, byte_of};
 
 use crate::flat::FlatWorld;
-use crate::picks::{end_of, is_picked_text};
 use febe_data::{Memory, Span, Spec, Text, Tumbler};
+use flat_rows::picks::{end_of, is_picked_text};
 use std::alloc::Global;
 use std::collections::BTreeMap;
 use world_rules::{ByteRow, Row, WorldError};

@@ -9,13 +9,12 @@ ghost use Rattle.world_rules.specs.Fitting.{IsFitting};
 ghost use Rattle.world_rules.specs.Edits.{cuts_of};
 ghost use Rattle.world_rules.specs.Refusals.{has_bad_span};
 ghost use Rattle.tumbler.specs.Span.{SpanFits};
-ghost use Rattle.flat_world.specs.PlainLink.{plain_link};
+ghost use Rattle.flat_rows.specs.PlainLink.{plain_link};
 
-use crate::counts::is_counted;
 use crate::flat::FlatWorld;
-use crate::links::LinkRow;
-use crate::{deletions, edits, swaps};
 use febe_data::{Change, Mode, Span, Spec, Tumbler};
+use flat_rows::counts::is_counted;
+use flat_rows::{LinkRow, deletions, edits, swaps};
 use std::alloc::Global;
 use world_rules::{AccountRow, OpenRow, Part, Row, WorldError, cuts_of, extended, has_bad_span};
 

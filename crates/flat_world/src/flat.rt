@@ -1,9 +1,8 @@
 //! The flat world as a value that one entry after the other changes.
 ghost use Rattle.std.specs.Prelude.{◌≡◌, ℕ, length, IsOk, IfOk, OnOk, OnErr};
 
-use crate::counts;
-use crate::links::LinkRow;
 use febe_data::{Entry, List, Memory, Tumbler};
+use flat_rows::{LinkRow, counts};
 use std::alloc::Global;
 use std::marker::Model;
 use std::mem;
@@ -27,7 +26,7 @@ pub struct FlatWorld {
 impl Model for FlatWorld {
     ghost use Rattle.std.specs.Prelude.{map};
     ghost use Rattle.world_rules.specs.FlatView.{FlatView};
-    ghost use Rattle.flat_world.specs.PlainLink.{plain_link};
+    ghost use Rattle.flat_rows.specs.PlainLink.{plain_link};
 
     ghost Value = { FlatView };
 

@@ -3,28 +3,20 @@
 
 mod byte_index;
 mod changes;
-mod counts;
-mod deletions;
-mod edits;
-mod end_index;
 mod ends;
 mod finding;
 mod flat;
-mod intervals;
-mod links;
 mod lookups;
 mod picks;
 mod relation;
 mod requests;
 mod retrieve;
 mod runs;
-mod search;
-mod swaps;
 #[cfg(test)]
 mod tests;
 
 pub use flat::FlatWorld;
-pub use links::LinkRow;
+pub use flat_rows::LinkRow;
 pub use world_rules::{
     AccountRow, ByteRow, Effect, End, OpenRow, Pair, Part, Row, Served, SessionRow,
 };

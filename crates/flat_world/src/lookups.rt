@@ -2,8 +2,9 @@
 ghost use Rattle.std.specs.Prelude.{◌≡◌};
 
 use crate::flat::FlatWorld;
-use crate::{counts, search};
+use febe_data::bounds::MOST_ITEMS;
 use febe_data::{Diagonal, Entry, Item, List, Memory, Mode, Run, Spec, Tumbler, Want};
+use flat_rows::{counts, search};
 use std::alloc::Global;
 use world_rules::{Applies, End, Finds, Lookups, Size, WantedRuns, WorldError};
 
@@ -73,8 +74,17 @@ impl Finds for FlatWorld {
         Ok(picked.len())
     }
 
-    fn runs_of(&self, alloc: Global, specs: &[Spec]) -> Result<List<Run>, WorldError> {
-        self.picked_runs(alloc, specs)
+    fn runs_up_to(
+        &self,
+        alloc: Global,
+        specs: &[Spec],
+        most: usize,
+    ) -> Result<Option<List<Run>>, WorldError> {
+        let runs = self.picked_runs(alloc, specs)?;
+        if runs.len() > most {
+            return Ok(None);
+        }
+        Ok(Some(runs))
     }
 
     fn retrieved_size(&self, specs: &[Spec]) -> Size {
@@ -90,8 +100,12 @@ impl Finds for FlatWorld {
         alloc: Global,
         left: &Spec,
         right: &Spec,
-    ) -> Result<List<Diagonal>, WorldError> {
-        self.shared_diagonals(alloc, left, right)
+    ) -> Result<Option<List<Diagonal>>, WorldError> {
+        let diagonals = self.shared_diagonals(alloc, left, right)?;
+        if diagonals.len() > MOST_ITEMS as usize {
+            return Ok(None);
+        }
+        Ok(Some(diagonals))
     }
 
     fn documents_found(&self, alloc: Global, specs: &[Spec]) -> Result<List<Tumbler>, WorldError> {

@@ -6,44 +6,10 @@ ghost use Rattle.world_rules.specs.World.{is_text_of};
 ghost use Rattle.world_rules.specs.Picking.{is_within, picked_text, addresses_of, picked_by_spec, picked_addresses};
 
 use crate::flat::FlatWorld;
-use febe_data::{List, Memory, Span, Spec, Tumbler};
+use febe_data::{List, Span, Spec, Tumbler};
+use flat_rows::picks::{end_of, push_addresses};
 use std::alloc::Global;
-use world_rules::{Row, WorldError};
-
-/// The first address behind the span, where it is an address.
-pub(crate) fn end_of(span: &Span) -> Result<Tumbler, WorldError>
-    ensures { IfOk result (λ end. end ≡ end_of span.now) }
-{
-    if !span.fits() {
-        return Err(WorldError::NoTumbler);
-    }
-    Ok(span.start.add(&span.width))
-}
-
-/// Whether the row is of the document's text, and its V-address at the start or after it, and before the end.
-pub(crate) fn is_picked_text(row: &Row, document: &Tumbler, start: &Tumbler, end: &Tumbler) -> bool
-    ensures { result ≡ (is_text_of document.now row.now && is_within start.now end.now row.now) }
-{
-    row.is_text_of(document) && row.is_within(start, end)
-}
-
-/// Adds the I-addresses of the document's text rows from the start on and before the end.
-fn push_addresses(
-    made: &mut List<Tumbler>,
-    rows: &[Row],
-    document: &Tumbler,
-    start: &Tumbler,
-    end: &Tumbler,
-) -> Result<(), Memory>
-    ensures { OnOk result (made.new.items ≡ made.old.items ++ addresses_of (filter (λ row. is_text_of document.now row && is_within start.now end.now row) rows.now)) }
-{
-    for row in rows {
-        if is_picked_text(row, document, start, end) {
-            made.push(row.address.copy())?;
-        }
-    }
-    Ok(())
-}
+use world_rules::WorldError;
 
 impl FlatWorld {
     /// Adds the I-addresses that one span of a document picks.
@@ -61,7 +27,7 @@ impl FlatWorld {
     }
 
     /// Adds the I-addresses that one spec picks.
-    #[tactic(auto, using(crate::proofs::Picked::picked_steps))]
+    #[tactic(auto, using(flat_rows::proofs::Picked::picked_steps))]
     fn push_spec_addresses(&self, made: &mut List<Tumbler>, spec: &Spec) -> Result<(), WorldError>
         ensures { OnOk result (made.new.items ≡ made.old.items ++ picked_by_spec self.now.world (plain_spec spec.now)) }
     {
@@ -72,7 +38,7 @@ impl FlatWorld {
     }
 
     /// The I-addresses that the specs pick.
-    #[tactic(auto, using(crate::proofs::Picked::picked_steps))]
+    #[tactic(auto, using(flat_rows::proofs::Picked::picked_steps))]
     pub(crate) fn picked_addresses(
         &self,
         alloc: Global,

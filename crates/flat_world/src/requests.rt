@@ -8,8 +8,8 @@ ghost use Rattle.world_rules.specs.Holding.{holder};
 ghost use Rattle.world_rules.specs.Served.{IsServedAs, IsValidServed, reply_for};
 
 use crate::flat::FlatWorld;
-use crate::{counts, search};
 use febe_data::{Entry, Limits, Memory, Reply, Request, Tumbler};
+use flat_rows::{counts, search};
 use std::alloc::Global;
 use world_rules::Served;
 

@@ -52,7 +52,7 @@ impl FlatWorld {
     }
 
     /// What the spans of one spec give.
-    #[tactic(auto, using(crate::proofs::Sizes::sizes))]
+    #[tactic(auto, using(flat_rows::proofs::Sizes::sizes))]
     fn spec_size(&self, spec: &Spec) -> Size
         requires { list_any is_bad_span (plain_spec spec.now).spans ≡ false }
         ensures bytes { result.bytes ≡ min (sum_by (span_bytes self.now.world spec.now.document) spec.now.spans.items) (2 ^ 64 - 1) }
@@ -69,7 +69,7 @@ impl FlatWorld {
     }
 
     /// What the specs give.
-    #[tactic(auto, using(crate::proofs::Sizes::sizes))]
+    #[tactic(auto, using(flat_rows::proofs::Sizes::sizes))]
     pub(crate) fn size_of(&self, specs: &[Spec]) -> Size
         requires { has_bad_span (map plain_spec specs.now) ≡ false }
         ensures bytes { result.bytes ≡ min (total_of (span_bytes self.now.world) (map plain_spec specs.now)) (2 ^ 64 - 1) }

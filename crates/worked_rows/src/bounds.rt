@@ -1,6 +1,6 @@
 //! Requests and replies as long as they may be, and longer ones.
 
-use crate::flat_rows::{check_step, most};
+use crate::flat_tables::{check_step, most};
 use crate::sessions::{Sessions, bytes_of, push_row};
 use crate::tables::{BEGINNING, Step};
 use febe_data::{Memory, append_number};

@@ -1,6 +1,6 @@
 //! One history of two sessions: what versions, copies and links show after edits.
 
-use crate::flat_rows::{check_step, most};
+use crate::flat_tables::{check_step, most};
 use crate::sessions::Sessions;
 use crate::tables::{BEGINNING, Step};
 use std::test::Fail;

@@ -10,7 +10,7 @@ mod entry_rows;
 #[cfg(test)]
 mod faults;
 #[cfg(test)]
-mod flat_rows;
+mod flat_tables;
 #[cfg(test)]
 mod history_rows;
 #[cfg(test)]

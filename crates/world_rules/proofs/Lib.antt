@@ -33,3 +33,4 @@ pub mod ByPlace
 pub mod Accounts
 pub mod Serials
 pub mod DocumentAddresses
+pub mod ThreeRuns

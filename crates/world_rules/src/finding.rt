@@ -13,6 +13,7 @@ use crate::errors::WorldError;
 use crate::lookups::{Finds, Lookups, WantedRuns};
 use crate::refusals::{has_bad_end, has_bad_span, is_too_long, lacks_document, lacks_opening};
 use crate::requests::Served;
+use crate::three_sets::three_runs;
 use febe_data::{Refusal, Reply, Tumbler, Want};
 use std::alloc::Global;
 
@@ -24,15 +25,6 @@ fn has_bad_span_in(want: &Want) -> bool
         || has_bad_span(want.to.as_slice())
         || has_bad_span(want.three.as_slice())
         || has_bad_end(want.homes.as_slice())
-}
-
-/// Whether there are more runs than the specs of a request may have.
-#[tactic(auto, using(crate::proofs::Checks::too_many))]
-fn has_too_many_runs(runs: &WantedRuns) -> bool
-    ensures { result ≡ is_too_long (length runs.now.from.items + length runs.now.to.items + length runs.now.three.items) }
-{
-    let two = runs.from.len().saturating_add(runs.to.len());
-    is_too_long(two.saturating_add(runs.three.len()))
 }
 
 /// Whether a spec of the want names a document that there is not.
@@ -53,17 +45,6 @@ fn lacks_opening_of<W: Lookups>(world: &W, session: u64, want: &Want) -> bool
         || lacks_opening(world, session, want.three.as_slice())
 }
 
-/// The runs that the specs of the want pick.
-fn wanted_runs<W: Finds>(world: &W, alloc: Global, want: &Want) -> Result<WantedRuns, WorldError>
-    ensures { (view : FlatView) → W.stands world.now view → IfOk result (AreWantedRuns view.world (plain_want want.now)) }
-{
-    Ok(WantedRuns {
-        from: world.runs_of(alloc, want.from.as_slice())?,
-        to: world.runs_of(alloc, want.to.as_slice())?,
-        three: world.runs_of(alloc, want.three.as_slice())?,
-    })
-}
-
 /// The runs that links are looked for by, or what the want is refused for.
 fn runs_or_refusal<W: Finds>(
     world: &W,
@@ -82,10 +63,17 @@ fn runs_or_refusal<W: Finds>(
     if has_bad_span_in(want) {
         return Ok(Err(Refusal::BadAddress));
     }
-    let runs = wanted_runs(world, alloc, want)?;
-    if has_too_many_runs(&runs) {
+    let (from, to, three) = (&want.from, &want.to, &want.three);
+    let found = three_runs(
+        world,
+        alloc,
+        from.as_slice(),
+        to.as_slice(),
+        three.as_slice(),
+    )?;
+    let Some(runs) = found else {
         return Ok(Err(Refusal::TooLong));
-    }
+    };
     Ok(Ok(runs))
 }
 

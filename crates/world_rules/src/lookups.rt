@@ -1,6 +1,6 @@
 //! What requests ask of a world, whatever it keeps: look-ups, each with the answer that the definitions give for any view
 //! that the value stands for.
-ghost use Rattle.std.specs.Prelude.{◌≡◌, ◌+◌, ◌-◌, ◌^◌, ℕ, not, min, length, map, false, is_none, All, IsOk, IfOk, OnOk, OnErr, Some};
+ghost use Rattle.std.specs.Prelude.{◌≡◌, ◌+◌, ◌-◌, ◌^◌, ℕ, not, min, length, map, true, false, is_none, nat_lt, All, IsOk, IfOk, OnOk, OnErr, IfSome, IfNone, Some};
 ghost use Rattle.std.specs.List.{list_any};
 ghost use Rattle.tumbler.specs.Places.{IsTumbler};
 ghost use Rattle.febe_data.specs.Plain.{plain_spec, plain_item, plain_want, plain_entry};
@@ -8,7 +8,7 @@ ghost use Rattle.febe_data.specs.Validity.{IsDiagonal};
 ghost use Rattle.world_rules.specs.World.{has_document, account_of_session, mode_of, is_held_against, text_length, link_length, next_document, next_version, content_length, links_made_in};
 ghost use Rattle.world_rules.specs.Holding.{holder};
 ghost use Rattle.world_rules.specs.Picking.{picked_addresses, runs_of};
-ghost use Rattle.world_rules.specs.Refusals.{is_bad_span, has_bad_span, total_of, span_bytes, span_items};
+ghost use Rattle.world_rules.specs.Refusals.{is_bad_span, has_bad_span, is_too_long, total_of, span_bytes, span_items};
 ghost use Rattle.world_rules.specs.Relation.{diagonals};
 ghost use Rattle.world_rules.specs.Finding.{documents_found, links_found, ids_found, ids_after, link_at};
 ghost use Rattle.world_rules.specs.Ends.{end_set, NamesSpans};
@@ -106,9 +106,16 @@ pub trait Finds: Lookups {
     fn picked_length(&self, alloc: Global, specs: &[Spec]) -> Result<usize, WorldError>
         ensures { (view : FlatView) → Self.stands self.now view → IfOk result (λ picked. picked ≡ length (picked_addresses view.world (map plain_spec specs.now))) };
 
-    /// The runs that the specs pick.
-    fn runs_of(&self, alloc: Global, specs: &[Spec]) -> Result<List<Run>, WorldError>
-        ensures { (view : FlatView) → Self.stands self.now view → IfOk result (λ runs. runs.items ≡ runs_of view.world (map plain_spec specs.now)) };
+    /// The runs that the specs pick, where there are at most so many. Where there are more it need not make them all.
+    fn runs_up_to(
+        &self,
+        alloc: Global,
+        specs: &[Spec],
+        most: usize,
+    ) -> Result<Option<List<Run>>, WorldError>
+        ensures runs { (view : FlatView) → Self.stands self.now view → IfOk result (λ found. IfSome found (λ runs. runs.items ≡ runs_of view.world (map plain_spec specs.now))) }
+        ensures few { IfOk result (λ found. IfSome found (λ runs. nat_lt most (length runs.items) ≡ false)) }
+        ensures many { (view : FlatView) → Self.stands self.now view → IfOk result (λ found. IfNone found (nat_lt most (length (runs_of view.world (map plain_spec specs.now))) ≡ true)) };
 
     /// How many bytes and items the specs give. It takes no memory.
     fn retrieved_size(&self, specs: &[Spec]) -> Size
@@ -122,17 +129,19 @@ pub trait Finds: Lookups {
         ensures items { (view : FlatView) → Self.stands self.now view → IfOk result (λ made. map plain_item made.items ≡ items_of view.world (map plain_spec specs.now)) }
         ensures valid { IfOk result (λ made. All NamesTumbler (map plain_item made.items)) };
 
-    /// Where the two specs pick the same content.
+    /// Where the two specs pick the same content, where a reply has room for it.
     fn diagonals(
         &self,
         alloc: Global,
         left: &Spec,
         right: &Spec,
-    ) -> Result<List<Diagonal>, WorldError>
+    ) -> Result<Option<List<Diagonal>>, WorldError>
         requires left { list_any is_bad_span (plain_spec left.now).spans ≡ false }
         requires right { list_any is_bad_span (plain_spec right.now).spans ≡ false }
-        ensures value { (view : FlatView) → Self.stands self.now view → IfOk result (λ made. made.items ≡ diagonals view.world (plain_spec left.now) (plain_spec right.now)) }
-        ensures valid { IfOk result (λ made. All IsDiagonal made.items) };
+        ensures value { (view : FlatView) → Self.stands self.now view → IfOk result (λ found. IfSome found (λ made. made.items ≡ diagonals view.world (plain_spec left.now) (plain_spec right.now))) }
+        ensures valid { IfOk result (λ found. IfSome found (λ made. All IsDiagonal made.items)) }
+        ensures few { IfOk result (λ found. IfSome found (λ made. is_too_long (length made.items) ≡ false)) }
+        ensures many { (view : FlatView) → Self.stands self.now view → IfOk result (λ found. IfNone found (is_too_long (length (diagonals view.world (plain_spec left.now) (plain_spec right.now))) ≡ true)) };
 
     /// The documents that have content which the specs pick, ascending.
     fn documents_found(&self, alloc: Global, specs: &[Spec]) -> Result<List<Tumbler>, WorldError>

@@ -9,10 +9,9 @@ ghost use Rattle.world_rules.specs.Served.{IsServedAs, IsValidServed};
 use crate::effects::{create_effect, link_effect, version_effect};
 use crate::errors::WorldError;
 use crate::lookups::{Finds, Lookups};
-use crate::refusals::{
-    has_bad_span, history_full, is_too_long, lacks_document, lacks_opening, reading_refusal,
-};
+use crate::refusals::{has_bad_span, history_full, lacks_document, lacks_opening, reading_refusal};
 use crate::requests::Served;
+use crate::three_sets::three_runs;
 use febe_data::{Limits, Mode, Refusal, Spec, Tumbler};
 use std::alloc::Global;
 
@@ -132,22 +131,6 @@ fn have_bad_span(from: &[Spec], to: &[Spec], three: &[Spec]) -> bool
     has_bad_span(three)
 }
 
-/// How many runs the three spec sets have together, counted up to the greatest `usize`.
-fn runs_in_all<W: Finds>(
-    world: &W,
-    alloc: Global,
-    from: &[Spec],
-    to: &[Spec],
-    three: &[Spec],
-) -> Result<usize, WorldError>
-    ensures { (view : FlatView) → W.stands world.now view → IfOk result (λ runs. runs ≡ min (runs_in_all view.world (map plain_spec from.now) (map plain_spec to.now) (map plain_spec three.now)) (2 ^ 64 - 1)) }
-{
-    let from = world.runs_of(alloc, from)?.len();
-    let to = world.runs_of(alloc, to)?.len();
-    let three = world.runs_of(alloc, three)?.len();
-    Ok(from.saturating_add(to).saturating_add(three))
-}
-
 /// What the making of a link is refused for.
 #[tactic(auto, using(crate::proofs::Checks::three_sets))]
 fn link_refusal<W: Finds>(
@@ -174,9 +157,9 @@ fn link_refusal<W: Finds>(
     if have_bad_span(from, to, three) {
         return Ok(Some(Refusal::BadAddress));
     }
-    if is_too_long(runs_in_all(world, alloc, from, to, three)?) {
+    let Some(_runs) = three_runs(world, alloc, from, to, three)? else {
         return Ok(Some(Refusal::TooLong));
-    }
+    };
     if history_full(limits, world.counted()) {
         return Ok(Some(Refusal::Full));
     }

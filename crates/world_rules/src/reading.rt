@@ -131,10 +131,9 @@ pub(crate) fn serve_relate<W: Finds>(
     if let Some(refusal) = relate_refusal(world, session, left, right) {
         return Ok(Served::Refused(refusal));
     }
-    let diagonals = world.diagonals(alloc, left, right)?;
-    if is_too_long(diagonals.len()) {
+    let Some(diagonals) = world.diagonals(alloc, left, right)? else {
         return Ok(Served::Refused(Refusal::TooLong));
-    }
+    };
     Ok(Served::Answered(Reply::Related(diagonals)))
 }
 
@@ -152,9 +151,9 @@ pub(crate) fn serve_find_documents<W: Finds>(
     if let Some(refusal) = picking_refusal(world, session, specs) {
         return Ok(Served::Refused(refusal));
     }
-    if is_too_long(world.runs_of(alloc, specs)?.len()) {
+    let Some(_runs) = world.runs_up_to(alloc, specs, MOST_ITEMS as usize)? else {
         return Ok(Served::Refused(Refusal::TooLong));
-    }
+    };
     let documents = world.documents_found(alloc, specs)?;
     if is_too_long(documents.len()) {
         return Ok(Served::Refused(Refusal::TooLong));

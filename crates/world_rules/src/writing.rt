@@ -11,11 +11,11 @@ use crate::effects::{copy_effect, delete_effect, insert_effect, positions_of, re
 use crate::errors::WorldError;
 use crate::lookups::{Finds, Lookups};
 use crate::refusals::{
-    has_bad_cut, has_bad_span, history_full, is_place, is_too_long, lacks_document, lacks_opening,
+    has_bad_cut, has_bad_span, history_full, is_place, lacks_document, lacks_opening,
     writing_refusal,
 };
 use crate::requests::Served;
-use febe_data::bounds::MOST_POSITIONS;
+use febe_data::bounds::{MOST_ITEMS, MOST_POSITIONS};
 use febe_data::{Limits, Mode, Refusal, Span, Spec, Tumbler};
 use std::alloc::Global;
 
@@ -175,10 +175,9 @@ fn copy_refusal<W: Finds>(
     if text_rows.saturating_add(picked) > MOST_POSITIONS as usize {
         return Ok(Some(Refusal::TooLong));
     }
-    let runs = world.runs_of(alloc, specs)?;
-    if is_too_long(runs.len()) {
+    let Some(_runs) = world.runs_up_to(alloc, specs, MOST_ITEMS as usize)? else {
         return Ok(Some(Refusal::TooLong));
-    }
+    };
     if history_full(limits, world.counted()) {
         return Ok(Some(Refusal::Full));
     }

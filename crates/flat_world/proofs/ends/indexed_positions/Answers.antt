@@ -4,7 +4,7 @@ use Rattle.flat_world.specs.declared.ends.Extent.{Extent}
 use Rattle.world_rules.specs.declared.rows.Row.{Row}
 use Rattle.world_rules.specs.World.{is_text_of}
 use Rattle.world_rules.specs.Picking.{is_within}
-use Rattle.flat_world.specs.inside.EndIndex.{is_indexed}
+use Rattle.flat_rows.specs.EndIndex.{is_indexed}
 use Rattle.flat_world.proofs.Endings.{places_yes, places_no}
 use Rattle.flat_world.proofs.ends.indexed_positions.Goals as goal
 use Rattle.flat_world.proofs.ends.indexed_positions.Goals.{then-found+in_ok-push, else-found}

@@ -4,7 +4,7 @@ use Rattle.std.specs.List.{list_any}
 use Rattle.flat_world.specs.declared.ends.Extent.{Extent}
 use Rattle.world_rules.specs.World.{is_text_of}
 use Rattle.world_rules.specs.Picking.{is_within, places_of}
-use Rattle.flat_world.specs.inside.EndIndex.{is_indexed}
+use Rattle.flat_rows.specs.EndIndex.{is_indexed}
 use Rattle.flat_world.proofs.ends.indexed_positions.Given as goal
 
 abbrev pub invariant-loop-row : goal.invariant-loop-row

@@ -6,7 +6,7 @@ use Rattle.world_rules.specs.declared.rows.Row.{Row}
 use Rattle.world_rules.specs.World.{is_text_of}
 use Rattle.world_rules.specs.Picking.{is_within}
 use Rattle.flat_world.specs.inside.ByteIndex.{byte_of, bytes_of}
-use Rattle.flat_world.proofs.Picked.{filter_more_no}
+use Rattle.flat_rows.proofs.Picked.{filter_more_no}
 use Rattle.flat_world.proofs.Retrieved.{bytes_more_yes, picked_more_yes, both_true, first_false, second_false}
 use Rattle.world_rules.proofs.Valid.{tumblers_push}
 use Rattle.flat_world.proofs.retrieve.push_text.Goals as goal

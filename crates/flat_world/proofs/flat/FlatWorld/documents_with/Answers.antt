@@ -2,7 +2,7 @@ use Rattle.std.proofs.Common.{◌≡◌, rules, map}
 use Rattle.std.proofs.lemmas.Result.{IfOk-weaker}
 use Rattle.febe_data.specs.Plain.{plain_spec}
 use Rattle.world_rules.specs.Finding.{documents_found}
-use Rattle.flat_world.proofs.Found.{found_are}
+use Rattle.flat_rows.proofs.Found.{found_are}
 use Rattle.flat_world.proofs.flat.FlatWorld.documents_with.Goals as goal
 
 pub returns-clause-items : goal.returns-clause-items

@@ -2,7 +2,7 @@ use Rattle.std.proofs.Common.{◌∙◌, ap, sym, take, ◌+◌}
 use Rattle.std.proofs.lemmas.Simd.{map-map}
 use Rattle.febe_data.specs.declared.spec.Spec.{Spec}
 use Rattle.febe_data.specs.Plain.{plain_spec}
-use Rattle.flat_world.specs.inside.EndIndex.{indexed_of}
+use Rattle.flat_rows.specs.EndIndex.{indexed_of}
 use Rattle.flat_world.proofs.Endings.{specs_more, specs_valid}
 use Rattle.flat_world.proofs.flat.FlatWorld.indexed_specs.Goals as goal
 

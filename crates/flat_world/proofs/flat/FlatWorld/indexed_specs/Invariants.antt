@@ -1,7 +1,7 @@
 use Rattle.std.proofs.Common.{◌≡◌, All, take, map}
 use Rattle.febe_data.specs.Plain.{plain_spec}
 use Rattle.world_rules.specs.Ends.{NamesSpans}
-use Rattle.flat_world.specs.inside.EndIndex.{indexed_of}
+use Rattle.flat_rows.specs.EndIndex.{indexed_of}
 use Rattle.flat_world.proofs.flat.FlatWorld.indexed_specs.Given as goal
 
 abbrev pub invariant-loop-spec : goal.invariant-loop-spec

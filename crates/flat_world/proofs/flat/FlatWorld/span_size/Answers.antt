@@ -2,7 +2,7 @@ use Rattle.std.proofs.Common.{◌≡◌, arith, length, rules}
 use Rattle.std.proofs.lemmas.Bool.Decides.{nat_tests}
 use Rattle.world_rules.specs.Picking.{picked_links}
 use Rattle.world_rules.specs.Refusals.{span_bytes}
-use Rattle.flat_world.proofs.Sizes.{bytes_counted, links_counted}
+use Rattle.flat_rows.proofs.Sizes.{bytes_counted, links_counted}
 use Rattle.flat_world.proofs.flat.FlatWorld.span_size.Goals as goal
 use Rattle.flat_world.proofs.flat.FlatWorld.span_size.Goals.{then-bytes-eq0, else-bytes-eq0}
 

@@ -3,9 +3,9 @@ use Rattle.std.proofs.lemmas.Result.{IfOk-weaker}
 use Rattle.febe_data.specs.ListView.{ListView}
 use Rattle.febe_data.specs.declared.spec.Spec.{Spec}
 use Rattle.febe_data.specs.Plain.{plain_spec}
-use Rattle.flat_world.specs.PlainLink.{plain_link}
+use Rattle.flat_rows.specs.PlainLink.{plain_link}
 use Rattle.world_rules.specs.Ends.{end_set}
-use Rattle.flat_world.specs.inside.EndIndex.{indexed_of}
+use Rattle.flat_rows.specs.EndIndex.{indexed_of}
 use Rattle.flat_world.proofs.Endings.{end_set_indexed}
 use Rattle.flat_world.proofs.flat.FlatWorld.specs_in_end.Goals as goal
 

@@ -1,0 +1,11 @@
+pub mod Sizes
+pub mod Edited
+pub mod Swapped
+pub mod Closed
+pub mod Counted
+pub mod Picked
+pub mod Found
+pub mod Relations
+pub mod Positions
+pub mod SharedBytes
+pub mod Indexed

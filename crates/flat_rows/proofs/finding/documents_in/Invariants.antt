@@ -1,0 +1,8 @@
+use Rattle.std.proofs.Common.{◌≡◌, take}
+use Rattle.std.specs.Prelude.{filter}
+use Rattle.world_rules.specs.World.{ascending}
+use Rattle.flat_rows.specs.Sets.{is_in_set}
+use Rattle.flat_rows.proofs.finding.documents_in.Given as goal
+
+abbrev pub invariant-loop-document : goal.invariant-loop-document
+invariant-loop-document l = l.found.keys ≡ ascending (filter (is_in_set l.shown) (take l.document-index l.documents))

@@ -1,6 +1,0 @@
-use Rattle.std.proofs.Common.{take}
-use Rattle.flat_world.specs.inside.Sets.{IsSetShowing}
-use Rattle.flat_world.proofs.finding.documents_showing.Given as goal
-
-abbrev pub invariant-loop-row : goal.invariant-loop-row
-invariant-loop-row l = IsSetShowing (take l.row-index l.rows) l.addresses l.shown

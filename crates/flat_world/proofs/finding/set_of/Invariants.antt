@@ -1,6 +1,0 @@
-use Rattle.std.proofs.Common.{take}
-use Rattle.flat_world.specs.inside.Sets.{IsSetOf}
-use Rattle.flat_world.proofs.finding.set_of.Given as goal
-
-abbrev pub invariant-loop-tumbler : goal.invariant-loop-tumbler
-invariant-loop-tumbler l = IsSetOf (take l.tumbler-index l.tumblers) l.set

@@ -1,6 +1,0 @@
-use Rattle.std.proofs.Common.{take}
-use Rattle.flat_world.specs.inside.PairIndex.{IsPairSet}
-use Rattle.flat_world.proofs.relation.pair_set.Given as goal
-
-abbrev pub invariant-loop-pair : goal.invariant-loop-pair
-invariant-loop-pair l = IsPairSet (take l.pair-index l.pairs) l.members

@@ -1,0 +1,5 @@
+pub use Rattle.world_rules.specs.Accounts
+pub use Rattle.world_rules.specs.Serials
+pub use Rattle.world_rules.specs.VOrder
+pub use Rattle.world_rules.specs.Laws
+pub use Rattle.world_rules.specs.RelationLaws

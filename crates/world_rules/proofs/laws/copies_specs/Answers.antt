@@ -1,5 +1,0 @@
-use Rattle.world_rules.proofs.Copied.{copies_specs}
-use Rattle.world_rules.proofs.laws.copies_specs.Goals as goal
-
-pub returns : goal.returns
-returns c = copies_specs

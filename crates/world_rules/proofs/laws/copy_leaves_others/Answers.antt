@@ -1,5 +1,0 @@
-use Rattle.world_rules.proofs.Inserted.{copy_leaves_others}
-use Rattle.world_rules.proofs.laws.copy_leaves_others.Goals as goal
-
-pub returns : goal.returns
-returns c = copy_leaves_others

@@ -1,5 +1,0 @@
-use Rattle.world_rules.proofs.Deleted.{deletes_span}
-use Rattle.world_rules.proofs.laws.deletes_span.Goals as goal
-
-pub returns : goal.returns
-returns c = deletes_span

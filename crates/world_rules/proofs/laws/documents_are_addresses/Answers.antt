@@ -1,5 +1,0 @@
-use Rattle.world_rules.proofs.DocumentAddresses.{documents_are_addresses}
-use Rattle.world_rules.proofs.laws.documents_are_addresses.Goals as goal
-
-pub returns : goal.returns
-returns c = documents_are_addresses

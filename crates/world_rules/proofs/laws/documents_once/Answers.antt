@@ -1,5 +1,0 @@
-use Rattle.world_rules.proofs.Orderly.{documents_once}
-use Rattle.world_rules.proofs.laws.documents_once.Goals as goal
-
-pub returns : goal.returns
-returns c = documents_once

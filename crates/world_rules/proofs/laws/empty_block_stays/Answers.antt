@@ -1,5 +1,0 @@
-use Rattle.world_rules.proofs.SwappedBack.{empty_block_stays}
-use Rattle.world_rules.proofs.laws.empty_block_stays.Goals as goal
-
-pub returns : goal.returns
-returns c = empty_block_stays

@@ -1,5 +1,0 @@
-use Rattle.world_rules.proofs.Linked.{ids_for_links}
-use Rattle.world_rules.proofs.laws.ids_for_links.Goals as goal
-
-pub returns : goal.returns
-returns c = ids_for_links

@@ -1,5 +1,0 @@
-use Rattle.world_rules.proofs.Inserted.{inserts_numbered}
-use Rattle.world_rules.proofs.laws.inserts_numbered.Goals as goal
-
-pub returns : goal.returns
-returns c = inserts_numbered

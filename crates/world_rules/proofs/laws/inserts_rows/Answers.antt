@@ -1,5 +1,0 @@
-use Rattle.world_rules.proofs.Inserted.{inserts_rows}
-use Rattle.world_rules.proofs.laws.inserts_rows.Goals as goal
-
-pub returns : goal.returns
-returns c = inserts_rows

@@ -1,5 +1,0 @@
-use Rattle.world_rules.proofs.Kept.{keeps_contents}
-use Rattle.world_rules.proofs.laws.keeps_contents.Goals as goal
-
-pub returns : goal.returns
-returns c = keeps_contents

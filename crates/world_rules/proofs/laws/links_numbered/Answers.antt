@@ -1,5 +1,0 @@
-use Rattle.world_rules.proofs.Linked.{links_numbered}
-use Rattle.world_rules.proofs.laws.links_numbered.Goals as goal
-
-pub returns : goal.returns
-returns c = links_numbered

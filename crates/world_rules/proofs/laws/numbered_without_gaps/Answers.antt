@@ -1,5 +1,0 @@
-use Rattle.world_rules.proofs.Orderly.{numbered_without_gaps}
-use Rattle.world_rules.proofs.laws.numbered_without_gaps.Goals as goal
-
-pub returns : goal.returns
-returns c = numbered_without_gaps

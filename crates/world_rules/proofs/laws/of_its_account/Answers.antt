@@ -1,5 +1,0 @@
-use Rattle.world_rules.proofs.Accounts.{of_its_account}
-use Rattle.world_rules.proofs.laws.of_its_account.Goals as goal
-
-pub returns : goal.returns
-returns c = of_its_account

@@ -1,5 +1,0 @@
-use Rattle.world_rules.proofs.ByPlace.{picked_by_place}
-use Rattle.world_rules.proofs.laws.picked_by_place.Goals as goal
-
-pub returns : goal.returns
-returns c = picked_by_place

@@ -1,5 +1,0 @@
-use Rattle.world_rules.proofs.PutInOrder.{puts_in_order}
-use Rattle.world_rules.proofs.laws.puts_in_order.Goals as goal
-
-pub returns : goal.returns
-returns c = puts_in_order

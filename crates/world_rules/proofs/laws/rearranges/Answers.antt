@@ -1,5 +1,0 @@
-use Rattle.world_rules.proofs.Rearranged.{rearranges}
-use Rattle.world_rules.proofs.laws.rearranges.Goals as goal
-
-pub returns : goal.returns
-returns c = rearranges

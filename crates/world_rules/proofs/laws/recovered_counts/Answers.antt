@@ -1,5 +1,0 @@
-use Rattle.world_rules.proofs.Serials.{recovered_counts}
-use Rattle.world_rules.proofs.laws.recovered_counts.Goals as goal
-
-pub returns : goal.returns
-returns c = recovered_counts

@@ -1,5 +1,0 @@
-use Rattle.world_rules.proofs.Recovered.{recovered_is_placed}
-use Rattle.world_rules.proofs.laws.recovered_is_placed.Goals as goal
-
-pub returns : goal.returns
-returns c = recovered_is_placed

@@ -1,5 +1,0 @@
-use Rattle.world_rules.proofs.TextWith.{retrieve_after_insert}
-use Rattle.world_rules.proofs.laws.retrieve_after_insert.Goals as goal
-
-pub returns : goal.returns
-returns c = retrieve_after_insert

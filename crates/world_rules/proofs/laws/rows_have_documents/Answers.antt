@@ -1,5 +1,0 @@
-use Rattle.world_rules.proofs.Orderly.{rows_have_documents}
-use Rattle.world_rules.proofs.laws.rows_have_documents.Goals as goal
-
-pub returns : goal.returns
-returns c = rows_have_documents

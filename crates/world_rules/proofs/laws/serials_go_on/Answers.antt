@@ -1,5 +1,0 @@
-use Rattle.world_rules.proofs.Serials.{serials_go_on}
-use Rattle.world_rules.proofs.laws.serials_go_on.Goals as goal
-
-pub returns : goal.returns
-returns c = serials_go_on

@@ -1,5 +1,0 @@
-use Rattle.world_rules.proofs.Fresh.{shows_own_content}
-use Rattle.world_rules.proofs.laws.shows_own_content.Goals as goal
-
-pub returns : goal.returns
-returns c = shows_own_content

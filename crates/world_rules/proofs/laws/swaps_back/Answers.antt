@@ -1,5 +1,0 @@
-use Rattle.world_rules.proofs.SwappedBack.{swaps_back}
-use Rattle.world_rules.proofs.laws.swaps_back.Goals as goal
-
-pub returns : goal.returns
-returns c = swaps_back

@@ -1,5 +1,0 @@
-use Rattle.world_rules.proofs.Versioned.{versions_rows}
-use Rattle.world_rules.proofs.laws.versions_rows.Goals as goal
-
-pub returns : goal.returns
-returns c = versions_rows

@@ -1,5 +1,0 @@
-use Rattle.world_rules.proofs.RelationLaws.{come_once}
-use Rattle.world_rules.proofs.relation_laws.diagonals_come_once.Goals as goal
-
-pub returns : goal.returns
-returns c = come_once

@@ -1,5 +1,0 @@
-use Rattle.world_rules.proofs.RelationLaws.{on_diagonals}
-use Rattle.world_rules.proofs.relation_laws.pairs_are_on_diagonals.Goals as goal
-
-pub returns : goal.returns
-returns c = on_diagonals

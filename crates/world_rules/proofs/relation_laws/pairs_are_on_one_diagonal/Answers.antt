@@ -1,5 +1,0 @@
-use Rattle.world_rules.proofs.RelationLaws.{on_one_diagonal}
-use Rattle.world_rules.proofs.relation_laws.pairs_are_on_one_diagonal.Goals as goal
-
-pub returns : goal.returns
-returns c = on_one_diagonal
