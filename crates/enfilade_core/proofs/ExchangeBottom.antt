@@ -41,15 +41,15 @@ before-plain {L} plain at (row ∷ rows) = elim (comes_before row.first at) as (
   | false ↦ λ e. rw e (before-plain plain at rows)
 ] refl
 
-count-plain : {L : Type 0} (plain : L → L) (at : List ℕ) (rows : List (Row L)) → length (rows_before at rows) ≡ length (rows_before at (map (plain_row plain) rows))
+pub count-plain : {L : Type 0} (plain : L → L) (at : List ℕ) (rows : List (Row L)) → length (rows_before at rows) ≡ length (rows_before at (map (plain_row plain) rows))
 count-plain plain at rows = sym (length-map (rows_before at rows) (plain_row plain)) ∙ ap length (sym (before-plain plain at rows))
 
-map-taken : {A B : Type 0} (f : A → B) (n : ℕ) (xs : List A) → map f (take n xs) ≡ take n (map f xs)
+pub map-taken : {A B : Type 0} (f : A → B) (n : ℕ) (xs : List A) → map f (take n xs) ≡ take n (map f xs)
 map-taken f zero xs = refl
 map-taken f (suc n) [] = refl
 map-taken f (suc n) (x ∷ xs) = ap (λ (r : List _). f x ∷ r) (map-taken f n xs)
 
-map-dropped : {A B : Type 0} (f : A → B) (n : ℕ) (xs : List A) → map f (drop n xs) ≡ drop n (map f xs)
+pub map-dropped : {A B : Type 0} (f : A → B) (n : ℕ) (xs : List A) → map f (drop n xs) ≡ drop n (map f xs)
 map-dropped f zero xs = refl
 map-dropped f (suc n) [] = refl
 map-dropped f (suc n) (x ∷ xs) = map-dropped f n xs
@@ -81,7 +81,7 @@ slice-within {L} plain from to rows n m h le e f =
 
 -- ---- what moves is behind the gap, and right there
 
-past_passes : {L : Type 0} (at : List ℕ) (rows : List (Row L)) → NoneBefore at (rows_past at rows)
+pub past_passes : {L : Type 0} (at : List ℕ) (rows : List (Row L)) → NoneBefore at (rows_past at rows)
 past_passes at [] = λ k d lt. absurd (omega arith)
 past_passes {L} at (row ∷ rows) = elim (comes_before row.first at) as (λ b. comes_before row.first at ≡ b → NoneBefore at (rows_past at (row ∷ rows))) [
   | true ↦ λ e. rw e (past_passes at rows)

@@ -4,18 +4,14 @@ use Rattle.std.specs.List.{All}
 use Rattle.std.proofs.lemmas.List.Elements.{All-head, All-tail, All-nil}
 use Rattle.std.proofs.lemmas.Bool.{ne_eqb}
 use Rattle.tumbler.specs.Places.{IsUpTo, IsTumbler}
-use Rattle.tumbler.specs.ListView.{ListView}
 use Rattle.enfilade_core.specs.declared.tree.Row.{Row}
 use Rattle.enfilade_core.specs.declared.tree.Branch.{Branch}
-use Rattle.enfilade_core.specs.declared.tree.Children.{Children}
-use Rattle.enfilade_core.specs.declared.tree.Children.TheVariants.{Bottom, Inner}
 use Rattle.enfilade_core.specs.declared.summary.Summary.{Summary}
 use Rattle.enfilade_core.specs.declared.gap.Gap.{Gap}
 use Rattle.enfilade_core.specs.Rows.{Shape, Rows, Branches, moved, branch_rows, rows_in, rows_table, rows_of}
 use Rattle.enfilade_core.specs.Axes.{Widths, InOrder, IsRightRow, IsRightRows}
-use Rattle.enfilade_core.specs.Right.{IsRightBranch, IsRightPart}
+use Rattle.enfilade_core.specs.Right.{IsRightPart}
 use Rattle.enfilade_core.specs.Summary.{branch_summary, summaries, summary_joined, no_summary, height_of}
-use Rattle.enfilade_core.specs.Plain.{shape, plain_row, children_count}
 use Rattle.enfilade_core.specs.Edits.{taken_out, shifted}
 use Rattle.enfilade_core.specs.Exchange.{exchanged, height_in, IsOpened, IsPacked, HasRows, BranchHasRows, BranchesHaveRows, LevelRows, MayHaveChildren}
 use Rattle.enfilade_core.proofs.Heights.{rows_height}
@@ -48,7 +44,7 @@ whole-past {L} w nodes height gap none rows made empty le past h =
 pub past-right : {L : Type 0} (w : Widths L) (gap : Gap) (none rows : List (Row L)) → none ≡ [] → IsUpTo gap.from gap.to → NoneBefore gap.to rows → IsRightRows w (exchanged gap none rows) → All (IsRightRow w) (shifted gap.to gap.onto rows)
 past-right w gap none rows empty le past h = subst (All (IsRightRow w)) (with_none gap none rows (shifted gap.to gap.onto rows) empty (exchanged-past gap rows le past)) h.each
 
--- ---- children that may be none
+-- ---- rows that may be none
 
 never_none : {A : Type 0} (xs : List A) → xs ≢ [] → eqb (length xs) 0 ≡ false
 never_none [] n = absurd (n refl)
@@ -60,41 +56,6 @@ none_mapped f (x ∷ xs) q = absurd (let r = never_none (x ∷ xs) (λ e. cc) in
 
 pub mapped-none : {A B : Type 0} (f : A → B) (xs : List A) (b : Bool) → b ≡ eqb (length xs) 0 → b ≡ true → map f xs ≡ []
 mapped-none f xs b e t = none_mapped f xs (sym e ∙ t)
-
-pub none-left : {L : Type 0} (plain : L → L) (w : Widths L) (nodes : List (Shape L)) (height : ℕ) (rows : List (Row L)) (children : Children L) (b : Bool) → MayHaveChildren w nodes height rows (shape plain children) → b ≡ eqb (children_count children) 0 → b ≡ true → rows ≡ []
-none-left plain w nodes height rows (Bottom own) b h e t = sym h.rows_are ∙ mapped-none (plain_row plain) own.items b e t
-none-left plain w nodes height rows (Inner branches) b h e t = none_here branches.items (sym e ∙ t) h
-  where
-    none_here : (branches : List Branch) → eqb (length branches) 0 ≡ true → MayHaveChildren w nodes height rows (Branches branches) → rows ≡ []
-    none_here [] q k = k
-    none_here (branch ∷ branches) q k = absurd (let r = never_none (branch ∷ branches) (λ e. cc) in cc)
-
--- children with rows, of which there are some
-pub record SomeLeft {L : Type 0} (w : Widths L) (nodes : List (Shape L)) (height : ℕ) (rows : List (Row L)) (node : Shape L) : Type 0 where
-  pub has : HasRows w nodes height rows node
-  pub filled : rows_in (rows_table nodes) node ≢ []
-
-map-filled : {A B : Type 0} (f : A → B) (xs : List A) → xs ≢ [] → map f xs ≢ []
-map-filled f [] n q = n refl
-map-filled f (x ∷ xs) n q = cc
-
-front-filled : {A : Type 0} (xs ys : List A) → xs ≢ [] → xs ++ ys ≢ []
-front-filled [] ys n q = n refl
-front-filled (x ∷ xs) ys n q = cc
-
-pub some-left : {L : Type 0} (plain : L → L) (w : Widths L) (nodes : List (Shape L)) (height : ℕ) (rows : List (Row L)) (children : Children L) (b : Bool) → MayHaveChildren w nodes height rows (shape plain children) → b ≡ eqb (children_count children) 0 → b ≡ false → SomeLeft w nodes height rows (shape plain children)
-some-left plain w nodes height rows (Bottom own) b h e t = record { has = h; filled = some_mapped (plain_row plain) own.items (sym e ∙ t) }
-  where
-    some_mapped : {A B : Type 0} (f : A → B) (xs : List A) → eqb (length xs) 0 ≡ false → map f xs ≢ []
-    some_mapped f [] q r = cc
-    some_mapped f (x ∷ xs) q r = cc
-some-left plain w nodes height rows (Inner branches) b h e t = some_here branches.items (sym e ∙ t) h
-  where
-    some_here : (branches : List Branch) → eqb (length branches) 0 ≡ false → MayHaveChildren w nodes height rows (Branches branches) → SomeLeft w nodes height rows (Branches branches)
-    some_here [] q k = absurd (let r : eqb (length {A = Branch} []) 0 ≡ true = refl in cc)
-    some_here (branch ∷ branches) q k =
-        let first = All-head (IsRightBranch w nodes) branch branches k.right.branches.each in
-        record { has = k; filled = front-filled (branch_rows (rows_table nodes) branch) (flat_rows nodes branches) (map-filled (moved branch.first branch.second) (rows_of nodes branch.node.0) first.filled) }
 
 pub packed-has : {L : Type 0} (w : Widths L) (old new : List (Shape L)) (height : ℕ) (rows : List (Row L)) (node : Shape L) (branch : Branch) → HasRows w old height rows node → IsPacked w old new node branch → BranchHasRows w new height rows branch
 packed-has w old new height rows node branch h p = record { part = p.part; rows_are = p.rows ∙ h.rows_are; level = p.level ∙ h.level }
@@ -148,16 +109,6 @@ inner-exchanged {L} w old new k a b gap rows branches made opened right have =
     let h = subst (λ (r : List (Row L)). BranchesHaveRows w new height r made) value (have height opened.right.branches.level) in
     let level : height + 1 ≡ height_of w old k = sym (level-height w old height branches opened.right.branches.some opened.right.branches.level) ∙ opened.level in
     subst (λ (n : ℕ). MayHaveChildren w new n (exchanged gap rows (map (moved a b) (rows_of old k))) (Branches made)) level (branches-children w new height (exchanged gap rows (map (moved a b) (rows_of old k))) made right.ordered h)
-
--- ---- what was opened, as the code has it
-
-pub opened-bottom : {L : Type 0} (plain : L → L) (w : Widths L) (nodes : List (Shape L)) (k : ℕ) (a b : List ℕ) (children : Children L) (rows : ListView (Row L)) (held : List (Row L)) → IsOpened w nodes k a b (shape plain children) → children ≡ Bottom rows → held ≡ rows.items → IsOpened w nodes k a b (Rows (map (plain_row plain) held))
-opened-bottom {L} plain w nodes k a b children rows held opened is items =
-    subst (λ (rs : List (Row L)). IsOpened w nodes k a b (Rows (map (plain_row plain) rs))) (sym items) (subst (λ (c : Children L). IsOpened w nodes k a b (shape plain c)) is opened)
-
-pub opened-inner : {L : Type 0} (plain : L → L) (w : Widths L) (nodes : List (Shape L)) (k : ℕ) (a b : List ℕ) (children : Children L) (branches : ListView Branch) (held : List Branch) → IsOpened w nodes k a b (shape plain children) → children ≡ Inner branches → held ≡ branches.items → IsOpened w nodes k a b (Branches held)
-opened-inner {L} plain w nodes k a b children branches held opened is items =
-    subst (λ (bs : List Branch). IsOpened w nodes k a b (Branches bs)) (sym items) (subst (λ (c : Children L). IsOpened w nodes k a b (shape plain c)) is opened)
 
 pub taken-opened : {L : Type 0} (w : Widths L) (nodes : List (Shape L)) (k : ℕ) (a b : List ℕ) (node : Shape L) (gap : Gap) (before after : List (Row L)) → IsOpened w nodes k a b node → after ≡ before ++ taken_out gap.from gap.to (rows_in (rows_table nodes) node) → after ≡ before ++ taken_out gap.from gap.to (map (moved a b) (rows_of nodes k))
 taken-opened {L} w nodes k a b node gap before after opened e = e ∙ ap (λ (r : List (Row L)). before ++ taken_out gap.from gap.to r) opened.rows

@@ -28,6 +28,12 @@ pub mod PackedOrigins
 pub mod PackedNode
 pub mod PackedRows
 pub mod PackedBranches
+pub mod SeenPlaces
+pub mod TouchedRows
+pub mod AroundMiddle
+pub mod ExchangeMiddle
+pub mod KeptRows
+pub mod KeptBottom
 pub mod WalkedRows
 pub mod EditsAre
 pub mod Rooted

@@ -1,5 +1,5 @@
 -- Rows that are seen from an origin just before them are right, and stand where they stood.
-use Rattle.std.proofs.Common.{◌≡◌, ◌≢◌, ℕ, List, [], ◌∷◌, length, map, fold, refl, ap, ◌∙◌, sym, subst}
+use Rattle.std.proofs.Common.{◌≡◌, ◌≢◌, ℕ, Bool, IsTrue, List, [], ◌∷◌, length, map, fold, refl, ap, ◌∙◌, sym, subst}
 use Rattle.std.specs.List.{All}
 use Rattle.std.proofs.lemmas.List.Elements.{All-head, All-tail, All-nil, All-cons, All-weaker}
 use Rattle.tumbler.specs.Places.{EndsWell, IsTumbler, IsBefore, IsUpTo, sum, difference}
@@ -34,15 +34,33 @@ end_back a place width more le e t same end =
 long_back : (a place width more : List ℕ) → IsBefore a place → more ≡ width → (width ≢ []) × (length width ≡ length place) → (more ≢ []) × (length more ≡ length (difference place a))
 long_back a place width more lt same h = rw same (h.0, h.1 ∙ sym (length-difference_before place a lt))
 
-row_back-right : {L : Type 0} (w : Widths L) → WidthsStay w → (a b : List ℕ) (row : Row L) → StandsBefore a row.first → StandsBefore b row.second → IsRightRow w row → IsRightRow w (back a b row)
-row_back-right {L} w stay a b row s t right =
+-- a place may be seen from an origin: it is at or past it, and past it where the axis is strict
+pub record IsSeen (strict : Bool) (origin place : List ℕ) : Type 0 where
+  pub up_to : IsUpTo origin place
+  pub before : IsTrue strict → IsBefore origin place
+
+pub record RowIsSeen {L : Type 0} (w : Widths L) (a b : List ℕ) (row : Row L) : Type 0 where
+  pub first : IsSeen w.first_strict a row.first
+  pub second : IsSeen w.second_strict b row.second
+
+pub seen-if_before : {L : Type 0} (w : Widths L) (a b : List ℕ) (row : Row L) → StandsBefore a row.first → StandsBefore b row.second → IsRightRow w row → RowIsSeen w a b row
+seen-if_before w a b row s t right =
     let far = stands_off w row right in
-    let first = difference-is_tumbler row.first a right.first_place s.is_tumbler s.up_to in
-    let second = difference-is_tumbler row.second b right.second_place t.is_tumbler t.up_to in
+    record {
+      first = record { up_to = s.up_to; before = λ strict. s.before (far.first strict) };
+      second = record { up_to = t.up_to; before = λ strict. t.before (far.second strict) };
+    }
+
+row_back-right : {L : Type 0} (w : Widths L) → WidthsStay w → (a b : List ℕ) (row : Row L) → IsTumbler a → IsTumbler b → RowIsSeen w a b row → IsRightRow w row → IsRightRow w (back a b row)
+row_back-right {L} w stay a b row ta tb seen right =
+    let s = seen.first in
+    let t = seen.second in
+    let first = difference-is_tumbler row.first a right.first_place ta s.up_to in
+    let second = difference-is_tumbler row.second b right.second_place tb t.up_to in
     let is = there a b row s.up_to t.up_to in
     let off : StandsOff w (back a b row) = record {
-      first = λ strict. difference-filled row.first a (s.before (far.first strict));
-      second = λ strict. difference-filled row.second b (t.before (far.second strict));
+      first = λ strict. difference-filled row.first a (s.before strict);
+      second = λ strict. difference-filled row.second b (t.before strict);
     } in
     let stays = stay a b (back a b row) first.ends second.ends off in
     let w1 : w.first (back a b row) ≡ w.first row = sym stays.0 ∙ ap w.first is in
@@ -55,32 +73,34 @@ row_back-right {L} w stay a b row s t right =
       first_end = end_back a row.first (w.first row) (w.first (back a b row)) s.up_to first.ends right.first_width w1 right.first_end;
       second_end = end_back b row.second (w.second row) (w.second (back a b row)) t.up_to second.ends right.second_width w2 right.second_end;
       proper = (
-        λ strict. long_back a row.first (w.first row) (w.first (back a b row)) (s.before (far.first strict)) w1 (right.proper.0 strict),
-        λ strict. long_back b row.second (w.second row) (w.second (back a b row)) (t.before (far.second strict)) w2 (right.proper.1 strict),
+        λ strict. long_back a row.first (w.first row) (w.first (back a b row)) (s.before strict) w1 (right.proper.0 strict),
+        λ strict. long_back b row.second (w.second row) (w.second (back a b row)) (t.before strict) w2 (right.proper.1 strict),
       );
     }
 
 -- ---- all rows
 
--- a place stands before a row on the first axis, or on the second
-abbrev pub BeforeFirst : {L : Type 0} → List ℕ → Row L → Type 0
-BeforeFirst a row = StandsBefore a row.first
+pub seen-if_all_before : {L : Type 0} (w : Widths L) (a b : List ℕ) (rows : List (Row L)) → All (λ row. StandsBefore a row.first) rows → All (λ row. StandsBefore b row.second) rows → All (IsRightRow w) rows → All (RowIsSeen w a b) rows
+seen-if_all_before w a b [] s t right = All-nil (RowIsSeen w a b)
+seen-if_all_before {L} w a b (row ∷ rows) s t right =
+    let P : Row L → Type 0 = λ r. StandsBefore a r.first in
+    let Q : Row L → Type 0 = λ r. StandsBefore b r.second in
+    All-cons (RowIsSeen w a b) row rows (seen-if_before w a b row (All-head P row rows s) (All-head Q row rows t) (All-head (IsRightRow w) row rows right))
+    (seen-if_all_before w a b rows (All-tail P row rows s) (All-tail Q row rows t) (All-tail (IsRightRow w) row rows right))
 
-abbrev pub BeforeSecond : {L : Type 0} → List ℕ → Row L → Type 0
-BeforeSecond b row = StandsBefore b row.second
-
-rows_back-right : {L : Type 0} (w : Widths L) → WidthsStay w → (a b : List ℕ) (rows : List (Row L)) → All (BeforeFirst a) rows → All (BeforeSecond b) rows → All (IsRightRow w) rows → All (IsRightRow w) (map (back a b) rows)
-rows_back-right w stay a b [] s t right = All-nil (IsRightRow w)
-rows_back-right w stay a b (row ∷ rows) s t right =
+rows_back-right : {L : Type 0} (w : Widths L) → WidthsStay w → (a b : List ℕ) (rows : List (Row L)) → IsTumbler a → IsTumbler b → All (RowIsSeen w a b) rows → All (IsRightRow w) rows → All (IsRightRow w) (map (back a b) rows)
+rows_back-right w stay a b [] ta tb seen right = All-nil (IsRightRow w)
+rows_back-right w stay a b (row ∷ rows) ta tb seen right =
     All-cons (IsRightRow w) (back a b row) (map (back a b) rows)
-    (row_back-right w stay a b row (All-head (BeforeFirst a) row rows s) (All-head (BeforeSecond b) row rows t) (All-head (IsRightRow w) row rows right))
-    (rows_back-right w stay a b rows (All-tail (BeforeFirst a) row rows s) (All-tail (BeforeSecond b) row rows t) (All-tail (IsRightRow w) row rows right))
+    (row_back-right w stay a b row ta tb (All-head (RowIsSeen w a b) row rows seen) (All-head (IsRightRow w) row rows right))
+    (rows_back-right w stay a b rows ta tb (All-tail (RowIsSeen w a b) row rows seen) (All-tail (IsRightRow w) row rows right))
 
-pub rows_there : {L : Type 0} (a b : List ℕ) (rows : List (Row L)) → All (BeforeFirst a) rows → All (BeforeSecond b) rows → map (moved a b) (map (back a b) rows) ≡ rows
-rows_there a b [] s t = refl
-rows_there a b (row ∷ rows) s t =
-    ap (λ (r : Row _). r ∷ map (moved a b) (map (back a b) rows)) (there a b row (All-head (BeforeFirst a) row rows s).up_to (All-head (BeforeSecond b) row rows t).up_to)
-    ∙ ap (λ (rs : List (Row _)). row ∷ rs) (rows_there a b rows (All-tail (BeforeFirst a) row rows s) (All-tail (BeforeSecond b) row rows t))
+pub rows_there : {L : Type 0} (w : Widths L) (a b : List ℕ) (rows : List (Row L)) → All (RowIsSeen w a b) rows → map (moved a b) (map (back a b) rows) ≡ rows
+rows_there w a b [] seen = refl
+rows_there {L} w a b (row ∷ rows) seen =
+    let here = All-head (RowIsSeen w a b) row rows seen in
+    ap (λ (r : Row L). r ∷ map (moved a b) (map (back a b) rows)) (there a b row here.first.up_to here.second.up_to)
+    ∙ ap (λ (rs : List (Row L)). row ∷ rs) (rows_there w a b rows (All-tail (RowIsSeen w a b) row rows seen))
 
 -- rows are in order where they are once all are moved
 earlier_unmoved : {L : Type 0} (a b place : List ℕ) (rows : List (Row L)) → EndsWell place → All (λ r. IsUpTo (sum a place) r.first) (map (moved a b) rows) → All (λ r. IsUpTo place r.first) rows
@@ -108,15 +128,10 @@ map_some f (x ∷ xs) n q = cc
 
 -- ---- a bottom node
 
-tumblers : {L : Type 0} (a b : List ℕ) (rows : List (Row L)) → rows ≢ [] → All (BeforeFirst a) rows → All (BeforeSecond b) rows → IsTumbler a × IsTumbler b
-tumblers a b [] some s t = absurd (some refl)
-tumblers a b (row ∷ rows) some s t = ((All-head (BeforeFirst a) row rows s).is_tumbler, (All-head (BeforeSecond b) row rows t).is_tumbler)
-
-rows_stand : {L : Type 0} (w : Widths L) → WidthsStay w → (nodes : List (Shape L)) (a b : List ℕ) (rows : List (Row L)) → rows ≢ [] → IsRightRows w rows → All (BeforeFirst a) rows → All (BeforeSecond b) rows → MayStandAt w nodes (Rows (map (back a b) rows)) a b
-rows_stand w stay nodes a b rows some right s t =
-    let each = rows_back-right w stay a b rows s t right.each in
-    let is = rows_there a b rows s t in
-    let both = tumblers a b rows some s t in
+rows_stand : {L : Type 0} (w : Widths L) → WidthsStay w → (nodes : List (Shape L)) (a b : List ℕ) (rows : List (Row L)) → IsTumbler a → IsTumbler b → rows ≢ [] → IsRightRows w rows → All (RowIsSeen w a b) rows → MayStandAt w nodes (Rows (map (back a b) rows)) a b
+rows_stand w stay nodes a b rows ta tb some right seen =
+    let each = rows_back-right w stay a b rows ta tb seen right.each in
+    let is = rows_there w a b rows seen in
     record {
       right = record {
         branches = tt;
@@ -126,22 +141,27 @@ rows_stand w stay nodes a b rows some right s t =
         ordered = InOrder-unmoved a b (map (back a b) rows) (ends_well w (map (back a b) rows) each) (subst InOrder (sym is) right.ordered);
       };
       filled = filled_back a b (map (back a b) rows) rows is some;
-      first_origins = All-one IsTumbler a both.0;
-      second_origins = All-one IsTumbler b both.1;
+      first_origins = All-one IsTumbler a ta;
+      second_origins = All-one IsTumbler b tb;
       rows = subst (All (IsRightRow w)) (sym is) right.each;
     }
 
 -- the list that was made has these rows
-pub rows-may_stand : {L : Type 0} (w : Widths L) → WidthsStay w → (nodes : List (Shape L)) (a b : List ℕ) (rows made : List (Row L)) → rows ≢ [] → IsRightRows w rows → All (BeforeFirst a) rows → All (BeforeSecond b) rows → made ≡ map (back a b) rows → MayStandAt w nodes (Rows made) a b
-rows-may_stand w stay nodes a b rows made some right s t is = rw is (rows_stand w stay nodes a b rows some right s t)
+pub rows-may_stand : {L : Type 0} (w : Widths L) → WidthsStay w → (nodes : List (Shape L)) (a b : List ℕ) (rows made : List (Row L)) → IsTumbler a → IsTumbler b → rows ≢ [] → IsRightRows w rows → All (RowIsSeen w a b) rows → made ≡ map (back a b) rows → MayStandAt w nodes (Rows made) a b
+rows-may_stand w stay nodes a b rows made ta tb some right seen is = rw is (rows_stand w stay nodes a b rows ta tb some right seen)
+
+-- an origin that stands before rows is a tumbler
+pub tumbler-before : {L : Type 0} (place : Row L → List ℕ) (a : List ℕ) (rows : List (Row L)) → rows ≢ [] → All (λ row. StandsBefore a (place row)) rows → IsTumbler a
+tumbler-before place a [] some s = absurd (some refl)
+tumbler-before place a (row ∷ rows) some s = (All-head (λ r. StandsBefore a (place r)) row rows s).is_tumbler
 
 rows_level : {L : Type 0} (w : Widths L) (rows : List (Row L)) (s : Summary) → s.height ≡ 0 → (fold summary_joined s (map (row_summary w) rows)).height ≡ 0
 rows_level w [] s h = h
 rows_level w (row ∷ rows) s h = rows_level w rows (summary_joined s (row_summary w row)) refl
 
-pub rows-packed : {L : Type 0} (w : Widths L) (old new : List (Shape L)) (a b : List ℕ) (rows made : List (Row L)) (branch : Branch) → All (BeforeFirst a) rows → All (BeforeSecond b) rows → made ≡ map (back a b) rows → IsPlaced w old new (Rows made) a b branch → IsPacked w old new (Rows rows) branch
-rows-packed w old new a b rows made branch s t is placed = record {
+pub rows-packed : {L : Type 0} (w : Widths L) (old new : List (Shape L)) (a b : List ℕ) (rows made : List (Row L)) (branch : Branch) → All (RowIsSeen w a b) rows → made ≡ map (back a b) rows → IsPlaced w old new (Rows made) a b branch → IsPacked w old new (Rows rows) branch
+rows-packed w old new a b rows made branch seen is placed = record {
   part = placed.part;
-  rows = placed.rows ∙ ap (map (moved a b)) is ∙ rows_there a b rows s t;
+  rows = placed.rows ∙ ap (map (moved a b)) is ∙ rows_there w a b rows seen;
   level = placed.level ∙ rows_level w made no_summary refl ∙ sym (rows_level w rows no_summary refl);
 }

@@ -12,3 +12,4 @@ pub mod PlaneLaws
 pub mod Following
 pub mod Exchange
 pub mod Packing
+pub mod Touched

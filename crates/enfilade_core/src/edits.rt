@@ -58,9 +58,8 @@ impl<P: Plane> Arena<P> {
         ensures out { IfOk result (λ made. map (plain_row P.plain) made.out.items ≡ taken_out gap.now.from gap.now.to (rows_of self.old root.0)) }
         ensures level { IfOk result (λ made. rows_of self.new made.root.0 ≢ [] → depth_of P.widths self.new made.root.0 ≡ depth_of P.widths self.old root.0) }
     {
-        let zero = Tumbler::zero(self.allocator());
         let mut out = List::new(self.allocator());
-        let children = self.node_exchanged(root, &zero, &zero, gap, rows.as_slice(), &mut out)?;
+        let children = self.root_exchanged(root, gap, rows.as_slice(), &mut out)?;
         let root = self.rooted(children)?;
         Ok(Exchanged { root, out })
     }

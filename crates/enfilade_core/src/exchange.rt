@@ -1,7 +1,8 @@
 //! What stands in a gap of a tree is exchanged.
 ghost use Rattle.std.specs.Prelude.{ℕ, List as ListOf, ◌≡◌, ◌≢◌, ◌+◌, ◌<◌, ◌≤◌, [], ◌∷◌, ◌++◌, map, drop, take, length, All, IsTrue, IfOk, IfSome, IfNone, OnOk, false, true};
 ghost use Rattle.tumbler.specs.Places.{IsUpTo, IsTumbler, comes_before};
-ghost use Rattle.enfilade_core.specs.Rows.{Rows, Branches, moved, branch_rows, rows_in, rows_table, rows_of};
+ghost use Rattle.enfilade_core.specs.Rows.{Rows, Branches, moved, branch_rows, rows_in, rows_table, rows_of, node_at};
+ghost use Rattle.enfilade_core.specs.Touched.{IsInner, IsBottom, branches_under, branches_at, with_middle, LiesWithin};
 ghost use Rattle.enfilade_core.specs.Axes.{IsRightRow, IsRightRows, InOrder};
 ghost use Rattle.enfilade_core.specs.Right.{IsRight, IsRightPart, NamesBelow};
 ghost use Rattle.enfilade_core.specs.Summary.{height_of};
@@ -10,6 +11,7 @@ ghost use Rattle.enfilade_core.specs.Edits.{taken_out, shift_place, shift_row, s
 ghost use Rattle.enfilade_core.specs.Exchange.{exchanged, rows_before, rows_past, IsRightAt, height_in, Grows, HasRows, BranchesHaveRows, MayHaveRows, MayHaveChildren, BranchHasRows, IsBeside, IsChosen, branches_if, IsWhole, LevelRows, AppendsRows};
 
 use crate::arena::Arena;
+use crate::around::Touched;
 use crate::beside::Beside;
 use crate::gap::Gap;
 use crate::plane::Plane;
@@ -27,14 +29,14 @@ enum Whole {
 }
 
 /// How many rows come before a place.
-fn count_before<L>(rows: &[Row<L>], at: &Tumbler) -> usize
+pub(crate) fn count_before<L>(rows: &[Row<L>], at: &Tumbler) -> usize
     ensures { result ≡ length (rows_before at.now rows.now) }
 {
     rows.iter().filter(|row| row.first.is_before(at)).count()
 }
 
 /// Copies of rows go behind others.
-fn append_copies<P: Plane>(
+pub(crate) fn append_copies<P: Plane>(
     alloc: Global,
     rows: &[Row<P::Leaf>],
     into: &mut List<Row<P::Leaf>>,
@@ -87,7 +89,7 @@ fn append_shifted<P: Plane>(
 }
 
 /// Rows of a bottom node, with those in the gap exchanged. What was taken out goes behind `out`.
-fn rows_exchanged<P: Plane>(
+pub(crate) fn rows_exchanged<P: Plane>(
     alloc: Global,
     old: &[Row<P::Leaf>],
     gap: &Gap,
@@ -134,7 +136,7 @@ fn append_branch(branch: Option<Branch>, into: &mut List<Branch>) -> Result<(), 
 
 impl<P: Plane> Arena<P> {
     /// The last branch that has a row before a place, or the first one: new rows go in there.
-    fn chosen(&self, branches: &[Branch], at: &Tumbler) -> usize
+    pub(crate) fn chosen(&self, branches: &[Branch], at: &Tumbler) -> usize
         requires right { IsRight P.widths self.now (Branches branches.now) }
         ensures { IsChosen self.now branches.now at.now result }
     {
@@ -214,7 +216,10 @@ impl<P: Plane> Arena<P> {
         ensures rows { IfOk result (MayHaveRows P.widths self.new (height_of P.widths self.old branch.now.node.0) (exchanged gap.now (map (plain_row P.plain) rows.now) (branch_rows (rows_table self.old) branch.now))) }
         ensures out { OnOk result (map (plain_row P.plain) out.new.items ≡ map (plain_row P.plain) out.old.items ++ taken_out gap.now.from gap.now.to (branch_rows (rows_table self.old) branch.now)) }
     {
-        let children = self.node_exchanged(
+        if self.is_bottom(branch.node) {
+            return self.bottom_exchanged(branch, gap, rows, out);
+        }
+        let touched = self.node_exchanged(
             branch.node,
             &branch.first,
             &branch.second,
@@ -222,11 +227,7 @@ impl<P: Plane> Arena<P> {
             rows,
             out,
         )?;
-        if children.is_empty() {
-            return Ok(None);
-        }
-        let branch = self.packed(&children)?;
-        Ok(Some(branch))
+        self.repacked(branch, &touched)
     }
 
     /// The branches, each with what stands in a gap taken out and what is behind it moved, go behind others.
@@ -284,10 +285,10 @@ impl<P: Plane> Arena<P> {
         Ok(made)
     }
 
-    /// The children of a node, seen from a base, with what stands in a gap exchanged. An inner node may
-    /// have no children left.
+    /// The children of an inner node that an exchange touches, seen from a base, with what stands in a gap
+    /// exchanged. There may be none left.
     #[cycle(exchanging)]
-    pub(crate) fn node_exchanged(
+    fn node_exchanged(
         &mut self,
         node: Node,
         first: &Tumbler,
@@ -295,24 +296,50 @@ impl<P: Plane> Arena<P> {
         gap: &Gap,
         rows: &[Row<P::Leaf>],
         out: &mut List<Row<P::Leaf>>,
-    ) -> Result<Children<P::Leaf>, Memory>
+    ) -> Result<Touched, Memory>
         requires up_to { IsUpTo gap.now.from gap.now.to }
         requires at { IsRightAt P.widths self.old node.0 first.now second.now }
+        requires inner { IsInner (node_at self.old node.0) }
         requires right { IsRightRows P.widths (exchanged gap.now (map (plain_row P.plain) rows.now) (map (moved first.now second.now) (rows_of self.old node.0))) }
         ensures grows { Grows self.old self.new }
-        ensures rows { IfOk result (λ made. MayHaveChildren P.widths self.new (height_of P.widths self.old node.0) (exchanged gap.now (map (plain_row P.plain) rows.now) (map (moved first.now second.now) (rows_of self.old node.0))) (shape P.plain made)) }
+        ensures same { node_at self.new node.0 ≡ node_at self.old node.0 }
+        ensures within { IfOk result (λ made. LiesWithin (branches_under (node_at self.old node.0)) made) }
+        ensures rows { IfOk result (λ made. MayHaveChildren P.widths self.new (height_of P.widths self.old node.0) (exchanged gap.now (map (plain_row P.plain) rows.now) (map (moved first.now second.now) (rows_of self.old node.0))) (Branches (with_middle (branches_at first.now second.now (branches_under (node_at self.old node.0))) made))) }
         ensures out { OnOk result (map (plain_row P.plain) out.new.items ≡ map (plain_row P.plain) out.old.items ++ taken_out gap.now.from gap.now.to (map (moved first.now second.now) (rows_of self.old node.0))) }
     {
-        let children = self.opened(node, first, second)?;
-        match children {
-            Children::Bottom(old) => {
-                let made = rows_exchanged::<P>(self.allocator(), old.as_slice(), gap, rows, out)?;
-                Ok(Children::Bottom(made))
-            }
-            Children::Inner(branches) => {
-                let made = self.branches_exchanged(node, branches.as_slice(), gap, rows, out)?;
-                Ok(Children::Inner(made))
-            }
+        let _right = self.allocator();
+        let touched = self.touched(node, first, second, gap)?;
+        let branches = self.branches_exchanged(node, touched.branches.as_slice(), gap, rows, out)?;
+        Ok(Touched {
+            front: touched.front,
+            behind: touched.behind,
+            branches,
+        })
+    }
+
+    /// The children of a root, with what stands in a gap exchanged. An inner root may have none left.
+    pub(crate) fn root_exchanged(
+        &mut self,
+        root: Node,
+        gap: &Gap,
+        rows: &[Row<P::Leaf>],
+        out: &mut List<Row<P::Leaf>>,
+    ) -> Result<Children<P::Leaf>, Memory>
+        requires below { root.0 < length self.old }
+        requires up_to { IsUpTo gap.now.from gap.now.to }
+        requires right { IsRightRows P.widths (exchanged gap.now (map (plain_row P.plain) rows.now) (rows_of self.old root.0)) }
+        ensures grows { Grows self.old self.new }
+        ensures rows { IfOk result (λ made. MayHaveChildren P.widths self.new (height_of P.widths self.old root.0) (exchanged gap.now (map (plain_row P.plain) rows.now) (rows_of self.old root.0)) (shape P.plain made)) }
+        ensures out { OnOk result (map (plain_row P.plain) out.new.items ≡ map (plain_row P.plain) out.old.items ++ taken_out gap.now.from gap.now.to (rows_of self.old root.0)) }
+    {
+        let alloc = self.allocator();
+        if self.is_bottom(root) {
+            let made = rows_exchanged::<P>(alloc, self.rows_under(root), gap, rows, out)?;
+            return Ok(Children::Bottom(made));
         }
+        let zero = Tumbler::zero(alloc);
+        let touched = self.node_exchanged(root, &zero, &zero, gap, rows, out)?;
+        let made = self.around(root, &zero, &zero, &touched)?;
+        Ok(Children::Inner(made))
     }
 }

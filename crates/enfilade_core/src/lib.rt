@@ -2,7 +2,9 @@
 #![tactic(auto)]
 
 mod arena;
+mod around;
 mod beside;
+mod bottom;
 mod edits;
 mod exchange;
 mod found;

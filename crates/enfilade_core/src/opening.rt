@@ -1,14 +1,13 @@
-//! The children of a node, moved to where they stand from a base.
+//! Rows and branches, moved to where they stand from a base.
 ghost use Rattle.std.specs.Prelude.{◌≡◌, map, All, IfOk};
 ghost use Rattle.tumbler.specs.Places.{IsTumbler, sum, Fits};
 ghost use Rattle.enfilade_core.specs.Rows.{moved};
 ghost use Rattle.enfilade_core.specs.Axes.{IsRightRow};
-ghost use Rattle.enfilade_core.specs.Plain.{shape, plain_row};
-ghost use Rattle.enfilade_core.specs.Exchange.{IsRightAt, branch_at, IsOpened};
+ghost use Rattle.enfilade_core.specs.Plain.{plain_row};
+ghost use Rattle.enfilade_core.specs.Exchange.{branch_at};
 
-use crate::arena::Arena;
 use crate::plane::Plane;
-use crate::tree::{Branch, Children, Node, Row};
+use crate::tree::{Branch, Row};
 use std::alloc::Global;
 use tumbler::{List, Memory, Tumbler};
 
@@ -46,7 +45,7 @@ pub(crate) fn branch_moved(branch: &Branch, first: &Tumbler, second: &Tumbler) -
 }
 
 /// Rows, moved on both axes.
-fn rows_moved<P: Plane>(
+pub(crate) fn rows_moved<P: Plane>(
     alloc: Global,
     rows: &[Row<P::Leaf>],
     first: &Tumbler,
@@ -64,7 +63,7 @@ fn rows_moved<P: Plane>(
 }
 
 /// Branches, moved on both axes.
-fn branches_moved(
+pub(crate) fn branches_moved(
     alloc: Global,
     branches: &[Branch],
     first: &Tumbler,
@@ -80,33 +79,4 @@ fn branches_moved(
         made.push_reserved(branch_moved(branch, first, second));
     }
     Ok(made)
-}
-
-impl<P: Plane> Arena<P> {
-    /// The children of a node, seen from a base.
-    pub(crate) fn opened(
-        &self,
-        node: Node,
-        first: &Tumbler,
-        second: &Tumbler,
-    ) -> Result<Children<P::Leaf>, Memory>
-        requires { IsRightAt P.widths self.now node.0 first.now second.now }
-        ensures { IfOk result (λ made. IsOpened P.widths self.now node.0 first.now second.now (shape P.plain made)) }
-    {
-        match self.node(node) {
-            Children::Bottom(rows) => {
-                let rows = rows_moved::<P>(self.allocator(), rows.as_slice(), first, second)?;
-                Ok(Children::Bottom(rows))
-            }
-            Children::Inner(branches) => {
-                let branches = branches_moved(
-                    self.allocator(),
-                    branches.as_slice(),
-                    first,
-                    second,
-                )?;
-                Ok(Children::Inner(branches))
-            }
-        }
-    }
 }

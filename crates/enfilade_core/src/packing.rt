@@ -75,7 +75,7 @@ fn second_least(branches: &[Branch]) -> Tumbler
 }
 
 /// A row, as it is seen from an origin.
-fn row_back<P: Plane>(
+pub(crate) fn row_back<P: Plane>(
     alloc: Global,
     row: &Row<P::Leaf>,
     first: &Tumbler,
@@ -93,7 +93,7 @@ fn row_back<P: Plane>(
 }
 
 /// A branch, as it is seen from an origin.
-fn branch_back(branch: &Branch, first: &Tumbler, second: &Tumbler) -> Branch
+pub(crate) fn branch_back(branch: &Branch, first: &Tumbler, second: &Tumbler) -> Branch
     requires first_up_to { IsUpTo first.now branch.now.first }
     requires second_up_to { IsUpTo second.now branch.now.second }
     ensures { result ≡ branch_back first.now second.now branch.now }
@@ -147,7 +147,7 @@ fn branches_back(
 
 impl<P: Plane> Arena<P> {
     /// A new node with these children, and the branch to it where its origin stands at these places.
-    fn placed(
+    pub(crate) fn placed(
         &mut self,
         children: Children<P::Leaf>,
         first: Tumbler,
@@ -169,7 +169,7 @@ impl<P: Plane> Arena<P> {
     }
 
     /// A new bottom node, which begins just before its least place on each axis.
-    fn rows_packed(&mut self, rows: &[Row<P::Leaf>]) -> Result<Branch, Memory>
+    pub(crate) fn rows_packed(&mut self, rows: &[Row<P::Leaf>]) -> Result<Branch, Memory>
         requires right { IsRightRows P.widths (map (plain_row P.plain) rows.now) }
         requires some { rows.now ≢ [] }
         ensures grows { Grows self.old self.new }
@@ -182,7 +182,7 @@ impl<P: Plane> Arena<P> {
     }
 
     /// A new inner node, which begins where the least of its children's origins is on each axis.
-    fn branches_packed(&mut self, branches: &[Branch]) -> Result<Branch, Memory>
+    pub(crate) fn branches_packed(&mut self, branches: &[Branch]) -> Result<Branch, Memory>
         requires right { IsRight P.widths self.old (Branches branches.now) }
         requires filled { rows_in (rows_table self.old) (Branches branches.now) ≢ [] }
         ensures grows { Grows self.old self.new }

@@ -27,7 +27,7 @@ fn ends(place: &Tumbler, width: &Tumbler) -> bool
 }
 
 /// Whether two places are the same.
-fn is_same(a: &Tumbler, b: &Tumbler) -> bool
+pub(crate) fn is_same(a: &Tumbler, b: &Tumbler) -> bool
     ensures { IsTrue result ↔ (a.now ≡ b.now) }
 {
     a == b

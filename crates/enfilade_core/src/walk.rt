@@ -13,7 +13,7 @@ use std::alloc::Global;
 use tumbler::{List, Memory, Tumbler};
 
 /// Rows, moved on both axes, go behind others.
-fn append_moved<P: Plane>(
+pub(crate) fn append_moved<P: Plane>(
     alloc: Global,
     rows: &[Row<P::Leaf>],
     first: &Tumbler,

@@ -1,15 +1,18 @@
-use Rattle.std.proofs.Common.{◌≡◌, ◌<◌, ◌++◌, ◌∙◌, List, map, OnOk, arith, ap, sym, subst}
-use Rattle.enfilade_core.specs.Rows.{Rows, Branches, branch_rows, rows_table}
+use Rattle.std.proofs.Common.{◌≡◌, ◌<◌, ◌++◌, ◌∙◌, List, map, IfOk, OnOk, arith, ap, sym, subst}
+use Rattle.std.proofs.lemmas.Result.{IfOk-weaker}
+use Rattle.enfilade_core.specs.Rows.{Shape, Branches, branch_rows, rows_table, node_at}
+use Rattle.enfilade_core.specs.Touched.{branches_under, branches_at, with_middle, MayBePacked}
 use Rattle.enfilade_core.specs.Axes.{IsRightRows}
 use Rattle.enfilade_core.specs.Summary.{height_of}
-use Rattle.enfilade_core.specs.Plain.{shape, plain_row}
+use Rattle.enfilade_core.specs.Plain.{plain_row}
 use Rattle.enfilade_core.specs.Edits.{taken_out}
 use Rattle.enfilade_core.specs.Exchange.{exchanged, MayHaveRows, IsWhole}
 use Rattle.enfilade_core.proofs.OpenedAt.{at-of_part}
 use Rattle.enfilade_core.proofs.GoneThrough.{item-right}
-use Rattle.enfilade_core.proofs.ExchangeGrown.{grows-same, grows-more}
+use Rattle.enfilade_core.proofs.ExchangeGrown.{grows-same, grows-more, part-grown}
 use Rattle.enfilade_core.proofs.ExchangeBranches.{RestAt, rest-start, rest-part, rest-right, rest-more, rest-all, BranchesAt, chosen-part, chosen-right, chosen-rest, branches-made, branches-taken}
-use Rattle.enfilade_core.proofs.ExchangeNodes.{mapped-none, none-left, some-left, packed-has, bottom-exchanged, inner-exchanged, opened-bottom, opened-inner, taken-opened, right-opened}
+use Rattle.enfilade_core.proofs.ExchangeNodes.{mapped-none}
+use Rattle.enfilade_core.proofs.ExchangeMiddle.{node-ready, node-rows, node-taken, may-packed}
 use Rattle.enfilade_core.proofs.arena.Arena.+exchanging.Goals as goal
 
 pub branch_exchanged-parts_exchanged-requires : goal.branch_exchanged-parts_exchanged-requires
@@ -72,50 +75,6 @@ pub branch_exchanged-returns-in-Parts-clause-out : goal.branch_exchanged-returns
 branch_exchanged-returns-in-Parts-clause-out g t c =
     subst (λ (r : List _). OnOk c.parts_exchanged-in-Parts.result ((map (plain_row g.P.Plane.plain) c.parts_exchanged-in-Parts.new.out.items) ≡ r ++ taken_out c.args.gap.now.from c.args.gap.now.to (branch_rows (rows_table c.args.self.now) c.args.branch.now))) (subst (IsWhole g.P.Plane.widths c.args.self.now c.args.branch.now c.args.gap.now (map (plain_row g.P.Plane.plain) c.args.out.now.items) (map (plain_row g.P.Plane.plain) c.whole_exchanged.new.out.items)) c.in-Parts.is c.in_ok-whole.ensures) c.parts_exchanged-in-Parts.ensures.out
 
-pub parts_exchanged-node_exchanged-requires : goal.parts_exchanged-node_exchanged-requires
-parts_exchanged-node_exchanged-requires g t c κs within =
-    (omega (arith, c.decreases), (within.0, (within.1, (c.requires.up_to, (at-of_part g.P.Plane.widths c.args.self.now c.args.branch.now c.requires.part, c.requires.right)))))
-
-pub parts_exchanged-returns-in_err-children-clause-grows : goal.parts_exchanged-returns-in_err-children-clause-grows
-parts_exchanged-returns-in_err-children-clause-grows g t c =
-    c.node_exchanged.ensures.grows
-
-pub parts_exchanged-returns-then-is_empty-clause-grows : goal.parts_exchanged-returns-then-is_empty-clause-grows
-parts_exchanged-returns-then-is_empty-clause-grows g t c =
-    c.node_exchanged.ensures.grows
-
-pub parts_exchanged-returns-then-is_empty-clause-rows : goal.parts_exchanged-returns-then-is_empty-clause-rows
-parts_exchanged-returns-then-is_empty-clause-rows g t c =
-    none-left g.P.Plane.plain g.P.Plane.widths c.node_exchanged.new.self (height_of g.P.Plane.widths c.args.self.now c.args.branch.now.node.0) (exchanged c.args.gap.now (map (plain_row g.P.Plane.plain) c.args.rows.now) (branch_rows (rows_table c.args.self.now) c.args.branch.now)) c.in_ok-children.children c.is_empty.result c.in_ok-children.ensures.rows c.is_empty.ensures c.if-is_empty.true
-
-pub parts_exchanged-returns-then-is_empty-clause-out : goal.parts_exchanged-returns-then-is_empty-clause-out
-parts_exchanged-returns-then-is_empty-clause-out g t c =
-    c.in_ok-children.ensures.out
-
-pub parts_exchanged-packed-requires-clause-right : goal.parts_exchanged-packed-requires-clause-right
-parts_exchanged-packed-requires-clause-right g t c =
-    (some-left g.P.Plane.plain g.P.Plane.widths c.node_exchanged.new.self (height_of g.P.Plane.widths c.args.self.now c.args.branch.now.node.0) (exchanged c.args.gap.now (map (plain_row g.P.Plane.plain) c.args.rows.now) (branch_rows (rows_table c.args.self.now) c.args.branch.now)) c.in_ok-children.children c.is_empty.result c.in_ok-children.ensures.rows c.is_empty.ensures c.if-is_empty.false).has.right
-
-pub parts_exchanged-packed-requires-clause-filled : goal.parts_exchanged-packed-requires-clause-filled
-parts_exchanged-packed-requires-clause-filled g t c =
-    (some-left g.P.Plane.plain g.P.Plane.widths c.node_exchanged.new.self (height_of g.P.Plane.widths c.args.self.now c.args.branch.now.node.0) (exchanged c.args.gap.now (map (plain_row g.P.Plane.plain) c.args.rows.now) (branch_rows (rows_table c.args.self.now) c.args.branch.now)) c.in_ok-children.children c.is_empty.result c.in_ok-children.ensures.rows c.is_empty.ensures c.if-is_empty.false).filled
-
-pub parts_exchanged-returns-in_err-branch-clause-grows : goal.parts_exchanged-returns-in_err-branch-clause-grows
-parts_exchanged-returns-in_err-branch-clause-grows g t c =
-    grows-more c.args.self.now c.node_exchanged.new.self c.packed.new.self c.node_exchanged.ensures.grows c.packed.ensures.grows
-
-pub parts_exchanged-returns-clause-grows : goal.parts_exchanged-returns-clause-grows
-parts_exchanged-returns-clause-grows g t c =
-    grows-more c.args.self.now c.node_exchanged.new.self c.packed.new.self c.node_exchanged.ensures.grows c.packed.ensures.grows
-
-pub parts_exchanged-returns-clause-rows : goal.parts_exchanged-returns-clause-rows
-parts_exchanged-returns-clause-rows g t c =
-    packed-has g.P.Plane.widths c.node_exchanged.new.self c.packed.new.self (height_of g.P.Plane.widths c.args.self.now c.args.branch.now.node.0) (exchanged c.args.gap.now (map (plain_row g.P.Plane.plain) c.args.rows.now) (branch_rows (rows_table c.args.self.now) c.args.branch.now)) (shape g.P.Plane.plain c.in_ok-children.children) c.in_ok-branch.branch (some-left g.P.Plane.plain g.P.Plane.widths c.node_exchanged.new.self (height_of g.P.Plane.widths c.args.self.now c.args.branch.now.node.0) (exchanged c.args.gap.now (map (plain_row g.P.Plane.plain) c.args.rows.now) (branch_rows (rows_table c.args.self.now) c.args.branch.now)) c.in_ok-children.children c.is_empty.result c.in_ok-children.ensures.rows c.is_empty.ensures c.if-is_empty.false).has c.in_ok-branch.ensures.packed
-
-pub parts_exchanged-returns-clause-out : goal.parts_exchanged-returns-clause-out
-parts_exchanged-returns-clause-out g t c =
-    c.in_ok-children.ensures.out
-
 pub branches_exchanged-split_at-requires : goal.branches_exchanged-split_at-requires
 branches_exchanged-split_at-requires g t c =
     omega (arith, c.chosen-at.ensures.there)
@@ -174,63 +133,6 @@ branches_exchanged-returns-clause-out g t c =
     branches-taken g.P.Plane.widths c.args.gap.now (map (plain_row g.P.Plane.plain) c.args.rows.now) c.args.self.now c.branch_exchanged.new.self c.args.branches.now c.chosen-at.result c.index-branches-at.result c.split_at-2.result.1.now (map (plain_row g.P.Plane.plain) c.args.out.now.items) (map (plain_row g.P.Plane.plain) c.branch_exchanged.new.out.items) (map (plain_row g.P.Plane.plain) c.rest_exchanged.new.out.items)
     record { up_to = c.requires.up_to; node = c.requires.node; right = c.requires.right; chosen = c.chosen-at.ensures; is = c.index-branches-at.is } c.branch_exchanged.ensures.grows c.split_at-2.ensures.back c.in_ok-branch.ensures.out c.in_ok-rest_exchanged.ensures.out
 
-pub node_exchanged-opened-requires : goal.node_exchanged-opened-requires
-node_exchanged-opened-requires g t c =
-    c.requires.at
-
-pub node_exchanged-returns-in_err-children-clause-grows : goal.node_exchanged-returns-in_err-children-clause-grows
-node_exchanged-returns-in_err-children-clause-grows g t c =
-    grows-same c.args.self.now
-
-pub node_exchanged-rows_exchanged-requires-clause-up_to : goal.node_exchanged-rows_exchanged-requires-clause-up_to
-node_exchanged-rows_exchanged-requires-clause-up_to g t c =
-    c.requires.up_to
-
-pub node_exchanged-rows_exchanged-requires-clause-old_right : goal.node_exchanged-rows_exchanged-requires-clause-old_right
-node_exchanged-rows_exchanged-requires-clause-old_right g t c =
-    let opened = (opened-bottom g.P.Plane.plain g.P.Plane.widths c.args.self.now c.args.node.0 c.args.first.now c.args.second.now c.in_ok-children.children c.in-Bottom.old c.as_slice.result.now c.in_ok-children.ensures c.in-Bottom.is c.as_slice.ensures) in record { each = opened.right.rows; ordered = opened.right.ordered }
-
-pub node_exchanged-rows_exchanged-requires-clause-right : goal.node_exchanged-rows_exchanged-requires-clause-right
-node_exchanged-rows_exchanged-requires-clause-right g t c =
-    (right-opened g.P.Plane.widths c.args.self.now c.args.node.0 c.args.first.now c.args.second.now (Rows (map (plain_row g.P.Plane.plain) c.as_slice.result.now)) c.args.gap.now (map (plain_row g.P.Plane.plain) c.args.rows.now) (opened-bottom g.P.Plane.plain g.P.Plane.widths c.args.self.now c.args.node.0 c.args.first.now c.args.second.now c.in_ok-children.children c.in-Bottom.old c.as_slice.result.now c.in_ok-children.ensures c.in-Bottom.is c.as_slice.ensures) c.requires.right).each
-
-pub node_exchanged-returns-in_err-made-in-Bottom-clause-grows : goal.node_exchanged-returns-in_err-made-in-Bottom-clause-grows
-node_exchanged-returns-in_err-made-in-Bottom-clause-grows g t c =
-    grows-same c.args.self.now
-
-pub node_exchanged-branches_exchanged-requires : goal.node_exchanged-branches_exchanged-requires
-node_exchanged-branches_exchanged-requires g t c κs within =
-    let opened = (opened-inner g.P.Plane.plain g.P.Plane.widths c.args.self.now c.args.node.0 c.args.first.now c.args.second.now c.in_ok-children.children c.in-Inner.branches c.as_slice-in-Inner.result.now c.in_ok-children.ensures c.in-Inner.is c.as_slice-in-Inner.ensures) in
-    (omega (arith, c.decreases), (within.0, (within.1, (c.requires.up_to, (opened.named, (opened.right, right-opened g.P.Plane.widths c.args.self.now c.args.node.0 c.args.first.now c.args.second.now (Branches c.as_slice-in-Inner.result.now) c.args.gap.now (map (plain_row g.P.Plane.plain) c.args.rows.now) opened c.requires.right))))))
-
-pub node_exchanged-returns-in_err-made-in-Inner-clause-grows : goal.node_exchanged-returns-in_err-made-in-Inner-clause-grows
-node_exchanged-returns-in_err-made-in-Inner-clause-grows g t c =
-    c.branches_exchanged.ensures.grows
-
-pub node_exchanged-returns-in_ok-made-in-Bottom-clause-grows : goal.node_exchanged-returns-in_ok-made-in-Bottom-clause-grows
-node_exchanged-returns-in_ok-made-in-Bottom-clause-grows g t c =
-    grows-same c.args.self.now
-
-pub node_exchanged-returns-in_ok-made-in-Bottom-clause-rows : goal.node_exchanged-returns-in_ok-made-in-Bottom-clause-rows
-node_exchanged-returns-in_ok-made-in-Bottom-clause-rows g t c =
-    bottom-exchanged g.P.Plane.widths c.args.self.now c.args.node.0 c.args.first.now c.args.second.now c.args.gap.now (map (plain_row g.P.Plane.plain) c.args.rows.now) (map (plain_row g.P.Plane.plain) c.as_slice.result.now) (map (plain_row g.P.Plane.plain) c.in_ok-made-in-Bottom.made.items) (opened-bottom g.P.Plane.plain g.P.Plane.widths c.args.self.now c.args.node.0 c.args.first.now c.args.second.now c.in_ok-children.children c.in-Bottom.old c.as_slice.result.now c.in_ok-children.ensures c.in-Bottom.is c.as_slice.ensures) c.requires.right c.in_ok-made-in-Bottom.ensures.rows
-
-pub node_exchanged-returns-in_ok-made-in-Bottom-clause-out : goal.node_exchanged-returns-in_ok-made-in-Bottom-clause-out
-node_exchanged-returns-in_ok-made-in-Bottom-clause-out g t c =
-    taken-opened g.P.Plane.widths c.args.self.now c.args.node.0 c.args.first.now c.args.second.now (Rows (map (plain_row g.P.Plane.plain) c.as_slice.result.now)) c.args.gap.now (map (plain_row g.P.Plane.plain) c.args.out.now.items) (map (plain_row g.P.Plane.plain) c.rows_exchanged.new.out.items) (opened-bottom g.P.Plane.plain g.P.Plane.widths c.args.self.now c.args.node.0 c.args.first.now c.args.second.now c.in_ok-children.children c.in-Bottom.old c.as_slice.result.now c.in_ok-children.ensures c.in-Bottom.is c.as_slice.ensures) c.in_ok-made-in-Bottom.ensures.out
-
-pub node_exchanged-returns-in_ok-made-in-Inner-clause-grows : goal.node_exchanged-returns-in_ok-made-in-Inner-clause-grows
-node_exchanged-returns-in_ok-made-in-Inner-clause-grows g t c =
-    c.branches_exchanged.ensures.grows
-
-pub node_exchanged-returns-in_ok-made-in-Inner-clause-rows : goal.node_exchanged-returns-in_ok-made-in-Inner-clause-rows
-node_exchanged-returns-in_ok-made-in-Inner-clause-rows g t c =
-    inner-exchanged g.P.Plane.widths c.args.self.now c.branches_exchanged.new.self c.args.node.0 c.args.first.now c.args.second.now c.args.gap.now (map (plain_row g.P.Plane.plain) c.args.rows.now) c.as_slice-in-Inner.result.now c.in_ok-made-in-Inner.made.items (opened-inner g.P.Plane.plain g.P.Plane.widths c.args.self.now c.args.node.0 c.args.first.now c.args.second.now c.in_ok-children.children c.in-Inner.branches c.as_slice-in-Inner.result.now c.in_ok-children.ensures c.in-Inner.is c.as_slice-in-Inner.ensures) c.requires.right c.in_ok-made-in-Inner.ensures.rows
-
-pub node_exchanged-returns-in_ok-made-in-Inner-clause-out : goal.node_exchanged-returns-in_ok-made-in-Inner-clause-out
-node_exchanged-returns-in_ok-made-in-Inner-clause-out g t c =
-    taken-opened g.P.Plane.widths c.args.self.now c.args.node.0 c.args.first.now c.args.second.now (Branches c.as_slice-in-Inner.result.now) c.args.gap.now (map (plain_row g.P.Plane.plain) c.args.out.now.items) (map (plain_row g.P.Plane.plain) c.branches_exchanged.new.out.items) (opened-inner g.P.Plane.plain g.P.Plane.widths c.args.self.now c.args.node.0 c.args.first.now c.args.second.now c.in_ok-children.children c.in-Inner.branches c.as_slice-in-Inner.result.now c.in_ok-children.ensures c.in-Inner.is c.as_slice-in-Inner.ensures) c.in_ok-made-in-Inner.ensures.out
-
 pub rest_exchanged-loop-branch-init : goal.rest_exchanged-loop-branch-init
 rest_exchanged-loop-branch-init g t c =
     rest-start g.P.Plane.widths c.args.gap.now c.args.self.now c.args.branches.now c.args.made.now.items (map (plain_row g.P.Plane.plain) c.args.out.now.items)
@@ -265,3 +167,58 @@ rest_exchanged-returns-clause-rows g t c =
 pub rest_exchanged-returns-clause-out : goal.rest_exchanged-returns-clause-out
 rest_exchanged-returns-clause-out g t c =
     (rest-all g.P.Plane.widths c.args.gap.now c.args.self.now c.loop-branch.self c.args.branches.now c.loop-branch.branch-index c.args.made.now.items c.loop-branch.made.items (map (plain_row g.P.Plane.plain) c.args.out.now.items) (map (plain_row g.P.Plane.plain) c.loop-branch.out.items) c.loop-branch-test.false c.loop-branch.invariant).1
+
+pub parts_exchanged-node_exchanged-requires : goal.parts_exchanged-node_exchanged-requires
+parts_exchanged-node_exchanged-requires g t c κs within =
+    (omega (arith, c.decreases), (within.0, (within.1, (c.requires.up_to, (at-of_part g.P.Plane.widths c.args.self.now c.args.branch.now c.requires.part, (c.is_bottom.ensures.inner c.if-is_bottom.false, c.requires.right))))))
+
+pub node_exchanged-branches_exchanged-requires : goal.node_exchanged-branches_exchanged-requires
+node_exchanged-branches_exchanged-requires g t c κs within =
+    let ready = node-ready g.P.Plane.widths c.args.self.now c.args.gap.now (map (plain_row g.P.Plane.plain) c.args.rows.now) c.args.node.0 c.args.first.now c.args.second.now c.in_ok-touched.touched c.as_slice.result.now record {
+      nodes_right = c.allocator-right.ensures.right;
+      up_to = c.requires.up_to;
+      at = c.requires.at;
+      inner = c.requires.inner;
+      right = c.requires.right;
+      is = c.in_ok-touched.ensures;
+      middle_is = c.as_slice.ensures;
+    } in
+    (omega (arith, c.decreases), (within.0, (within.1, (c.requires.up_to, (ready.named, (ready.node, ready.right))))))
+
+pub node_exchanged-returns-clause-rows : goal.node_exchanged-returns-clause-rows
+node_exchanged-returns-clause-rows g t c =
+    node-rows g.P.Plane.widths c.args.self.now c.branches_exchanged.new.self c.args.gap.now (map (plain_row g.P.Plane.plain) c.args.rows.now) c.args.node.0 c.args.first.now c.args.second.now c.in_ok-touched.touched c.as_slice.result.now c.in_ok-branches.branches record {
+      nodes_right = c.allocator-right.ensures.right;
+      up_to = c.requires.up_to;
+      at = c.requires.at;
+      inner = c.requires.inner;
+      right = c.requires.right;
+      is = c.in_ok-touched.ensures;
+      middle_is = c.as_slice.ensures;
+    } c.in_ok-branches.ensures.grows c.in_ok-branches.ensures.rows
+
+pub node_exchanged-returns-clause-out : goal.node_exchanged-returns-clause-out
+node_exchanged-returns-clause-out g t c =
+    node-taken g.P.Plane.widths c.args.self.now c.args.gap.now (map (plain_row g.P.Plane.plain) c.args.rows.now) c.args.node.0 c.args.first.now c.args.second.now c.in_ok-touched.touched c.as_slice.result.now (map (plain_row g.P.Plane.plain) c.args.out.now.items) (map (plain_row g.P.Plane.plain) c.branches_exchanged.new.out.items) record {
+      nodes_right = c.allocator-right.ensures.right;
+      up_to = c.requires.up_to;
+      at = c.requires.at;
+      inner = c.requires.inner;
+      right = c.requires.right;
+      is = c.in_ok-touched.ensures;
+      middle_is = c.as_slice.ensures;
+    } c.in_ok-branches.ensures.out
+
+pub parts_exchanged-repacked-requires-clause-part : goal.parts_exchanged-repacked-requires-clause-part
+parts_exchanged-repacked-requires-clause-part g t c = part-grown g.P.Plane.widths c.args.self.now c.node_exchanged.new.self c.args.branch.now c.node_exchanged.ensures.grows c.requires.part
+
+pub parts_exchanged-returns-clause-rows : goal.parts_exchanged-returns-clause-rows
+parts_exchanged-returns-clause-rows g t c =
+    let w = g.P.Plane.widths in
+    let mid = c.node_exchanged.new.self in
+    let new = c.repacked.new.self in
+    let rows = exchanged c.args.gap.now (map (plain_row g.P.Plane.plain) c.args.rows.now) (branch_rows (rows_table c.args.self.now) c.args.branch.now) in
+    let height = height_of w c.args.self.now c.args.branch.now.node.0 in
+    let all = with_middle (branches_at c.args.branch.now.first c.args.branch.now.second (branches_under (node_at c.args.self.now c.args.branch.now.node.0))) c.in_ok-touched.touched in
+    IfOk-weaker c.repacked.result (MayBePacked w mid new (Branches all)) (MayHaveRows w new height rows) (λ made packed. may-packed w mid new height rows all made c.in_ok-touched.ensures.rows packed)
+    (subst (λ (node : Shape _). IfOk c.repacked.result (MayBePacked w mid new (Branches (with_middle (branches_at c.args.branch.now.first c.args.branch.now.second (branches_under node)) c.in_ok-touched.touched)))) c.node_exchanged.ensures.same c.repacked.ensures.packed)

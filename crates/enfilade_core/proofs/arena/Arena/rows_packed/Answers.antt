@@ -4,20 +4,28 @@ use Rattle.enfilade_core.specs.Rows.{Rows}
 use Rattle.enfilade_core.specs.Plain.{plain_row}
 use Rattle.enfilade_core.specs.Exchange.{IsPacked}
 use Rattle.enfilade_core.specs.Packing.{IsPlaced}
-use Rattle.enfilade_core.proofs.PackedRows.{rows-may_stand, rows-packed, map_some}
+use Rattle.enfilade_core.proofs.PackedRows.{seen-if_all_before, tumbler-before, rows-may_stand, rows-packed, map_some}
 use Rattle.enfilade_core.proofs.arena.Arena.rows_packed.Goals as goal
 
 pub placed-requires : goal.placed-requires
 placed-requires g c =
     let plain = plain_row g.P.Plane.plain in
-    rows-may_stand g.P.Plane.widths g.met.P.Plane.widths_stay c.args.self.now c.first_before-first.result c.second_before-second.result (map plain c.args.rows.now) (map plain c.in_ok-made.made.items)
-    (map_some plain c.args.rows.now c.requires.some) c.requires.right c.first_before-first.ensures c.second_before-second.ensures c.in_ok-made.ensures
+    let rows = map plain c.args.rows.now in
+    let first = c.first_before-first in
+    let second = c.second_before-second in
+    let some = map_some plain c.args.rows.now c.requires.some in
+    rows-may_stand g.P.Plane.widths g.met.P.Plane.widths_stay c.args.self.now first.result second.result rows (map plain c.in_ok-made.made.items)
+    (tumbler-before (λ row. row.first) first.result rows some first.ensures) (tumbler-before (λ row. row.second) second.result rows some second.ensures)
+    some c.requires.right (seen-if_all_before g.P.Plane.widths first.result second.result rows first.ensures second.ensures c.requires.right.each) c.in_ok-made.ensures
 
 pub returns-clause-packed : goal.returns-clause-packed
 returns-clause-packed g c =
     let plain = plain_row g.P.Plane.plain in
     let old = c.args.self.now in
     let new = c.placed.new.self in
-    IfOk-weaker c.placed.result (IsPlaced g.P.Plane.widths old new (Rows (map plain c.in_ok-made.made.items)) c.first_before-first.result c.second_before-second.result) (IsPacked g.P.Plane.widths old new (Rows (map plain c.args.rows.now))) (λ branch placed.
-    rows-packed g.P.Plane.widths old new c.first_before-first.result c.second_before-second.result (map plain c.args.rows.now) (map plain c.in_ok-made.made.items) branch
-    c.first_before-first.ensures c.second_before-second.ensures c.in_ok-made.ensures placed) c.placed.ensures.placed
+    let rows = map plain c.args.rows.now in
+    let first = c.first_before-first in
+    let second = c.second_before-second in
+    IfOk-weaker c.placed.result (IsPlaced g.P.Plane.widths old new (Rows (map plain c.in_ok-made.made.items)) first.result second.result) (IsPacked g.P.Plane.widths old new (Rows rows)) (λ branch placed.
+    rows-packed g.P.Plane.widths old new first.result second.result rows (map plain c.in_ok-made.made.items) branch
+    (seen-if_all_before g.P.Plane.widths first.result second.result rows first.ensures second.ensures c.requires.right.each) c.in_ok-made.ensures placed) c.placed.ensures.placed
