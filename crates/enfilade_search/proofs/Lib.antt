@@ -4,3 +4,4 @@ pub mod Placing
 pub mod Children
 pub mod Gathering
 pub mod Stopping
+pub mod UpToLimit

@@ -1,3 +1,4 @@
 pub mod Meeting
 pub mod Sought
 pub mod Laws
+pub mod Limits

@@ -14,7 +14,7 @@ use std::alloc::Global;
 use tumbler::{List, Memory, Tumbler};
 
 /// The row from a base, if it is sought, behind `out`. The answer is whether rows behind it can be sought too.
-fn take_row<P: Plane>(
+pub(crate) fn take_row<P: Plane>(
     alloc: Global,
     row: &Row<P::Leaf>,
     first: &Tumbler,

@@ -1,6 +1,7 @@
 //! The rows of a tree that stand in a range, or that meet a span.
 #![tactic(auto)]
 
+mod bounded;
 mod calls;
 mod gather;
 pub mod laws;
@@ -8,4 +9,5 @@ mod sought;
 #[cfg(test)]
 mod tests;
 
+pub use bounded::overlapping_up_to;
 pub use calls::{in_range, meeting, overlapping};

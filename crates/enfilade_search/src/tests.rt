@@ -2,7 +2,7 @@
 ghost use Rattle.std.specs.Prelude.{◌<◌, length};
 ghost use Rattle.tumbler.specs.Span.{SpanFits};
 
-use crate::{in_range, meeting, overlapping};
+use crate::{in_range, meeting, overlapping, overlapping_up_to};
 use enfilade_core::{Arena, Branch, Children, ContentPlane, KeyPlane, Node, Plane, Row, TextPlane};
 use std::alloc::Global;
 use std::process::Abort;
@@ -207,5 +207,14 @@ fn finds_keys(rt: HostRuntime) -> Result<(), Fail> {
     let found = overlapping(&arena, root, &span(&rt, alloc, &[5, 2], &[0, 1]))?;
     let overlapped = stand_at(&found, &[5, 1], &[5, 2]);
     assert!(rt; overlapped);
+    let place = span(&rt, alloc, &[5, 2], &[0, 1]);
+    let found = overlapping_up_to(&arena, root, &place, 2)?;
+    let overlapped = match &found {
+        Some(rows) => stand_at(rows, &[5, 1], &[5, 2]),
+        None => false,
+    };
+    assert!(rt; overlapped);
+    let found = overlapping_up_to(&arena, root, &place, 1)?;
+    assert!(rt; found.is_none());
     Ok(())
 }
