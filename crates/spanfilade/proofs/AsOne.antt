@@ -102,6 +102,14 @@ touches_one from to next end place (x ∷ width) h k =
     (true_if_before first (later to end) (before_upto first end (later to end) (upto_before first second end back (before_if_true second end p.0)) (second_up_to_later to end)))
     (true_if_before first last (upto_before first second last back (before_if_true second last p.1))))
 
+-- what touches a range finds some place in it
+pub touches-starts : (from to place width : List ℕ) → touches from to place width ≡ true → IsBefore from to
+touches-starts from to place [] h = let p = lies from to place h in upto_before from place to p.0 p.1
+touches-starts from to place (x ∷ width) h =
+    let start = later from place in
+    let p = both (comes_before start to) (comes_before start (sum place (x ∷ width))) h in
+    upto_before from start to (first_up_to_later from place) (before_if_true start to p.0)
+
 -- ---- spans
 
 -- the second span begins in the first or right behind it, and `to` is where the later of them ends
@@ -111,10 +119,8 @@ pub record Touch (first second : Span) (to : List ℕ) : Type 0 where
   pub reaches : to ≡ later (end_of first) (end_of second)
   pub up_to : IsUpTo first.start to
 
-pub touch : (first second : Span) (end other to : List ℕ) (front behind : Bool) → end ≡ end_of first → other ≡ end_of second → to ≡ later end other → front ≡ comes_before second.start first.start → front ≡ false → behind ≡ comes_before end second.start → behind ≡ false
-    → Touch first second to
-touch first second end other to front behind e o t f not_front b not_behind =
-    let start : IsUpTo first.start second.start = up_to_if_false second.start first.start (sym f ∙ not_front) in
+pub touch : (first second : Span) (end other to : List ℕ) (behind : Bool) → end ≡ end_of first → other ≡ end_of second → to ≡ later end other → IsUpTo first.start second.start → behind ≡ comes_before end second.start → behind ≡ false → Touch first second to
+touch first second end other to behind e o t start b not_behind =
     let within : IsUpTo second.start (end_of first) = subst (IsUpTo second.start) e (up_to_if_false end second.start (sym b ∙ not_behind)) in
     let reaches : to ≡ later (end_of first) (end_of second) = t ∙ ap (λ (x : List ℕ). later x other) e ∙ ap (later (end_of first)) o in
     record {
@@ -133,6 +139,9 @@ joined_met first second made to t start width row =
     ap (λ (s : List ℕ). touches s (end_of made) row.first row.leaf) start
     ∙ ap (λ (e : List ℕ). touches first.start e row.first row.leaf) (made_end first second made to t start width ∙ t.reaches)
     ∙ touches_one first.start (end_of first) second.start (end_of second) row.first row.leaf t.start t.within
+
+pub joined_reaches : (first second made : Span) (to : List ℕ) → Touch first second to → made.start ≡ first.start → made.width ≡ difference to first.start → IsUpTo (end_of first) (end_of made)
+joined_reaches first second made to t start width = subst (IsUpTo (end_of first)) (sym (made_end first second made to t start width ∙ t.reaches)) (first_up_to_later (end_of first) (end_of second))
 
 pub joined_fits : (first second made : Span) (to : List ℕ) → Touch first second to → made.start ≡ first.start → made.width ≡ difference to first.start → IsTumbler to → SpanFits made
 joined_fits first second made to t start width is = fits_if_tumbler made.start made.width (subst IsTumbler (sym (made_end first second made to t start width)) is)

@@ -6,3 +6,5 @@ pub mod AsOne
 pub mod OneGap
 pub mod GroupRows
 pub mod Longer
+pub mod ApartSpans
+pub mod RowCounts

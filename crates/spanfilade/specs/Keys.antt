@@ -1,5 +1,5 @@
 -- Which keys are those of spans that meet given ones.
-use Rattle.std.specs.Prelude.{ℕ, Bool, List, [], map, fold}
+use Rattle.std.specs.Prelude.{ℕ, Bool, List, [], length, map, fold, sum_by}
 use Rattle.std.specs.List.{filter, list_any}
 use Rattle.std.specs.Ordering.{nat_cmp}
 use Rattle.std.specs.Cmp.Lexicographic.{slice_cmp}
@@ -28,3 +28,7 @@ keys_of rows = map (λ (row : Row (List ℕ)). row.second) rows
 -- the keys of the rows that meet one of the spans, in ascending order, each once
 abbrev pub keys_met : List Span → List (Row (List ℕ)) → List (List ℕ)
 keys_met spans rows = with_keys [] (keys_of (filter (is_met_by spans) rows))
+
+-- how many rows meet the spans, each counted for each span that it meets
+abbrev pub count_met : List Span → List (Row (List ℕ)) → ℕ
+count_met spans rows = sum_by (λ span. length (filter (is_met span) rows)) spans

@@ -1,9 +1,11 @@
 //! Spans that are joined where they touch, so that many equal ones cost as one.
-ghost use Rattle.std.specs.Prelude.{◌≡◌, ◌||◌, ℕ, List as ListOf, All, IfOk, IfSome, OnOk};
+ghost use Rattle.std.specs.Prelude.{◌≡◌, ◌||◌, ℕ, List as ListOf, All, IfOk, IfSome, IfNone, OnOk};
 ghost use Rattle.std.specs.List.Sorted.{IsPermutation};
-ghost use Rattle.tumbler.specs.Span.{SpanFits};
+ghost use Rattle.tumbler.specs.Places.{IsBefore, IsUpTo, comes_before};
+ghost use Rattle.tumbler.specs.Span.{SpanFits, end_of};
 ghost use Rattle.enfilade_core.specs.declared.tree.Row.{Row};
 ghost use Rattle.enfilade_core.specs.Axes.{later};
+ghost use Rattle.spanfilade.specs.Apart.{AreApart, IsByStart, IsJoined};
 ghost use Rattle.spanfilade.specs.Keys.{is_met, is_met_by};
 
 use std::alloc::Global;
@@ -20,13 +22,14 @@ pub(crate) fn later(a: &Tumbler, b: &Tumbler) -> Tumbler
 fn as_one(first: &Span, second: &Span) -> Option<Span>
     requires first { SpanFits first.now }
     requires second { SpanFits second.now }
+    requires order { IsUpTo first.now.start second.now.start }
     ensures fits { IfSome result SpanFits }
     ensures met { IfSome result (λ made. (row : Row (ListOf ℕ)) → is_met made row ≡ (is_met first.now row || is_met second.now row)) }
+    ensures begins { IfSome result (λ made. made.start ≡ first.now.start) }
+    ensures reaches { IfSome result (λ made. IsUpTo (end_of first.now) (end_of made)) }
+    ensures apart { IfNone result (IsBefore (end_of first.now) second.now.start) }
 {
     let end = first.start.add(&first.width);
-    if second.start.is_before(&first.start) {
-        return None;
-    }
     if end.is_before(&second.start) {
         return None;
     }
@@ -38,13 +41,25 @@ fn as_one(first: &Span, second: &Span) -> Option<Span>
     })
 }
 
-/// Adds a span behind the others, or to the last one where the two can be one.
+/// Whether some place is in the span.
+fn has_places(span: &Span) -> bool
+    requires { SpanFits span.now }
+    ensures { result ≡ comes_before span.now.start (end_of span.now) }
+{
+    span.start.is_before(&span.start.add(&span.width))
+}
+
+/// Adds a span behind the others, or to the last one where the two can be one. It is left out where no place is
+/// in it.
 fn push_joined(made: &mut List<Span>, span: &Span) -> Result<(), Memory>
-    requires made { All SpanFits made.old.items }
+    requires made { IsJoined span.now.start made.old.items }
     requires span { SpanFits span.now }
-    ensures fits { OnOk result (All SpanFits made.new.items) }
+    ensures joined { OnOk result (IsJoined span.now.start made.new.items) }
     ensures met { OnOk result ((row : Row (ListOf ℕ)) → is_met_by made.new.items row ≡ (is_met_by made.old.items row || is_met span.now row)) }
 {
+    if !has_places(span) {
+        return Ok(());
+    }
     let count = made.len();
     if count == 0 {
         return made.push(span.copy());
@@ -58,7 +73,8 @@ fn push_joined(made: &mut List<Span>, span: &Span) -> Result<(), Memory>
 
 /// The spans in the order of their starts.
 pub(crate) fn by_start(alloc: Global, spans: &[Span]) -> Result<Vec<Span>, Memory>
-    ensures { IfOk result (λ made. IsPermutation spans.now made.items) }
+    ensures moved { IfOk result (λ made. IsPermutation spans.now made.items) }
+    ensures sorted { IfOk result (λ made. IsByStart made.items) }
 {
     let mut made = Vec::new(alloc);
     for span in spans {
@@ -68,10 +84,12 @@ pub(crate) fn by_start(alloc: Global, spans: &[Span]) -> Result<Vec<Span>, Memor
     Ok(made)
 }
 
-/// Spans that are met where one of these is: sorted, and joined where they touch.
-pub(crate) fn joined(alloc: Global, spans: &[Span]) -> Result<List<Span>, Memory>
+/// Spans that are met where one of these is, sorted and joined where they touch, so that each ends before the next
+/// one begins.
+pub fn joined(alloc: Global, spans: &[Span]) -> Result<List<Span>, Memory>
     requires { All SpanFits spans.now }
     ensures fits { IfOk result (λ made. All SpanFits made.items) }
+    ensures apart { IfOk result (λ made. AreApart made.items) }
     ensures met { IfOk result (λ made. (row : Row (ListOf ℕ)) → is_met_by made.items row ≡ is_met_by spans.now row) }
 {
     let sorted = by_start(alloc, spans)?;

@@ -9,4 +9,5 @@ mod spanfilade;
 #[cfg(test)]
 mod tests;
 
+pub use joining::joined;
 pub use spanfilade::Spanfilade;

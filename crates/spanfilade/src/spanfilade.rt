@@ -1,5 +1,5 @@
 //! The index.
-ghost use Rattle.std.specs.Prelude.{◌≡◌, ◌<◌, ◌≤◌, [], ◌∷◌, ◌++◌, length, All, IfOk, OnOk, OnErr};
+ghost use Rattle.std.specs.Prelude.{◌≡◌, ◌<◌, ◌≤◌, [], ◌∷◌, ◌++◌, length, All, IfOk, IfSome, IfNone, OnOk, OnErr};
 ghost use Rattle.std.specs.List.Sorted.{IsPermutation};
 ghost use Rattle.tumbler.specs.Span.{SpanFits};
 ghost use Rattle.enfilade_core.specs.Rows.{rows_of};
@@ -7,14 +7,14 @@ ghost use Rattle.enfilade_core.specs.Exchange.{Grows};
 ghost use Rattle.enfilade_core.specs.Axes.{IsRightRow, InOrder};
 ghost use Rattle.enfilade_core.specs.Planes.{key_widths};
 ghost use Rattle.spanfilade.specs.Index.{IndexTree, rows_in_index, row_of, rows_for, with_span, IsCovered, mark_of, at_mark};
-ghost use Rattle.spanfilade.specs.Keys.{keys_met};
+ghost use Rattle.spanfilade.specs.Keys.{keys_met, count_met};
 
 use crate::groups::put_all;
 use crate::joining::{by_start, joined};
 use crate::keys::{listed, take_keys};
 use crate::lengthening::{longer_row, put_longer};
 use enfilade_core::{Arena, KeyPlane, Node, Row, TreeMark};
-use enfilade_search::overlapping;
+use enfilade_search::{overlapping, overlapping_up_to};
 use std::alloc::Global;
 use std::collections::BTreeSet;
 use std::marker::Model;
@@ -22,8 +22,9 @@ use tumbler::{List, Memory, Span, Tumbler};
 
 /// Spans, each with the key that it was added for.
 ///
-/// A tree has a row for each span that was added: the span's start, its width, and the key. The rows are in
-/// the order of their starts. None is taken out, but by going back to a mark.
+/// A tree has a row for each span that was added, or one for several of a key that `cover` took together: where
+/// it starts, its width, and the key. The rows are in the order of their starts. None is taken out, but by going
+/// back to a mark.
 #[derive(Drop)]
 pub struct Spanfilade {
     arena: Arena<KeyPlane>,
@@ -86,8 +87,8 @@ impl Spanfilade {
     /// Adds a span for a key, or makes a row of that key longer in which the span begins or where the row ends.
     ///
     /// It is for text that is typed: each piece goes on where the one before it ended, and one row covers them
-    /// all. What the spans of the key cover is the same as after `add`. A row that shares its start with others
-    /// stays as it is. Where it is refused the spans are as before, though the arena may hold more nodes.
+    /// all. The places that the spans of the key cover are the same as after `add`; a span without any, where a row
+    /// of the key ends, adds nothing. Where it is refused the spans are as before, though the arena may hold more nodes.
     pub fn cover(&mut self, span: &Span, key: &Tumbler) -> Result<(), Memory>
         requires { SpanFits span.now }
         ensures covered { OnOk result (IsCovered span.now key.now (rows_in_index self.old) (rows_in_index self.new)) }
@@ -121,6 +122,35 @@ impl Spanfilade {
             take_keys(rows.as_slice(), &mut keys)?;
         }
         listed(alloc, &keys)
+    }
+
+    /// The same, or nothing where the spans meet more than `limit` rows, of which each counts for each span that it
+    /// meets.
+    ///
+    /// Each span is looked up as it is, so spans are best joined before. It stops as soon as more than `limit` rows
+    /// are found.
+    pub fn keys_meeting_up_to(
+        &self,
+        spans: &List<Span>,
+        limit: usize,
+    ) -> Result<Option<List<Tumbler>>, Memory>
+        requires { All SpanFits spans.now.items }
+        ensures keys { IfOk result (λ found. IfSome found (λ keys. keys.items ≡ keys_met spans.now.items (rows_in_index self.now))) }
+        ensures few { IfOk result (λ found. IfSome found (λ keys. count_met spans.now.items (rows_in_index self.now) ≤ limit)) }
+        ensures more { IfOk result (λ found. IfNone found (limit < count_met spans.now.items (rows_in_index self.now))) }
+    {
+        let alloc = self.arena.allocator();
+        let mut keys = BTreeSet::new(alloc);
+        let mut left = limit;
+        for span in spans.as_slice() {
+            let Some(rows) = overlapping_up_to(&self.arena, self.root, span, left)? else {
+                return Ok(None);
+            };
+            left -= rows.len();
+            take_keys(rows.as_slice(), &mut keys)?;
+        }
+        let keys = listed(alloc, &keys)?;
+        Ok(Some(keys))
     }
 
     /// What `back` goes back to. It takes no memory.

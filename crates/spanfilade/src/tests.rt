@@ -2,7 +2,7 @@
 ghost use Rattle.std.specs.Prelude.{All, IfOk};
 ghost use Rattle.tumbler.specs.Span.{SpanFits};
 
-use crate::Spanfilade;
+use crate::{Spanfilade, joined};
 use std::alloc::Global;
 use std::test::Fail;
 use tumbler::{List, Memory, Span, Tumbler};
@@ -94,5 +94,77 @@ fn goes_back(rt: HostRuntime) -> Result<(), Fail> {
     index.back(&mark);
     let (arena, root) = index.parts();
     assert!(rt; arena.leaves(root) == 0);
+    Ok(())
+}
+
+#[test]
+fn gives_up_past_a_limit(rt: HostRuntime) -> Result<(), Fail> {
+    let alloc = rt.alloc();
+    let index = index(alloc)?;
+    let spans = both(
+        alloc,
+        span(alloc, &[5, 3], &[0, 1])?,
+        span(alloc, &[7], &[1])?,
+    )?;
+    let found = match index.keys_meeting_up_to(&spans, 2)? {
+        Some(keys) => are(&keys, &[&[1, 1], &[1, 2]]),
+        None => false,
+    };
+    assert!(rt; found);
+    let found = index.keys_meeting_up_to(&spans, 1)?;
+    assert!(rt; found.is_none());
+    Ok(())
+}
+
+#[test]
+fn joins_spans(rt: HostRuntime) -> Result<(), Fail> {
+    let alloc = rt.alloc();
+    let spans = both(
+        alloc,
+        span(alloc, &[5, 4], &[0, 1])?,
+        span(alloc, &[5, 1], &[0, 3])?,
+    )?;
+    let joined = joined(alloc, spans.as_slice())?;
+    let whole = match joined.as_slice() {
+        [span] => span.start.places() == [5, 1].as_slice()
+            && span.width.places() == [0, 4].as_slice(),
+        _ => false,
+    };
+    assert!(rt; whole);
+    Ok(())
+}
+
+/// The key 1.1 for 5.2, with the spans 6.1 and 5.1 added at once for the key 1.2.
+#[test]
+fn adds_many_spans_at_once(rt: HostRuntime) -> Result<(), Fail> {
+    let alloc = rt.alloc();
+    let mut index = Spanfilade::new(alloc)?;
+    index.add(&span(alloc, &[5, 2], &[0, 1])?, &at(alloc, &[1, 1])?)?;
+    let spans = both(
+        alloc,
+        span(alloc, &[6, 1], &[0, 1])?,
+        span(alloc, &[5, 1], &[0, 1])?,
+    )?;
+    index.add_all(&spans, &at(alloc, &[1, 2])?)?;
+    let (arena, root) = index.parts();
+    assert!(rt; arena.leaves(root) == 3);
+    let met = are(&index.keys_meeting(&spans)?, &[&[1, 2]]);
+    assert!(rt; met);
+    Ok(())
+}
+
+/// Text is typed at 5.1, and the span goes on with it; another key has a row of its own.
+#[test]
+fn covers_what_is_typed(rt: HostRuntime) -> Result<(), Fail> {
+    let alloc = rt.alloc();
+    let mut index = Spanfilade::new(alloc)?;
+    let key = at(alloc, &[1, 1])?;
+    index.cover(&span(alloc, &[5, 1], &[0, 2])?, &key)?;
+    index.cover(&span(alloc, &[5, 3], &[0, 1])?, &key)?;
+    let (arena, root) = index.parts();
+    assert!(rt; arena.leaves(root) == 1);
+    index.cover(&span(alloc, &[5, 4], &[0, 1])?, &at(alloc, &[1, 2])?)?;
+    let (arena, root) = index.parts();
+    assert!(rt; arena.leaves(root) == 2);
     Ok(())
 }
