@@ -1,13 +1,11 @@
 -- From rows to numbers: what is shared among rows is what their texts share.
-use Rattle.std.proofs.Common.{◌≡◌, ℕ, zero, suc, ◌+◌, ◌-◌, ◌*◌, ◌<◌, ◌≤◌, ◌∙◌, ◌==◌, ◌&&◌, ◌||◌, ◌++◌, ◌∷◌, [], Bool, List, length, take, map, true, false, ap, sym, refl, subst, cond, arith, All, get_or, inl, inr, append_assoc}
-use Rattle.std.specs.Prelude.{Contains, filter, nat_le, nat_lt, ◌⊎◌, if◌then◌else◌}
-use Rattle.std.specs.List.{AllPairs, list_any, flat_map}
+use Rattle.std.proofs.Common.{◌≡◌, ℕ, zero, suc, ◌+◌, ◌-◌, ◌*◌, ◌<◌, ◌≤◌, ◌∙◌, ◌==◌, ◌&&◌, ◌||◌, ◌++◌, ◌∷◌, [], Bool, List, map, true, false, ap, sym, refl, subst, cond, arith, All, get_or, inl, inr}
+use Rattle.std.specs.Prelude.{Contains, filter, nat_le, nat_lt, ◌⊎◌}
+use Rattle.std.specs.List.{AllPairs}
 use Rattle.std.specs.BTreeMap.{BTreeMap}
 use Rattle.std.specs.Cmp.Lexicographic.{bytes_decides}
-use Rattle.std.proofs.lemmas.Bool.{true≢false}
 use Rattle.std.proofs.lemmas.Bool.Decides.{nat_tests}
-use Rattle.std.proofs.lemmas.List.{length-append, take_all}
-use Rattle.std.proofs.lemmas.List.Elements.{All-nil, All-cons, All-head, All-tail, All-append, All-map, All-filter, All-contains, Contains-append_right, Contains-get_or}
+use Rattle.std.proofs.lemmas.List.Elements.{All-nil, All-cons, All-head, All-tail, All-map, All-contains, Contains-append_right, Contains-get_or}
 use Rattle.std.proofs.lemmas.List.Folds.{list_any-append}
 use Rattle.std.proofs.lemmas.List.Kept.{AllPairs-cons, AllPairs-filter}
 use Rattle.poom.specs.declared.piece.Piece.{Piece}
@@ -24,10 +22,9 @@ use Rattle.world_rules.specs.RelationLaws.{IsPairBefore}
 use Rattle.poom_compare.specs.declared.placing.Placed.{Placed}
 use Rattle.poom_compare.specs.declared.stretch.Stretch.{Stretch}
 use Rattle.poom_compare.specs.Shared.{pairs_between}
-use Rattle.poom_compare.specs.Segments.{is_same_byte, is_shared, ArePairsOf}
+use Rattle.poom_compare.specs.Segments.{is_same_byte, ArePairsOf}
 use Rattle.poom_compare.specs.Placed.{IsPlaced, rows_at, rows_laid, number_in, AreNumbers, HasNumber, AreStretchesOf, RowsAscend, stretch_of, text_of, code_of, shown, IsStretch, AreStretches}
-use Rattle.poom_compare.proofs.Lists.{here, there, none_there, first_or_rest, contains_flat, all_flat, after_first, without_first, no_pairs, pairs_append, pairs_map, pairs_flat}
-use Rattle.poom_compare.proofs.Beginnings.{same_yes, same_is}
+use Rattle.poom_compare.proofs.Lists.{here, there, none_there, first_or_rest, contains_flat, all_flat, after_first, without_first, no_pairs, pairs_map, pairs_flat}
 
 abbrev Numbers : Type 0
 Numbers = BTreeMap (List ℕ) ℕ

@@ -1,19 +1,18 @@
 -- Intervals of positions.
-use Rattle.std.proofs.Common.{◌≡◌, ℕ, zero, suc, ◌+◌, ◌-◌, ◌<◌, ◌≤◌, ◌∙◌, ◌&&◌, ◌||◌, ◌++◌, ◌∷◌, [], Bool, List, length, take, map, not, true, false, ap, sym, refl, subst, cond, arith, All, get_or, inl, inr}
-use Rattle.std.specs.Prelude.{Contains, nat_le, nat_lt, ◌⊎◌}
-use Rattle.std.specs.List.{AllPairs, list_any}
+use Rattle.std.proofs.Common.{◌≡◌, ℕ, ◌+◌, ◌<◌, ◌≤◌, ◌∙◌, ◌&&◌, ◌||◌, ◌++◌, ◌∷◌, [], Bool, List, length, take, not, true, false, ap, sym, refl, subst, arith, All, get_or, inl, inr}
+use Rattle.std.specs.Prelude.{nat_le, nat_lt, ◌⊎◌}
+use Rattle.std.specs.List.{list_any}
 use Rattle.std.specs.List.Sorted.{IsPermutation, IsNonDecreasingBy}
 use Rattle.std.specs.declared.cmp.Ordering.{Ordering}
 use Rattle.std.specs.declared.cmp.Ordering.TheVariants.{Less, Equal, Greater}
 use Rattle.std.specs.Ordering.{nat_cmp, is_le, is_lt, ordering_reverse}
 use Rattle.std.specs.Cmp.Lexicographic.{slice_cmp, nat_list_cmp_total}
-use Rattle.std.proofs.lemmas.Bool.{true≢false}
 use Rattle.std.proofs.lemmas.Bool.Decides.{nat_tests}
 use Rattle.std.proofs.lemmas.List.{take_all}
-use Rattle.std.proofs.lemmas.List.Elements.{All-push, All-append, All-nil, All-contains, Contains-get_or}
+use Rattle.std.proofs.lemmas.List.Elements.{All-push, All-nil, Contains-get_or}
 use Rattle.std.proofs.lemmas.List.Folds.{list_any-append, list_any_more}
 use Rattle.std.proofs.lemmas.List.Quantifiers.{all_pairs_push}
-use Rattle.std.proofs.lemmas.List.Sorted.{All-permutation, list_any-IsPermutation}
+use Rattle.std.proofs.lemmas.List.Sorted.{list_any-IsPermutation}
 use Rattle.tumbler.specs.declared.span.Span.{Span}
 use Rattle.tumbler.specs.Span.{end_of}
 use Rattle.tumbler.specs.Places.{comes_before}
@@ -204,9 +203,5 @@ joined_more long sorted k m d now new up joined lt each apart behind same next =
       ∙ ((λ i. joined.same n i || sym (or_none (is_in n (get_or sorted k d))) i) ∙ (sym (list_any_more (is_in n) sorted k d lt) ∙ ap (λ (j : ℕ). is_in_some (take j sorted) n) (sym next))));
 }
 
-pub joined_all : (long : ℕ) (spans : List Span) (intervals sorted : List Interval) (k : ℕ) (now : List Interval) → PicksSame long intervals spans → IsPermutation intervals sorted → length sorted ≤ k → IsJoined long sorted k now → AreIntervalsOf long spans now
-joined_all long spans intervals sorted k now picks moved le joined = record {
-  each = joined.each;
-  apart = joined.apart;
-  same = λ n one small. joined.same n ∙ (ap (λ (l : List Interval). is_in_some l n) (take_all k sorted le) ∙ (sym (list_any-IsPermutation (is_in n) intervals sorted moved) ∙ picks n one small));
-}
+pub joined_same : (long : ℕ) (intervals sorted : List Interval) (k : ℕ) (now : List Interval) → IsPermutation intervals sorted → length sorted ≤ k → IsJoined long sorted k now → (n : ℕ) → is_in_some now n ≡ is_in_some intervals n
+joined_same long intervals sorted k now moved le joined n = joined.same n ∙ (ap (λ (l : List Interval). is_in_some l n) (take_all k sorted le) ∙ sym (list_any-IsPermutation (is_in n) intervals sorted moved))

@@ -1,12 +1,12 @@
 -- Runs, and the rows that they lay out.
-use Rattle.std.proofs.Common.{◌≡◌, ℕ, zero, suc, ◌+◌, ◌-◌, ◌^◌, ◌<◌, ◌≤◌, ◌∙◌, ◌&&◌, ◌||◌, ◌++◌, ◌∷◌, [], Bool, List, length, take, drop, map, true, false, ap, sym, refl, subst, cond, arith, All, get_or, inl, inr, append-nil, append_assoc, length-append}
+use Rattle.std.proofs.Common.{◌≡◌, ℕ, zero, suc, ◌+◌, ◌-◌, ◌<◌, ◌≤◌, ◌∙◌, ◌&&◌, ◌||◌, ◌++◌, ◌∷◌, [], Bool, List, length, take, drop, true, false, ap, sym, refl, subst, cond, arith, All, get_or, inl, inr, append-nil, append_assoc, length-append}
 use Rattle.std.specs.Prelude.{filter, nat_le, nat_lt, ◌⊎◌}
-use Rattle.std.specs.List.{AllPairs, flat_map, list_any}
+use Rattle.std.specs.List.{AllPairs, flat_map}
 use Rattle.std.proofs.lemmas.Bool.{true≢false}
 use Rattle.std.proofs.lemmas.Bool.Decides.{nat_tests}
 use Rattle.std.proofs.lemmas.List.{take_all, take_more}
 use Rattle.std.proofs.lemmas.List.Concat.{flat_map-append}
-use Rattle.std.proofs.lemmas.List.Elements.{All-push, All-nil, All-cons, All-head, All-tail}
+use Rattle.std.proofs.lemmas.List.Elements.{All-nil, All-cons, All-head, All-tail}
 use Rattle.std.proofs.lemmas.List.Kept.{AllPairs-cons, AllPairs-filter}
 use Rattle.tumbler.specs.declared.span.Span.{Span}
 use Rattle.tumbler.specs.Span.{end_of}
@@ -14,7 +14,7 @@ use Rattle.tumbler.specs.Places.{sum}
 use Rattle.febe_data.specs.declared.run.Run.{Run}
 use Rattle.enfilade_core.specs.Rows.{Shape, rows_of}
 use Rattle.poom.specs.Bounds.{IsBound}
-use Rattle.poom.specs.Pieces.{address_in, addresses_from}
+use Rattle.poom.specs.Pieces.{addresses_from}
 use Rattle.poom.specs.Edited.{IsContentRun, run_addresses}
 use Rattle.poom.specs.Laid.{IsRoot, texts}
 use Rattle.poom.specs.Picked.{picked_from}
@@ -41,13 +41,13 @@ as_long : (part : ℕ) (document : List ℕ) (first count : ℕ) → length (add
 as_long part document first zero = refl
 as_long part document first (suc count) = let rest = as_long part document (first + 1) count in omega arith
 
-rows_from : (n : ℕ) (xs : List (List ℕ)) → All (λ (row : Row). n ≤ row.n) (new_rows [] n xs)
+pub rows_from : (n : ℕ) (xs : List (List ℕ)) → All (λ (row : Row). n ≤ row.n) (new_rows [] n xs)
 rows_from n [] = All-nil (λ (row : Row). n ≤ row.n)
 rows_from n (x ∷ xs) =
     All-cons (λ (row : Row). n ≤ row.n) (record { document = []; part = Text; n = n; address = x }) (new_rows [] (n + 1) xs) (omega arith)
     (λ k d lt. let later = rows_from (n + 1) xs k d lt in omega arith)
 
-rows_upto : (n : ℕ) (xs : List (List ℕ)) → All (λ (row : Row). row.n < n + length xs) (new_rows [] n xs)
+pub rows_upto : (n : ℕ) (xs : List (List ℕ)) → All (λ (row : Row). row.n < n + length xs) (new_rows [] n xs)
 rows_upto n [] = All-nil (λ (row : Row). row.n < n + 0)
 rows_upto n (x ∷ xs) =
     All-cons (λ (row : Row). row.n < n + length (x ∷ xs)) (record { document = []; part = Text; n = n; address = x }) (new_rows [] (n + 1) xs) (omega arith)

@@ -13,3 +13,4 @@ pub mod Numbers
 pub mod Bridge
 pub mod IntervalSteps
 pub mod Laying
+pub mod Valid

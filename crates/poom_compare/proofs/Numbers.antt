@@ -1,13 +1,13 @@
 -- Numbers of contents.
-use Rattle.std.proofs.Common.{◌≡◌, ℕ, zero, suc, ◌+◌, ◌-◌, ◌*◌, ◌<◌, ◌≤◌, ◌∙◌, ◌++◌, ◌∷◌, [], Bool, List, length, take, map, true, false, ap, sym, refl, subst, cond, arith, All, get_or, inl, inr, Some, None}
-use Rattle.std.specs.Prelude.{Option, ◌⊎◌, if◌then◌else◌}
-use Rattle.std.specs.Option.{unwrap_or, is_some}
+use Rattle.std.proofs.Common.{◌≡◌, ℕ, suc, ◌+◌, ◌*◌, ◌<◌, ◌≤◌, ◌∙◌, ◌++◌, ◌∷◌, [], Bool, List, length, take, map, true, false, ap, sym, refl, subst, cond, arith, All, get_or, Some, None}
+use Rattle.std.specs.Prelude.{Option, if◌then◌else◌}
+use Rattle.std.specs.Option.{unwrap_or}
 use Rattle.std.specs.BTreeMap.{BTreeMap, Updates, get, btree_map_len}
 use Rattle.std.specs.Ordering.{nat_cmp}
 use Rattle.std.specs.Cmp.Lexicographic.{slice_cmp, texts_ties, bytes_decides}
 use Rattle.std.proofs.lemmas.Bool.{true≢false}
 use Rattle.std.proofs.lemmas.List.{take_all, take_more, map-append}
-use Rattle.std.proofs.lemmas.List.Elements.{All-map, All-more, All-weaker, All-take, All-nil}
+use Rattle.std.proofs.lemmas.List.Elements.{All-more, All-weaker, All-nil}
 use Rattle.world_rules.specs.World.{is_same}
 use Rattle.poom_compare.specs.declared.placing.Placed.{Placed}
 use Rattle.poom_compare.specs.declared.stretch.Stretch.{Stretch}

@@ -1,13 +1,11 @@
 -- What texts of stretches show.
-use Rattle.std.proofs.Common.{◌≡◌, ℕ, zero, suc, ◌+◌, ◌-◌, ◌<◌, ◌≤◌, ◌∙◌, ◌&&◌, ◌∷◌, [], Bool, List, length, map, true, false, ap, sym, refl, subst, cond, arith, All, get_or, inl, inr}
+use Rattle.std.proofs.Common.{◌≡◌, ℕ, zero, suc, ◌+◌, ◌-◌, ◌<◌, ◌≤◌, ◌∙◌, ◌&&◌, ◌∷◌, [], Bool, List, length, map, true, false, ap, sym, refl, subst, cond, arith, get_or, inl, inr}
 use Rattle.std.specs.Prelude.{Contains, nat_le, nat_lt, ◌⊎◌}
 use Rattle.std.specs.List.{AllPairs}
-use Rattle.std.proofs.lemmas.Bool.{true≢false}
 use Rattle.std.proofs.lemmas.Bool.Decides.{nat_tests}
 use Rattle.std.proofs.lemmas.List.Elements.{All-map, All-contains, Contains-get_or}
-use Rattle.poom_compare.specs.declared.segment.Segment.{Segment}
 use Rattle.poom_compare.specs.declared.stretch.Stretch.{Stretch}
-use Rattle.poom_compare.specs.Segments.{IsSegment, IsSegmentOf, IsWithin, AreSegmentsOf, is_meeting}
+use Rattle.poom_compare.specs.Segments.{IsSegment, IsSegmentOf, AreSegmentsOf, is_meeting}
 use Rattle.poom_compare.specs.Placed.{AreStretches, IsStretch, text_of, segment_of}
 use Rattle.poom_compare.proofs.Lists.{here, there, none_there, first_or_rest, contains_map, after_first, without_first, pairs_map, same_at}
 

@@ -24,7 +24,7 @@ filter_both {X = X} p q (x ∷ xs) = step (p x) (filter_both p q xs)
     step true rest = ap (λ (ys : List X). cond (q x) (x ∷ ys) ys) rest
     step false rest = rest
 
-filter_mapped : {X Y : Type 0} (p : Y → Bool) (f : X → Y) (xs : List X) → filter p (map f xs) ≡ map f (filter (λ x. p (f x)) xs)
+pub filter_mapped : {X Y : Type 0} (p : Y → Bool) (f : X → Y) (xs : List X) → filter p (map f xs) ≡ map f (filter (λ x. p (f x)) xs)
 filter_mapped p f [] = refl
 filter_mapped {X = X} {Y = Y} p f (x ∷ xs) = step (p (f x)) (filter_mapped p f xs)
   where
@@ -38,14 +38,14 @@ flat_mapped {Z = Z} f g (x ∷ xs) = ap (λ (zs : List Z). f (g x) ++ zs) (flat_
 
 -- ---- rows, whatever document has them
 
-abbrev of_none : Row → Row
+abbrev pub of_none : Row → Row
 of_none row = record row { document = [] }
 
 rows_of_none : (document : List ℕ) (n : ℕ) (addresses : List (List ℕ)) → new_rows [] n addresses ≡ map of_none (new_rows document n addresses)
 rows_of_none document n [] = refl
 rows_of_none document n (address ∷ addresses) = λ i. of_none (record { document = document; part = Text; n = n; address = address }) ∷ rows_of_none document (n + 1) addresses i
 
-picked_of_none : (document : List ℕ) (spans : List Span) (addresses : List (List ℕ)) → rows_picked spans addresses ≡ map of_none (filter (is_picked_by_some spans) (new_rows document 1 addresses))
+pub picked_of_none : (document : List ℕ) (spans : List Span) (addresses : List (List ℕ)) → rows_picked spans addresses ≡ map of_none (filter (is_picked_by_some spans) (new_rows document 1 addresses))
 picked_of_none document spans addresses = ap (filter (is_picked_by_some spans)) (rows_of_none document 1 addresses) ∙ filter_mapped (is_picked_by_some spans) of_none (new_rows document 1 addresses)
 
 abbrev pair_with : Row → Row → Pair
@@ -61,7 +61,7 @@ pairs_of_none lefts rights = flat_mapped (pairs_of_row (map of_none rights)) of_
 
 -- ---- the world
 
-picked_shown : (world : World) (spec : PlainSpec) (text : List (List ℕ)) → Shows world spec.document text → picked_once world spec ≡ filter (is_picked_by_some spec.spans) (new_rows spec.document 1 text)
+pub picked_shown : (world : World) (spec : PlainSpec) (text : List (List ℕ)) → Shows world spec.document text → picked_once world spec ≡ filter (is_picked_by_some spec.spans) (new_rows spec.document 1 text)
 picked_shown world spec text shows = filter_both (is_text_of spec.document) (is_picked_by_some spec.spans) world.rows ∙ ap (filter (is_picked_by_some spec.spans)) shows
 
 pub of_world : IsRelationOfWorld

@@ -1,9 +1,10 @@
 -- Where two texts show the same content.
-use Rattle.std.specs.Prelude.{ℕ, ◌≡◌, ◌<◌, ◌≤◌, Bool, List, [], length, filter}
+use Rattle.std.specs.Prelude.{ℕ, ◌≡◌, ◌<◌, ◌≤◌, Bool, List, [], length, filter, All}
 use Rattle.std.specs.List.{list_any, flat_map}
 use Rattle.tumbler.specs.declared.span.Span.{Span}
 use Rattle.febe_data.specs.declared.run.Diagonal.{Diagonal}
 use Rattle.febe_data.specs.Plain.{PlainSpec}
+use Rattle.febe_data.specs.Validity.{IsDiagonal}
 use Rattle.world_rules.specs.declared.pairs.Pair.{Pair}
 use Rattle.world_rules.specs.declared.rows.Row.{Row}
 use Rattle.world_rules.specs.World.{World}
@@ -48,3 +49,13 @@ Shows world document addresses = text_rows world document ≡ new_rows document 
 abbrev pub IsRelationOfWorld : Type 0
 IsRelationOfWorld = (world : World) (left right : PlainSpec) (left_text right_text : List (List ℕ)) → Shows world left.document left_text → Shows world right.document right_text
     → diagonals world left right ≡ shared left_text left.spans right_text right.spans
+
+-- of texts that are not too long, each diagonal is one that a reply can have
+abbrev pub DiagonalsAreValid : Type 0
+DiagonalsAreValid = (left : List (List ℕ)) (left_spans : List Span) (right : List (List ℕ)) (right_spans : List Span) → length left < 4294967296 → length right < 4294967296
+    → All IsDiagonal (shared left left_spans right right_spans)
+
+-- each diagonal that is listed is one that a reply can have
+abbrev pub AreValid : Compared → Type 0
+AreValid (Diagonals made) = All IsDiagonal made.items
+AreValid TooMany = Unit {0}

@@ -4,7 +4,7 @@ ghost use Rattle.tumbler.specs.Span.{SpanFits};
 ghost use Rattle.enfilade_core.specs.Rows.{rows_of};
 ghost use Rattle.poom.specs.Laid.{IsRoot, texts};
 ghost use Rattle.world_rules.specs.Relation.{diagonals_of};
-ghost use Rattle.poom_compare.specs.Shared.{shared, pairs_between, IsCompared};
+ghost use Rattle.poom_compare.specs.Shared.{shared, pairs_between, IsCompared, AreValid};
 ghost use Rattle.poom_compare.specs.Placed.{IsPlaced, RowsAscend, rows_laid};
 
 use crate::comparing::compared;
@@ -58,7 +58,8 @@ pub fn diagonals(
     requires left_fits { All SpanFits left_spans.now.items }
     requires right { IsRoot poom.now right.0 }
     requires right_fits { All SpanFits right_spans.now.items }
-    ensures { IfOk result (IsCompared (shared (texts (rows_of poom.now left.0)) left_spans.now.items (texts (rows_of poom.now right.0)) right_spans.now.items)) }
+    ensures value { IfOk result (IsCompared (shared (texts (rows_of poom.now left.0)) left_spans.now.items (texts (rows_of poom.now right.0)) right_spans.now.items)) }
+    ensures valid { IfOk result AreValid }
 {
     let lefts = runs_picked(poom, left, left_spans.as_slice())?;
     let rights = runs_picked(poom, right, right_spans.as_slice())?;

@@ -13,4 +13,6 @@ mod starts;
 mod stretch;
 
 pub use compared::{Compared, diagonals};
-pub use laws::relation_of_world;
+pub use laws::{diagonals_are_valid, relation_of_world};
+pub use placing::{Placed, runs_picked};
+pub use positions::{Interval, joined};

@@ -88,7 +88,7 @@ fn place(
 }
 
 /// The runs of what some spans pick from a document's text, in V order.
-pub(crate) fn runs_picked(poom: &Poom, root: Node, spans: &[Span]) -> Result<Vec<Placed>, Memory>
+pub fn runs_picked(poom: &Poom, root: Node, spans: &[Span]) -> Result<Vec<Placed>, Memory>
     requires root { IsRoot poom.now root.0 }
     requires fits { All SpanFits spans.now }
     ensures each { IfOk result (λ made. All IsPlaced made.items) }

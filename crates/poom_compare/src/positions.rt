@@ -100,6 +100,23 @@ fn push_joined(made: &mut Vec<Interval>, interval: Interval, length: u32) -> Res
     Ok(())
 }
 
+/// The positions of some intervals, as few intervals as can be, in their order. Those that are given many times cost as
+/// one.
+pub fn joined(alloc: Global, intervals: Vec<Interval>, length: u32) -> Result<Vec<Interval>, Memory>
+    requires { All (IsInterval length) intervals.items }
+    ensures each { IfOk result (λ made. All (IsInterval length) made.items) }
+    ensures apart { IfOk result (λ made. AreApart made.items) }
+    ensures same { IfOk result (λ made. (n : ℕ) → is_in_some made.items n ≡ is_in_some intervals.items n) }
+{
+    let mut sorted = intervals;
+    sorted.sort_by_key(|interval| interval.from)?;
+    let mut made = Vec::new(alloc);
+    for interval in sorted.as_slice() {
+        push_joined(&mut made, *interval, length)?;
+    }
+    Ok(made)
+}
+
 /// The positions of a text that some spans pick, as few intervals as can be, in their order.
 ///
 /// So each position is looked at once, and spans that are given many times cost as one.
@@ -108,11 +125,7 @@ pub(crate) fn picked(alloc: Global, spans: &[Span], length: u32) -> Result<Vec<I
     requires few { length ≤ 1073741824 }
     ensures { IfOk result (λ made. AreIntervalsOf length spans.now made.items) }
 {
-    let mut sorted = intervals(alloc, spans, length)?;
-    sorted.sort_by_key(|interval| interval.from)?;
-    let mut made = Vec::new(alloc);
-    for interval in sorted.as_slice() {
-        push_joined(&mut made, *interval, length)?;
-    }
+    let all = intervals(alloc, spans, length)?;
+    let made = joined(alloc, all, length)?;
     Ok(made)
 }

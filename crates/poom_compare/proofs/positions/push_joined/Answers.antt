@@ -1,7 +1,6 @@
-use Rattle.std.proofs.Common.{◌≡◌, ◌≤◌, ◌∙◌, ◌++◌, ◌∷◌, [], All, List, ap, refl, sym, subst, arith, inl, inr}
+use Rattle.std.proofs.Common.{◌≡◌, ◌≤◌, ◌∙◌, ◌++◌, ◌∷◌, [], All, List, ap, refl, sym, subst, arith}
 use Rattle.std.specs.Prelude.{◌⊎◌}
 use Rattle.std.specs.List.{list_any}
-use Rattle.std.proofs.lemmas.List.Elements.{All-push}
 use Rattle.poom_compare.specs.declared.positions.Interval.{Interval}
 use Rattle.poom_compare.specs.Placed.{is_in, is_in_some, IsInterval, AreApart}
 use Rattle.poom_compare.proofs.Lists.{all_last}

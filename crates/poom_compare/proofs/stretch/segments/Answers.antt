@@ -1,4 +1,4 @@
-use Rattle.std.proofs.Common.{◌≡◌, ◌∙◌, ◌++◌, ◌∷◌, [], sym, subst, refl, get_or}
+use Rattle.std.proofs.Common.{◌∙◌, ◌++◌, ◌∷◌, [], sym, subst, refl, get_or}
 use Rattle.poom_compare.specs.declared.stretch.Stretch.{Stretch}
 use Rattle.poom_compare.specs.Segments.{AreSegmentsOf}
 use Rattle.poom_compare.specs.Placed.{text_of, segment_of}
