@@ -12,7 +12,7 @@ use Rattle.enfilade_core.specs.declared.tree.TreeMark.{TreeMark}
 use Rattle.enfilade_core.specs.Exchange.{Grows}
 use Rattle.spanfilade.specs.Index.{IndexTree, rows_in_index, rows_for, mark_of, at_mark}
 use Rattle.world_rules.specs.World.{LinkRow, is_same}
-use Rattle.links.specs.LinkLists.{LinkLists, AsBefore, HoldsRuns, rows_at, spans_at, is_of, has_in, added, removed}
+use Rattle.links.specs.LinkLists.{HoldsRuns, rows_at, spans_at, is_of, has_in, added, removed}
 use Rattle.links.specs.inside.Kept.{AddsRows, KeepsTree}
 use Rattle.links.proofs.Placed.{lacking_stay, or_first, or_second}
 
@@ -99,6 +99,3 @@ pub taken_back : (end : ℕ) (id : List ℕ) (mark : TreeMark) (links shown now 
 taken_back end id mark links shown now tree tree_shown tree_now same same_tree is tree_is holds =
     subst (HoldsRuns end now) (sym (tree_is ∙ ap (at_mark mark) same_tree))
     (subst (λ (ls : List LinkRow). HoldsRuns end ls (at_mark mark tree_shown)) (sym (is ∙ ap (λ (ls : List LinkRow). removed ls id) same)) holds)
-
-pub as_before : (old new : LinkLists) → new.links ≡ old.links → KeepsTree old.from new.from → KeepsTree old.to new.to → KeepsTree old.three new.three → AsBefore old new
-as_before old new links from to three = record { links = links; roots = (from.0, to.0, three.0); from = from.1; to = to.1; three = three.1 }

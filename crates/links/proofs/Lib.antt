@@ -7,3 +7,5 @@ pub mod EndsKept
 pub mod ListSteps
 pub mod Searched
 pub mod OrderedSpans
+pub mod LastMet
+pub mod JoinedEnds

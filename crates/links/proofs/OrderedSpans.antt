@@ -29,7 +29,7 @@ use Rattle.links.specs.inside.Pairs.{pair_of, span_of_pair, pair_cmp, pairs_of}
 spans_total : IsTotalOrder span_cmp
 spans_total = then_total (on_total (λ (s : Span). s.start) nat_list_cmp_total) (on_total (λ (s : Span). s.width) nat_list_cmp_total)
 
-same_span : (a b : Span) → span_cmp a b ≡ Equal → a ≡ b
+pub same_span : (a b : Span) → span_cmp a b ≡ Equal → a ≡ b
 same_span a b e = by_order (slice_cmp nat_cmp a.start b.start) refl e
   where
     by_order : (r : Ordering) → slice_cmp nat_cmp a.start b.start ≡ r → ordering_then r (slice_cmp nat_cmp a.width b.width) ≡ Equal → a ≡ b

@@ -131,7 +131,7 @@ both_or true false false = refl
 both_or false more at = refl
 
 -- a key is among those that are chosen
-among_chosen : {X : Type 0} (q : List ℕ) (key : X → List ℕ) (p : X → Bool) (xs : List X) → among q (map key (filter p xs)) ≡ list_any (λ x. p x && is_eq (slice_cmp nat_cmp q (key x))) xs
+pub among_chosen : {X : Type 0} (q : List ℕ) (key : X → List ℕ) (p : X → Bool) (xs : List X) → among q (map key (filter p xs)) ≡ list_any (λ x. p x && is_eq (slice_cmp nat_cmp q (key x))) xs
 among_chosen q key p [] = refl
 among_chosen {X} q key p (x ∷ xs) = by_test (p x) (among_chosen q key p xs)
   where
@@ -169,7 +169,7 @@ less_kept p l (m ∷ links) less = by_test (p m) (less_kept p l links less.1)
     by_test true rest = (less.0, rest)
     by_test false rest = rest
 
-ids_kept : (p : LinkRow → Bool) (links : List LinkRow) → IsAscending (ids_in links) → IsAscending (ids_in (filter p links))
+pub ids_kept : (p : LinkRow → Bool) (links : List LinkRow) → IsAscending (ids_in links) → IsAscending (ids_in (filter p links))
 unfolding IsStrictlySortedBy
 ids_kept p [] ascends = tt
 ids_kept p (l ∷ links) ascends = by_test (p l) (less_kept p l links ascends.0) (ids_kept p links ascends.1)

@@ -120,11 +120,3 @@ pub record AllGrow (old new : LinkLists) : Type 0 where
   pub from : Grows old.from.nodes new.from.nodes
   pub to : Grows old.to.nodes new.to.nodes
   pub three : Grows old.three.nodes new.three.nodes
-
--- the links, and the rows and the root of each index, are the same
-pub record AsBefore (old new : LinkLists) : Type 0 where
-  pub links : new.links ≡ old.links
-  pub roots : (new.from.root ≡ old.from.root) × (new.to.root ≡ old.to.root) × (new.three.root ≡ old.three.root)
-  pub from : rows_in_index new.from ≡ rows_in_index old.from
-  pub to : rows_in_index new.to ≡ rows_in_index old.to
-  pub three : rows_in_index new.three ≡ rows_in_index old.three

@@ -1,10 +1,14 @@
 //! Which links are wanted.
-ghost use Rattle.std.specs.Prelude.{◌≡◌, ◌++◌, take, All, IfOk, OnOk};
-ghost use Rattle.std.specs.List.{list_any, flat_map};
+ghost use Rattle.std.specs.Prelude.{◌≡◌, ◌≤◌, ◌++◌, take, length, All, IfOk, OnOk};
+ghost use Rattle.std.specs.List.{list_any, flat_map, prefix_len};
+ghost use Rattle.tumbler.specs.Places.{comes_before};
 ghost use Rattle.tumbler.specs.Span.{SpanFits};
+ghost use Rattle.tumbler.specs.declared.span.Span.{Span};
 ghost use Rattle.world_rules.specs.Finding.{is_home_wanted};
 ghost use Rattle.links.specs.LinkLists.{IsRun, IsLink, plain_link};
-ghost use Rattle.links.specs.Finding.{spans_meet, is_end_met, given, SpansFit, EndsFit, is_wanted};
+ghost use Rattle.spanfilade.specs.Apart.{AreApart};
+ghost use Rattle.links.specs.Finding.{spans_meet, is_end_met, given, is_wanted};
+ghost use Rattle.links.specs.inside.Joined.{SpansJoined, EndsJoined, IsWide};
 ghost use Rattle.links.specs.inside.Kept.{shown, unboxed, taken, taken_at};
 
 use crate::row::{LinkRow, WantedEnds};
@@ -33,24 +37,34 @@ fn spans_meet(span: &Span, other: &Span) -> bool
     start.is_before(&end) && start.is_before(&other.start.add(&other.width))
 }
 
-/// Whether one of the spans meets this one.
+/// How many of the spans start before a place.
+fn starting_before(spans: &[Span], place: &Tumbler) -> usize
+    requires { AreApart spans.now }
+    ensures value { result ≡ prefix_len (λ (span : Span). comes_before span.start place.now) spans.now }
+    ensures bound { result ≤ length spans.now }
+{
+    spans.partition_point(|span| span.start.is_before(place))
+}
+
+/// Whether one of the spans meets this one. Of those that start before it ends, the last one ends last.
 fn meets_any(spans: &[Span], other: &Span) -> bool
     requires spans { All SpanFits spans.now }
+    requires apart { AreApart spans.now }
     requires other { SpanFits other.now }
+    requires wide { IsWide other.now }
     ensures { result ≡ list_any (λ span. spans_meet span other.now) spans.now }
 {
-    for span in spans {
-        if spans_meet(span, other) {
-            return true;
-        }
+    let count = starting_before(spans, &other.start.add(&other.width));
+    if count == 0 {
+        return false;
     }
-    false
+    spans_meet(&spans[count - 1], other)
 }
 
 /// Whether a run of an end meets one of the spans that are given for it, if any are.
 fn is_end_met(runs: &[Run], spans: &Option<List<Span>>) -> bool
     requires runs { All IsRun runs.now }
-    requires spans { SpansFit spans.now }
+    requires spans { SpansJoined spans.now }
     ensures { result ≡ is_end_met (given spans.now) runs.now }
 {
     let Some(spans) = spans else {
@@ -85,7 +99,7 @@ fn is_home_wanted(homes: &[Span], home: &Tumbler) -> bool
 fn is_wanted(link: &LinkRow, homes: &[Span], ends: &WantedEnds) -> bool
     requires link { IsLink (plain_link link.now) }
     requires homes { All SpanFits homes.now }
-    requires ends { EndsFit ends.now }
+    requires ends { EndsJoined ends.now }
     ensures { result ≡ is_wanted homes.now ends.now (plain_link link.now) }
 {
     is_home_wanted(homes, &link.home)
@@ -104,7 +118,7 @@ fn take_link(
 ) -> Result<(), Memory>
     requires link { IsLink (plain_link link.now) }
     requires homes { All SpanFits homes.now }
-    requires ends { EndsFit ends.now }
+    requires ends { EndsJoined ends.now }
     ensures { OnOk result (found.new.items ≡ found.old.items ++ taken homes.now ends.now after.now (plain_link link.now)) }
 {
     if !after.is_before(&link.id) {
@@ -127,7 +141,7 @@ fn take_id(
 ) -> Result<(), Memory>
     requires links { All IsLink table.now }
     requires homes { All SpanFits homes.now }
-    requires ends { EndsFit ends.now }
+    requires ends { EndsJoined ends.now }
     ensures { OnOk result (found.new.items ≡ found.old.items ++ taken_at table.now homes.now ends.now after.now id.now) }
 {
     let Some(link) = table.get(id) else {
@@ -147,7 +161,7 @@ pub(crate) fn found_in_order(
 ) -> Result<List<Tumbler>, Memory>
     requires links { All IsLink (unboxed links.now) }
     requires homes { All SpanFits homes.now }
-    requires ends { EndsFit ends.now }
+    requires ends { EndsJoined ends.now }
     ensures { IfOk result (λ found. found.items ≡ take limit (flat_map (λ boxed. taken homes.now ends.now after.now (shown boxed)) links.now)) }
 {
     let mut found = List::new(alloc);
@@ -172,7 +186,7 @@ pub(crate) fn found_among(
 ) -> Result<List<Tumbler>, Memory>
     requires links { All IsLink table.now }
     requires homes { All SpanFits homes.now }
-    requires ends { EndsFit ends.now }
+    requires ends { EndsJoined ends.now }
     ensures { IfOk result (λ found. found.items ≡ take limit (flat_map (taken_at table.now homes.now ends.now after.now) ids.now)) }
 {
     let mut found = List::new(alloc);

@@ -10,6 +10,8 @@ mod row;
 mod runs;
 mod spans;
 mod table;
+mod wanted;
 
 pub use links::Links;
 pub use row::{LinkMarks, LinkRow, WantedEnds};
+pub use runs::run_span;

@@ -1,10 +1,14 @@
 //! The table of links and its calls.
 ghost use Rattle.std.specs.Prelude.{◌≡◌, ◌<◌, ◌≤◌, ◌⊎◌, List as ListOf, [], length, slice_get, All, IfOk, OnOk, OnErr, IfSome, false};
 ghost use Rattle.std.specs.Option.{option_map, option_copied};
+ghost use Rattle.std.specs.Ordering.{nat_cmp};
+ghost use Rattle.std.specs.Cmp.Lexicographic.{slice_cmp};
+ghost use Rattle.std.specs.List.Sorted.{IsStrictlySortedBy};
 ghost use Rattle.tumbler.specs.Span.{SpanFits};
 ghost use Rattle.spanfilade.specs.Index.{rows_in_index, at_mark};
-ghost use Rattle.links.specs.LinkLists.{LinkLists, most_links, plain_link, IsLink, HoldsRuns, index_at, has_in, link_in, count_of_home_in, added, removed, marks_of, at_marks, AllGrow, AsBefore};
+ghost use Rattle.links.specs.LinkLists.{LinkLists, most_links, plain_link, IsLink, HoldsRuns, index_at, ids_in, has_in, link_in, count_of_home_in, added, removed, marks_of, at_marks, AllGrow};
 ghost use Rattle.links.specs.Finding.{found_in, spans_met, EndsFit};
+ghost use Rattle.links.specs.inside.Joined.{EndsJoined};
 ghost use Rattle.links.specs.inside.Kept.{Hold};
 
 use crate::ends::add_to_all;
@@ -13,6 +17,7 @@ use crate::row::{LinkMarks, LinkRow, WantedEnds};
 use crate::runs::run_spans;
 use crate::spans::spans_in_order;
 use crate::table::Table;
+use crate::wanted::joined_ends;
 use enfilade_search::overlapping;
 use spanfilade::Spanfilade;
 use std::alloc::Global;
@@ -57,14 +62,13 @@ impl Links {
 
     /// Adds a link.
     ///
-    /// Where it is refused the links and the rows of the indexes are as before, though their arenas may hold
-    /// more nodes.
+    /// Where it is refused all is as before.
     pub fn add(&mut self, alloc: Global, link: LinkRow) -> Result<(), Memory>
         requires absent { has_in self.old.links link.id ≡ false }
         requires room { length self.old.links < most_links }
         requires runs { IsLink (plain_link link) }
         ensures added { OnOk result (self.new.links ≡ added self.old.links (plain_link link)) }
-        ensures refused { OnErr result (AsBefore self.old self.new) }
+        ensures refused { OnErr result (self.new ≡ self.old) }
         ensures grows { AllGrow self.old self.new }
     {
         let from = run_spans(alloc, link.from.as_slice())?;
@@ -101,6 +105,14 @@ impl Links {
         self.table.nth(k)
     }
 
+    /// The links ascend by their ids, each once, and their ends are runs. It takes no memory.
+    pub fn in_order(&self)
+        ensures ascends { IsStrictlySortedBy (slice_cmp nat_cmp) (ids_in self.now.links) }
+        ensures runs { All IsLink self.now.links }
+    {
+        let _links = self.table.links();
+    }
+
     /// How many links have the home. It looks a number up, and takes no memory.
     pub fn count_of_home(&self, home: &Tumbler) -> u32
         ensures { result ≡ count_of_home_in self.now.links home.now }
@@ -123,25 +135,72 @@ impl Links {
         ensures { IfOk result (λ found. found.items ≡ found_in self.now.links homes.now.items ends.now after.now limit) }
     {
         let homes = homes.as_slice();
+        let wanted = joined_ends(alloc, ends)?;
         let _ascend = self.table.links();
-        let Some(ids) = self.candidates(ends)? else {
+        let Some(ids) = self.candidates(&wanted)? else {
             let links = self.table.not_before(after);
-            return found_in_order(alloc, links, homes, ends, after, limit);
+            return found_in_order(alloc, links, homes, &wanted, after, limit);
         };
         found_among(
             alloc,
             &self.table,
             ids.as_slice(),
             homes,
-            ends,
+            &wanted,
             after,
             limit,
         )
     }
 
     /// Ids among which all are that are wanted, where spans are given for some end.
+    ///
+    /// They are those of the end whose spans meet the fewest runs, or at most some times as many: the ends are
+    /// looked at side by side, with a limit that grows until one of them is done.
     fn candidates(&self, ends: &WantedEnds) -> Result<Option<List<Tumbler>>, Memory>
-        requires { EndsFit ends.now }
+        requires { EndsJoined ends.now }
+        ensures { IfOk result (λ found. IfSome found (λ ids. Hold self.now.links ends.now ids.items)) }
+    {
+        let mut limit: usize = 16;
+        for _ in 0..12 {
+            if let Some(ids) = self.few_candidates(ends, limit)? {
+                return Ok(Some(ids));
+            }
+            limit = limit.saturating_mul(4);
+        }
+        self.all_candidates(ends)
+    }
+
+    /// The same of the first end whose spans meet at most so many runs, if there is one.
+    fn few_candidates(
+        &self,
+        ends: &WantedEnds,
+        limit: usize,
+    ) -> Result<Option<List<Tumbler>>, Memory>
+        requires { EndsJoined ends.now }
+        ensures { IfOk result (λ found. IfSome found (λ ids. Hold self.now.links ends.now ids.items)) }
+    {
+        let _ids = self.table.links();
+        if let Some(spans) = &ends.from {
+            if let Some(ids) = self.from.keys_meeting_up_to(spans, limit)? {
+                return Ok(Some(ids));
+            }
+        }
+        if let Some(spans) = &ends.to {
+            if let Some(ids) = self.to.keys_meeting_up_to(spans, limit)? {
+                return Ok(Some(ids));
+            }
+        }
+        if let Some(spans) = &ends.three {
+            if let Some(ids) = self.three.keys_meeting_up_to(spans, limit)? {
+                return Ok(Some(ids));
+            }
+        }
+        Ok(None)
+    }
+
+    /// The same of the first end that spans are given for.
+    fn all_candidates(&self, ends: &WantedEnds) -> Result<Option<List<Tumbler>>, Memory>
+        requires { EndsJoined ends.now }
         ensures { IfOk result (λ found. IfSome found (λ ids. Hold self.now.links ends.now ids.items)) }
     {
         let _ids = self.table.links();

@@ -2,16 +2,18 @@
 ghost use Rattle.std.specs.Prelude.{◌≡◌, map, All, IfOk};
 ghost use Rattle.tumbler.specs.Span.{SpanFits};
 ghost use Rattle.links.specs.LinkLists.{IsRun, run_span};
+ghost use Rattle.links.specs.inside.Joined.{IsWide};
 
 use febe_data::Run;
 use std::alloc::Global;
 use tumbler::{List, Memory, Span, Tumbler};
 
 /// The addresses of the run's bytes.
-pub(crate) fn run_span(run: &Run) -> Span
+pub fn run_span(run: &Run) -> Span
     requires { IsRun run.now }
     ensures value { result ≡ run_span run.now }
     ensures fits { SpanFits result }
+    ensures wide { IsWide result }
 {
     let start = run.content.extended(&[0, 1, run.first]).unwrap();
     let width = Tumbler::width(start.allocator(), start.places().len(), run.length);

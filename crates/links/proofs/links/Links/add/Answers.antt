@@ -2,9 +2,9 @@ use Rattle.std.proofs.Common.{◌≡◌, ◌∙◌, ℕ, List, map, ap, sym, sub
 use Rattle.std.specs.List.{All}
 use Rattle.world_rules.specs.World.{LinkRow}
 use Rattle.spanfilade.specs.Index.{rows_for}
-use Rattle.links.specs.LinkLists.{LinkLists, AsBefore, IsLink, HoldsRuns, plain_link, run_span, has_in, removed}
+use Rattle.links.specs.LinkLists.{LinkLists, IsLink, HoldsRuns, plain_link, run_span, has_in, removed}
 use Rattle.links.specs.inside.Kept.{AddsRows}
-use Rattle.links.proofs.EndsKept.{all_added, holds_added, holds_kept, added_removed, as_before}
+use Rattle.links.proofs.EndsKept.{all_added, holds_added, added_removed}
 use Rattle.links.proofs.links.Links.add.Goals as goal
 
 pub invariant_of-self : goal.invariant_of-self
@@ -40,9 +40,9 @@ invariant_of-self-in_default c =
     let back : c.remove.new.self ≡ c.self.inside.table =
     c.remove.ensures ∙ ap (λ (k : List ℕ). removed c.add.new.self k) c.copy-id.ensures ∙ ap (λ (ls : List LinkRow). removed ls link.id) c.in_ok-add.ensures.added ∙ added_removed c.self.inside.table link lacks in (
       subst (All IsLink) (sym back) c.self.invariant.0,
-      subst (λ (ls : List LinkRow). HoldsRuns 1 ls c.add_to_all.new.from) (sym back) (holds_kept 1 c.self.inside.table c.self.inside.from c.add_to_all.new.from c.self.invariant.1 c.in_default.ensures.refused.0),
-      subst (λ (ls : List LinkRow). HoldsRuns 2 ls c.add_to_all.new.to) (sym back) (holds_kept 2 c.self.inside.table c.self.inside.to c.add_to_all.new.to c.self.invariant.2 c.in_default.ensures.refused.1),
-      subst (λ (ls : List LinkRow). HoldsRuns 3 ls c.add_to_all.new.three) (sym back) (holds_kept 3 c.self.inside.table c.self.inside.three c.add_to_all.new.three c.self.invariant.3 c.in_default.ensures.refused.2),
+      subst (λ (ls : List LinkRow). HoldsRuns 1 ls c.add_to_all.new.from) (sym back) (subst (HoldsRuns 1 c.self.inside.table) (sym c.in_default.ensures.refused.0) c.self.invariant.1),
+      subst (λ (ls : List LinkRow). HoldsRuns 2 ls c.add_to_all.new.to) (sym back) (subst (HoldsRuns 2 c.self.inside.table) (sym c.in_default.ensures.refused.1) c.self.invariant.2),
+      subst (λ (ls : List LinkRow). HoldsRuns 3 ls c.add_to_all.new.three) (sym back) (subst (HoldsRuns 3 c.self.inside.table) (sym c.in_default.ensures.refused.2) c.self.invariant.3),
     )
 
 pub returns-in_default-clause-refused : goal.returns-in_default-clause-refused
@@ -51,6 +51,4 @@ returns-in_default-clause-refused c =
     let lacks : has_in c.self.inside.table link.id ≡ false = ap (λ (v : LinkLists). has_in v.links link.id) c.self.view_is ∙ c.requires.absent in
     let back : c.remove.new.self ≡ c.self.inside.table =
     c.remove.ensures ∙ ap (λ (k : List ℕ). removed c.add.new.self k) c.copy-id.ensures ∙ ap (λ (ls : List LinkRow). removed ls link.id) c.in_ok-add.ensures.added ∙ added_removed c.self.inside.table link lacks in
-    subst (λ (v : LinkLists). AsBefore v (record { links = c.remove.new.self; from = c.add_to_all.new.from; to = c.add_to_all.new.to; three = c.add_to_all.new.three })) c.self.view_is
-    (as_before (record { links = c.self.inside.table; from = c.self.inside.from; to = c.self.inside.to; three = c.self.inside.three }) (record { links = c.remove.new.self; from = c.add_to_all.new.from; to = c.add_to_all.new.to; three = c.add_to_all.new.three }) back
-    c.in_default.ensures.refused.0 c.in_default.ensures.refused.1 c.in_default.ensures.refused.2)
+    (λ i. record { links = back i; from = c.in_default.ensures.refused.0 i; to = c.in_default.ensures.refused.1 i; three = c.in_default.ensures.refused.2 i }) ∙ c.self.view_is

@@ -2,7 +2,7 @@ use Rattle.std.proofs.Common.{subst}
 use Rattle.links.specs.LinkLists.{LinkLists}
 use Rattle.links.specs.inside.Kept.{Hold}
 use Rattle.links.proofs.Searched.{hold_from, hold_to, hold_three}
-use Rattle.links.proofs.links.Links.candidates.Goals as goal
+use Rattle.links.proofs.links.Links.all_candidates.Goals as goal
 
 pub returns-in-Some : goal.returns-in-Some
 returns-in-Some c =
