@@ -3,7 +3,7 @@ use Rattle.std.specs.Prelude.{◌≡◌, ◌⊎◌, ℕ, ◌+◌, ◌-◌, ◌�
 use Rattle.green_io.specs.declared.disk.Area.{Area}
 use Rattle.green_io.specs.declared.source.ReadAnswer.{ReadAnswer}
 use Rattle.green_io.specs.declared.source.ReadAnswer.TheVariants.{Got, End, Failed}
-use Rattle.green_io.specs.Areas.{Areas, area_of, InArea}
+use Rattle.green_io.specs.Areas.{Areas, area_of, IsSameBeside, InArea}
 
 -- What contracts see of a disk: what its areas read, none where it does not tell that; a clock of its calls;
 -- and the images since a moment, which are what a crash at that moment or a later one may leave.
@@ -67,6 +67,22 @@ pub record LeavesOnly (old new : DiskState) (fact : Areas → Type 0) : Type 0 w
   pub later : old.clock ≤ new.clock
   pub keeps : (t : ℕ) (image : Areas) → t ≤ old.clock → old.images t image → new.images t image
   pub each : (t : ℕ) (image : Areas) → t ≤ old.clock → new.images t image → old.images t image ⊎ fact image
+
+-- every other area reads what it read, where the disk tells that
+abbrev pub ReadsAsBeside : Area → Option Areas → Option Areas → Type 0
+ReadsAsBeside area None None = Unit {0}
+ReadsAsBeside area (Some old) (Some new) = IsSameBeside area old new
+ReadsAsBeside area _ _ = ⊥
+
+-- the image has in every other area what one of these images has there
+abbrev pub IsAsBeside : Area → (Areas → Type 0) → Areas → Type 0
+IsAsBeside area images image = (was : Areas) × images was × IsSameBeside area was image
+
+-- Between an old and a new state of one disk the other areas are left alone: they read what they read, and a crash
+-- leaves in all of them together what it might have left before.
+pub record LeavesOthers (area : Area) (old new : DiskState) : Type 0 where
+  pub reads : ReadsAsBeside area old.reads new.reads
+  pub images : LeavesOnly old new (IsAsBeside area (images_now old))
 
 -- every image has in this area what it reads, where that is told
 abbrev pub IsDurable : Area → Option Areas → (Areas → Type 0) → Type 0

@@ -72,7 +72,7 @@ pub trait Disk {
         ensures failed { OnErr result (HasRisen (fault_count self.old) (fault_count self.new)) };
 
     /// Makes the area stable: after it a crash leaves what the area reads, until it is written or cut again. Where
-    /// it fails nothing has become stable.
+    /// it fails nothing is known to be stable.
     fn sync(&mut self, area: Area) -> Result<(), DiskFailed>
         ensures durable { OnOk result (IsDurable area (state self.old).reads (images_now (state self.new))) }
         ensures reads { (state self.new).reads ≡ (state self.old).reads }
