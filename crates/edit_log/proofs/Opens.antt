@@ -36,7 +36,7 @@ torn_holds entries (gate ∷ rest) was log has are whole (other, (byte, is)) =
     next : HasNext entries rest → IsWhole entries log ⊎ ((entry : PlainEntry) × Hides entries entry was × IsWhole (entries ++ entry ∷ []) log)
     next n =
         let ajar : IsAjar (gated entries) (body_of n.entry) log = (byte, n.behind, is ∙ ap (λ (l : List ℕ). gated entries ++ (byte ∷ l)) n.parts) in
-        let hides : Hides entries n.entry was = record { gate = gate; behind = n.behind; next = n.next; parts = has.parts ∙ ap (λ (l : List ℕ). gated entries ++ (gate ∷ l)) n.parts } in
+        let hides : Hides entries n.entry was = record { gate = gate; behind = n.behind; torn = other; next = n.next; parts = has.parts ∙ ap (λ (l : List ℕ). gated entries ++ (gate ∷ l)) n.parts } in
         ⊎_elim (λ without. inl without) (λ with_it. inr (n.entry, hides, with_it)) (ajar_whole entries n.entry log are n.next ajar)
 
     by_case : (gate ≡ 0) ⊎ (rest ≡ []) ⊎ HasNext entries rest → IsWhole entries log ⊎ ((entry : PlainEntry) × Hides entries entry was × IsWhole (entries ++ entry ∷ []) log)

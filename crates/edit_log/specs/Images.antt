@@ -1,5 +1,5 @@
 -- What the images of a disk have for its log, while it is open and while calls run.
-use Rattle.std.specs.Prelude.{◌≡◌, ◌⊎◌, ℕ, ◌≤◌, List, [], ◌∷◌, ◌++◌, length, Option, None, Some, IsSome, IsTrue}
+use Rattle.std.specs.Prelude.{◌≡◌, ◌≢◌, ◌⊎◌, ℕ, ◌≤◌, List, [], ◌∷◌, ◌++◌, length, Option, None, Some, IsSome, IsTrue}
 use Rattle.std.specs.List.{AllByRecursion}
 use Rattle.febe_data.specs.Plain.{PlainEntry}
 use Rattle.entry_codec.specs.Bodies.{HasBody}
@@ -77,6 +77,7 @@ AsRead (Some areas) fact = fact areas.log
 pub record Hides (entries : List PlainEntry) (entry : PlainEntry) (log : List ℕ) : Type 0 where
   pub gate : ℕ
   pub behind : List ℕ
+  pub torn : gate ≢ 0
   pub next : IsNext entries entry
   pub parts : log ≡ gated entries ++ (gate ∷ (body_of entry ++ (0 ∷ behind)))
 

@@ -1,7 +1,7 @@
 //! An open log, to which bodies are appended.
-ghost use Rattle.std.specs.Prelude.{◌≡◌, ◌≢◌, ◌≤◌, List, [], ◌∷◌, ◌++◌};
+ghost use Rattle.std.specs.Prelude.{◌≡◌, ◌≢◌, ◌≤◌, List, [], ◌∷◌, ◌++◌, IsTrue};
 ghost use Rattle.febe_data.specs.Plain.{PlainEntry};
-ghost use Rattle.green_io.specs.Disk.{LeavesOnly};
+ghost use Rattle.green_io.specs.Disk.{LeavesOnly, LeavesOthers};
 ghost use Rattle.green_io.specs.Outside.{HasRisen};
 ghost use Rattle.edit_log.specs.Answers.{OnDone, OnFailed};
 ghost use Rattle.edit_log.specs.Images.{IsOpen, IsPending, IsAppendable, IsMendable, HoldsEither};
@@ -11,7 +11,7 @@ use crate::pending::Pending;
 use crate::phases::{close_gate, open_gate, stage};
 use entry_codec::laws::body_says_length;
 use febe_data::Text;
-use green_io::Disk;
+use green_io::{Area, Disk};
 use std::marker::Model;
 
 /// What came of an append or a mend.
@@ -53,9 +53,12 @@ impl EditLog {
     /// The body and that byte are made stable while the gate in front of them is still 0; then the gate is opened
     /// and made stable. So a crash leaves the log without the body or with all of it. It takes no memory.
     pub fn append<D: Disk>(&mut self, disk: &mut D, bytes: &Text) -> Appended
+        ensures goes_on { OnDone result (self.new.pending ≡ self.old.pending) }
+        ensures stops { OnFailed result (IsTrue (is_pending self.new.pending)) }
         ensures any_moment { (entries : List PlainEntry) (entry : PlainEntry) → IsAppendable entries entry bytes.now.items → IsOpen (D.state disk.old) self.old entries → LeavesOnly (D.state disk.old) (D.state disk.new) (HoldsEither entries entry) }
         ensures done { (entries : List PlainEntry) (entry : PlainEntry) → IsAppendable entries entry bytes.now.items → IsOpen (D.state disk.old) self.old entries → OnDone result (IsOpen (D.state disk.new) self.new (entries ++ entry ∷ [])) }
         ensures pending { (entries : List PlainEntry) (entry : PlainEntry) → IsAppendable entries entry bytes.now.items → IsOpen (D.state disk.old) self.old entries → OnFailed result (IsPending (D.state disk.new) self.new entries entry) }
+        ensures others { LeavesOthers Area.Log (D.state disk.old) (D.state disk.new) }
         ensures never_falls { D.fault_count disk.old ≤ D.fault_count disk.new }
         ensures failed { OnFailed result (HasRisen (D.fault_count disk.old) (D.fault_count disk.new)) }
     {
@@ -78,11 +81,14 @@ impl EditLog {
     ///
     /// Where 1 was never written to the gate, it is a stable 0, and nothing is written. It takes no memory.
     pub fn mend<D: Disk>(&mut self, disk: &mut D) -> Appended
-        ensures untouched { self.old.pending ≢ Pending.Gated → disk.new ≡ disk.old }
+        ensures untouched { self.old.pending ≢ Pending.Gated → (result ≡ Appended.Ok) × (disk.new ≡ disk.old) }
+        ensures mended { OnDone result (self.new.pending ≡ Pending.Nothing) }
+        ensures stays { OnFailed result (self.new ≡ self.old) }
         ensures idle { self.old.pending ≡ Pending.Nothing → (result ≡ Appended.Ok) × (self.new ≡ self.old) }
         ensures any_moment { (entries : List PlainEntry) (entry : PlainEntry) → IsMendable entries entry → IsPending (D.state disk.old) self.old entries entry → LeavesOnly (D.state disk.old) (D.state disk.new) (HoldsEither entries entry) }
         ensures done { (entries : List PlainEntry) (entry : PlainEntry) → IsMendable entries entry → IsPending (D.state disk.old) self.old entries entry → OnDone result (IsOpen (D.state disk.new) self.new entries) }
         ensures pending { (entries : List PlainEntry) (entry : PlainEntry) → IsMendable entries entry → IsPending (D.state disk.old) self.old entries entry → OnFailed result (IsPending (D.state disk.new) self.new entries entry) }
+        ensures others { LeavesOthers Area.Log (D.state disk.old) (D.state disk.new) }
         ensures never_falls { D.fault_count disk.old ≤ D.fault_count disk.new }
         ensures failed { OnFailed result (HasRisen (D.fault_count disk.old) (D.fault_count disk.new)) }
     {

@@ -1,7 +1,7 @@
 //! Opening a log.
 ghost use Rattle.std.specs.Prelude.{◌≡◌, ◌≤◌, IsSome, IfOk};
 ghost use Rattle.febe_data.specs.Plain.{plain_history};
-ghost use Rattle.green_io.specs.Disk.{LeavesOnly, WhereTold};
+ghost use Rattle.green_io.specs.Disk.{LeavesOnly, LeavesOthers, WhereTold};
 ghost use Rattle.green_io.specs.Outside.{HasRisen};
 ghost use Rattle.edit_log.specs.Answers.{OnDamaged, OnDiskFault, OnOtherFault};
 ghost use Rattle.edit_log.specs.Images.{IsOpen, AsRead, HoldsAsRead};
@@ -14,7 +14,7 @@ use crate::reading::read_stable;
 use crate::scanning::{Scanned, scan};
 use entry_codec::laws::{body_says_length, one_body};
 use febe_data::{Entry, List};
-use green_io::Disk;
+use green_io::{Area, Disk};
 use std::alloc::Global;
 
 /// Why a log was not opened.
@@ -41,8 +41,10 @@ impl EditLog {
         ensures any_moment { (entries : _) → AsRead (D.state disk.old).reads (IsWhole entries) → LeavesOnly (D.state disk.old) (D.state disk.new) (HoldsAsRead entries (D.state disk.old).reads) }
         ensures entries { IfOk result (λ opened. WhereTold (D.state disk.old).reads (λ areas. ReadsAs (plain_history opened.1.items) areas.log)) }
         ensures stands { IfOk result (λ opened. IsSome (D.state disk.old).reads → IsOpen (D.state disk.new) opened.0 (plain_history opened.1.items)) }
+        ensures idle { IfOk result (λ opened. opened.0.pending ≡ Pending.Nothing) }
         ensures damaged { OnDamaged result (λ at. WhereTold (D.state disk.old).reads (λ areas. IsDamagedAt at areas.log)) }
         ensures untouched { OnOtherFault result ((D.state disk.new).reads ≡ (D.state disk.old).reads) }
+        ensures others { LeavesOthers Area.Log (D.state disk.old) (D.state disk.new) }
         ensures never_falls { D.fault_count disk.old ≤ D.fault_count disk.new }
         ensures failed { OnDiskFault result (HasRisen (D.fault_count disk.old) (D.fault_count disk.new)) }
     {

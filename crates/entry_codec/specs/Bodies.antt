@@ -15,7 +15,7 @@ abbrev pub IsU64 : ℕ → Type 0
 IsU64 n = n < 18446744073709551616
 
 -- The changes that are logged, within the bounds of their fields: texts, lists, and the spans in all specs of one list
--- are as many as one request may have.
+-- are at most as many as one request may have.
 abbrev pub IsLogged : PlainChange → Type 0
 IsLogged (document_created document) = IsTumbler document
 IsLogged (version_made source document) = IsTumbler source × IsTumbler document

@@ -30,7 +30,7 @@ fn entry_bytes(alloc: Global, entry: &Entry) -> Result<Text, Memory>
 }
 
 /// The one body of an entry whose change is logged. Its fields keep to the bounds of requests: a text has at most
-/// 16,777,216 bytes, a list at most 65,536 items, and so many spans have all specs of one list together.
+/// 16,777,216 bytes, a list at most 65,536 items, and the specs of one list together at most as many spans.
 pub fn encode(alloc: Global, entry: &Entry) -> Result<Text, Memory>
     requires { HasBody (plain_entry entry.now) }
     ensures { IfOk result (λ body. body.items ≡ body_of (plain_entry entry.now)) }

@@ -1,5 +1,7 @@
 -- A gate that is 0 stays as it is; another may have any byte until it is written.
 use Rattle.std.proofs.Common.{[], ◌∷◌, ◌++◌, sym, ◌∙◌, subst}
+use Rattle.green_io.specs.declared.disk.Area.TheVariants as area
+use Rattle.green_io.proofs.Beside.{untouched_others}
 use Rattle.green_io.specs.Disk.{Torn, Written}
 use Rattle.edit_log.specs.Images.{IsShut}
 use Rattle.edit_log.specs.inside.Ends.{IsLog, HasTornGate}
@@ -26,3 +28,6 @@ returns-clause-closed g c front images =
     (λ written durable. written_images _ _ _ _ _ _ front front (IsLog (front ++ c.args.end.now)) (IsShut front) (g.met.D.Disk.is_disk c.args.disk.now) images c.write_and_sync.ensures.told written durable
     (λ old new was put. written_at_end front c.args.end.now old new was (subst (λ at. Written at (0 ∷ []) old new) images.at_end put))
     images.at_end)
+
+pub returns-then-is_closed-clause-others : goal.returns-then-is_closed-clause-others
+returns-then-is_closed-clause-others g c = untouched_others area.Log (g.D.Disk.state c.args.disk.now)

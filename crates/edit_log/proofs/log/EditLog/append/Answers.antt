@@ -1,5 +1,7 @@
 -- While the body is written the log has what it had; from then on, whatever byte the gate is, with the body or without.
 use Rattle.std.proofs.Common.{refl, sym, ◌∙◌, subst}
+use Rattle.green_io.specs.declared.disk.Area.TheVariants as area
+use Rattle.green_io.proofs.Beside.{then_others}
 use Rattle.edit_log.specs.Images.{IsOpen, IsAppendable}
 use Rattle.edit_log.specs.Log.{gated}
 use Rattle.entry_codec.specs.Format.{body_of}
@@ -62,3 +64,11 @@ returns-clause-done g c entries entry appendable opened =
       idle = log.idle;
       images = appended _ _ _ entries entry c.as_slice-bytes.result.now c.body_says_length.ensures bytes log.images.at_end c.saturating_add-self-inside.ensures images;
     }
+
+pub returns-in_default-open_gate-clause-others : goal.returns-in_default-open_gate-clause-others
+returns-in_default-open_gate-clause-others g c =
+    then_others area.Log _ _ _ (g.met.D.Disk.is_disk c.stage.new.disk) c.in-Ok.ensures.others c.in_default-open_gate.ensures.others
+
+pub returns-clause-others : goal.returns-clause-others
+returns-clause-others g c =
+    then_others area.Log _ _ _ (g.met.D.Disk.is_disk c.stage.new.disk) c.in-Ok.ensures.others c.in-Ok-open_gate.ensures.others

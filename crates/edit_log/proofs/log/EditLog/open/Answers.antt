@@ -1,7 +1,9 @@
 -- The log is read as it stands, and its end gate is closed behind what was read.
 use Rattle.std.proofs.Common.{◌≡◌, ℕ, List, refl, sym, subst}
 use Rattle.febe_data.specs.Plain.{plain_history}
+use Rattle.green_io.specs.declared.disk.Area.TheVariants as area
 use Rattle.green_io.specs.Disk.{WhereTold}
+use Rattle.green_io.proofs.Beside.{looked_others, then_others}
 use Rattle.edit_log.specs.Log.{gated, HasEntries, IsEnd}
 use Rattle.edit_log.specs.inside.Scan.{HasScanned}
 use Rattle.edit_log.proofs.Opens.{stable_images, closing_holds, told_read}
@@ -41,3 +43,15 @@ returns-clause-stands g c told =
     let read = subst (λ (l : List ℕ). WhereTold (g.D.Disk.state c.args.disk.now).reads (λ areas. l ≡ areas.log)) (sym c.as_slice-bytes.ensures) c.in_ok-bytes.ensures.bytes in
     let images = stable_images (g.D.Disk.state c.args.disk.now) (g.D.Disk.state c.read_stable.new.disk) c.in-Ends.at bytes (gated scanned) end c.read_stable.ensures.reads told read c.in_ok-bytes.ensures.durable found.1 has.parts in
     record { idle = refl; images = c.in-Ok-close_end.ensures.closed (gated scanned) images }
+
+pub returns-in_default-close_end-clause-others : goal.returns-in_default-close_end-clause-others
+returns-in_default-close_end-clause-others g c =
+    then_others area.Log _ (g.D.Disk.state c.read_stable.new.disk) _ (g.met.D.Disk.is_disk c.read_stable.new.disk)
+    (looked_others area.Log _ _ c.read_stable.ensures.reads c.read_stable.ensures.crash)
+    c.in_default-close_end.ensures.others
+
+pub returns-clause-others : goal.returns-clause-others
+returns-clause-others g c =
+    then_others area.Log _ (g.D.Disk.state c.read_stable.new.disk) _ (g.met.D.Disk.is_disk c.read_stable.new.disk)
+    (looked_others area.Log _ _ c.read_stable.ensures.reads c.read_stable.ensures.crash)
+    c.in-Ok-close_end.ensures.others
