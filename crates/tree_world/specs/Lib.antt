@@ -2,4 +2,5 @@ pub use Rattle.world_rules.specs.FlatView
 pub use Rattle.world_rules.specs.World
 pub mod Trees
 pub mod Standing
+pub mod Changed
 pub mod inside

@@ -1,23 +1,26 @@
 -- A world in trees and tables, as contracts see it.
-use Rattle.std.specs.Prelude.{ℕ, List, [], Option, Some, None}
+use Rattle.std.specs.Prelude.{◌≡◌, ℕ, ◌≤◌, List, [], All, Option, Some, None}
 use Rattle.enfilade_core.specs.declared.tree.Node.{Node}
 use Rattle.enfilade_core.specs.Rows.{Shape, rows_of}
-use Rattle.granfilade.specs.Content.{ContentTree}
+use Rattle.granfilade.specs.Content.{ContentTree, ByteAt, content}
 use Rattle.poom.specs.Laid as laid
 use Rattle.doc_table.specs.declared.rows.DocumentRow.{DocumentRow}
-use Rattle.doc_table.specs.DocumentRows.{root_in}
+use Rattle.doc_table.specs.DocumentRows.{root_in, content_in}
 use Rattle.access_table.specs.AccessRows.{AccessRows}
+use Rattle.spanfilade.specs.Index.{IndexTree}
 use Rattle.links.specs.LinkLists.{LinkLists}
 use Rattle.world_rules.specs.declared.rows.SessionRow.{SessionRow}
+use Rattle.world_rules.specs.World.{content_address}
 
 -- the tree of contents and how many bytes it has, the nodes of all documents' trees, the table of documents with their
--- roots, the links and the indexes of their ends, who has what open, how many entries are counted, and how many each
--- session has
+-- roots, the index of documents by the content that came into them, the links and the indexes of their ends, what each
+-- session has open and its account, how many entries are counted, and how many each session has
 pub record Trees : Type 0 where
   pub contents : ContentTree
   pub content : ℕ
   pub nodes : List (Shape ℕ)
   pub documents : List (DocumentRow Node)
+  pub index : IndexTree
   pub links : LinkLists
   pub access : AccessRows
   pub counted : ℕ
@@ -38,3 +41,11 @@ text_in trees document = text_at trees.nodes (root_in trees.documents document)
 
 abbrev pub links_in : Trees → List ℕ → List (List ℕ)
 links_in trees document = links_at trees.nodes (root_in trees.documents document)
+
+-- a byte of a document is one of those that are counted for it
+abbrev pub IsCounted : List (DocumentRow Node) → ByteAt → Type 0
+IsCounted documents at = (document : List ℕ) (number : ℕ) → at.address ≡ content_address document number → number ≤ content_in documents document
+
+-- all are
+abbrev pub AreCounted : List (DocumentRow Node) → ContentTree → Type 0
+AreCounted documents contents = All (IsCounted documents) (content contents)

@@ -1,8 +1,26 @@
 //! The world in trees and tables: what requests ask is answered by look-ups, and an entry changes what it touches.
 #![tactic(auto, using(crate::proofs::Counted::by_session))]
 
+mod applying;
 mod counts;
+mod documents;
+mod editing;
+mod end_sets;
+mod ends;
+mod finds;
+mod indexing;
+mod inserting;
+mod link_making;
+mod linking;
 mod lookups;
+mod making;
+mod numbers;
+mod picking;
+mod positions;
+mod relating;
+mod retrieving;
+mod run_spans;
+mod sessions;
 #[cfg(test)]
 mod tests;
 mod world;

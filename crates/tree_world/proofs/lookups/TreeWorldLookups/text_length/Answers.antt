@@ -4,7 +4,7 @@ use Rattle.tree_world.proofs.Looked.{root_stands, as_long_text, no_text}
 use Rattle.tree_world.proofs.lookups.TreeWorldLookups.text_length.Goals as goal
 
 pub length-requires : goal.length-requires
-length-requires c = record { document = root_stands c.self.inside.pooms c.self.inside.documents c.args.document.now c.in-Some.root c.self.invariant c.in-Some.ensures }
+length-requires c = record { document = root_stands c.self.inside.pooms c.self.inside.documents c.args.document.now c.in-Some.root c.self.invariant.0 c.in-Some.ensures }
 
 pub returns-in-Some : goal.returns-in-Some
 returns-in-Some c view stands = c.length.ensures ∙ as_long_text _ c.args.self.now view c.args.document.now c.in-Some.root c.self.view_is c.in-Some.ensures stands

@@ -1,0 +1,147 @@
+-- Links that runs meet are the links that are wanted.
+use Rattle.std.proofs.Common.{◌≡◌, ◌∙◌, ℕ, ◌<◌, ◌&&◌, Bool, true, false, not, List, [], ◌∷◌, length, take, map, Option, Some, None, cond, refl, sym, ap, subst, All, IsPermutation}
+use Rattle.std.specs.Prelude.{filter, is_none, count_by}
+use Rattle.std.specs.List.{list_any}
+use Rattle.std.specs.Option.{is_some, option_map}
+use Rattle.std.specs.List.Sorted.{IsStrictlySortedBy}
+use Rattle.std.specs.Ordering.{nat_cmp, is_eq}
+use Rattle.std.specs.Cmp.Lexicographic.{slice_cmp, nat_list_cmp_total}
+use Rattle.std.proofs.lemmas.List.{length-map}
+use Rattle.std.proofs.lemmas.List.Sorted.{list_any-IsPermutation, sum_by-IsPermutation}
+use Rattle.std.proofs.lemmas.List.Sums.{length-filter}
+use Rattle.std.proofs.lemmas.Map.Lookups.{btree_set_from_contains}
+use Rattle.tumbler.specs.ListView.{ListView}
+use Rattle.tumbler.specs.Places.{comes_before}
+use Rattle.tumbler.specs.declared.span.Span.{Span}
+use Rattle.tumbler.proofs.Order.{same_if_tied}
+use Rattle.febe_data.specs.declared.run.Run.{Run}
+use Rattle.febe_data.specs.Plain.{PlainSpec, PlainWant}
+use Rattle.spanfilade.proofs.Ascending.{among, with_keys-among, with_keys-ascends, none_ascends}
+use Rattle.links.specs.declared.row.WantedEnds.{WantedEnds}
+use Rattle.links.specs.LinkLists.{LinkLists, IsRun, IsLink, run_span, ids_in, is_of, link_in}
+use Rattle.links.specs.Finding.{spans_meet, is_end_met, given, found_in}
+use Rattle.links.specs.Finding as met
+use Rattle.links.proofs.Searched.{ids_kept, among_chosen}
+use Rattle.world_rules.specs.declared.lookups.WantedRuns.{WantedRuns}
+use Rattle.world_rules.specs.World.{World, LinkRow, is_same, ascending}
+use Rattle.world_rules.specs.Picking.{runs_of}
+use Rattle.world_rules.specs.Finding.{is_home_wanted, is_end_wanted, is_wanted, links_found, ids_found, ids_after, link_at}
+use Rattle.world_rules.specs.FlatView.{FlatView}
+use Rattle.world_rules.specs.Wanted.{AreWantedRuns}
+use Rattle.tree_world.specs.Trees.{Trees}
+use Rattle.tree_world.specs.Standing.{Stands}
+use Rattle.tree_world.specs.inside.Met.{IsWantedEnd, AreWantedEnds}
+use Rattle.tree_world.proofs.Lists.{filter_alike, any_alike, any_across, none_any, any_map, found_or_not, none_passes, whole_front, all_pass}
+use Rattle.tree_world.proofs.Places.{shares_byte, runs_met}
+use Rattle.tree_world.proofs.SharedRuns.{share_bytes, specs_share}
+
+-- ---- one end
+
+spans_share : (picked runs : List Run) → All IsRun picked → All IsRun runs → list_any (λ run. list_any (λ span. spans_meet span (run_span run)) (map run_span picked)) runs ≡ share_bytes picked runs
+spans_share picked runs right right' =
+    (λ i. list_any (λ run. any_map (λ span. spans_meet span (run_span run)) run_span picked i) runs)
+    ∙ any_alike (λ run. list_any (λ other. spans_meet (run_span other) (run_span run)) picked) (λ run. list_any (λ other. shares_byte other run) picked) runs
+    (λ k d lt. any_alike _ _ picked (λ j e lt'. runs_met _ _ (right j e lt') (right' k d lt)))
+    ∙ any_across (λ run other. shares_byte other run) runs picked
+
+end_met : (world : World) (specs : List PlainSpec) (picked runs : List Run) (made : Option (ListView Span)) → IsWantedEnd specs picked made → picked ≡ runs_of world specs → All IsRun runs → is_end_met (given made) runs ≡ is_end_wanted world specs runs
+end_met world [] picked runs made is same right = ap (λ (spans : Option (List Span)). is_end_met spans runs) is.spans
+end_met world (spec ∷ specs) picked runs made is same right =
+    ap (λ (spans : Option (List Span)). is_end_met spans runs) is.spans ∙ spans_share picked runs is.right right ∙ ap (λ (all : List Run). share_bytes all runs) same ∙ specs_share world runs (spec ∷ specs)
+
+-- ---- links
+
+module _ (world : World) (want : PlainWant) (runs : WantedRuns) (ends : WantedEnds) (are : AreWantedEnds want runs ends) (picked : AreWantedRuns world want runs) where
+  link_met : (link : LinkRow) → IsLink link → met.is_wanted want.homes ends link ≡ is_wanted world want link
+  link_met link is = λ i.
+      is_home_wanted want.homes link.home && end_met world want.from runs.from.items link.from ends.from are.from picked.from_is is.from i && end_met world want.to runs.to.items link.to ends.to are.to picked.to_is is.to i
+      && end_met world want.three runs.three.items link.three ends.three are.three picked.three_is is.three i
+
+  links_met : (links : List LinkRow) → All IsLink links → filter (met.is_wanted want.homes ends) links ≡ filter (is_wanted world want) links
+  links_met links all = filter_alike (met.is_wanted want.homes ends) (is_wanted world want) links (λ k d lt. link_met _ (all k d lt))
+
+-- ---- their ids
+
+abbrev id_of : LinkRow → List ℕ
+id_of link = link.id
+
+-- whatever order they stand in, the ids ascend
+ids_are : (world : World) (want : PlainWant) (links : List LinkRow) → IsStrictlySortedBy (slice_cmp nat_cmp) (ids_in links) → IsPermutation links world.links → ids_found world want ≡ ids_in (filter (is_wanted world want) links)
+ids_are world want links sorted moved =
+    let some = ids_in (links_found world want) in
+    let others = ids_in (filter (is_wanted world want) links) in
+    btree_set_from_contains nat_list_cmp_total (record { keys = ascending some }) (record { keys = others }) (with_keys-ascends some [] none_ascends) (ids_kept (is_wanted world want) links sorted)
+    (λ q.
+    with_keys-among some [] q
+    ∙ among_chosen q id_of (is_wanted world want) world.links
+    ∙ sym (list_any-IsPermutation (λ link. is_wanted world want link && is_eq (slice_cmp nat_cmp q (id_of link))) links world.links moved)
+    ∙ sym (among_chosen q id_of (is_wanted world want) links)) same_if_tied
+
+pub found_after : (held : LinkLists) (shown : Trees) (view : FlatView) (want : PlainWant) (runs : WantedRuns) (ends : WantedEnds) (after : List ℕ) (limit : ℕ) (found : List (List ℕ)) → held ≡ shown.links → Stands shown view
+    → IsStrictlySortedBy (slice_cmp nat_cmp) (ids_in held.links) → All IsLink held.links → AreWantedRuns view.world want runs → AreWantedEnds want runs ends → found ≡ found_in held.links want.homes ends after limit
+    → found ≡ ids_after view.world want after limit
+found_after held shown view want runs ends after limit found same stands sorted all picked are is =
+    let moved = subst (λ (lists : LinkLists). IsPermutation lists.links view.world.links) (sym same) stands.link_table in
+    is
+    ∙ ap (λ (links : List LinkRow). take limit (filter (λ id. comes_before after id) (ids_in links))) (links_met view.world want runs ends are picked held.links all)
+    ∙ ap (λ (ids : List (List ℕ)). take limit (filter (λ id. comes_before after id) ids)) (sym (ids_are view.world want held.links sorted moved))
+
+-- ---- all of them
+
+least_or_not : (id : List ℕ) → is_eq (slice_cmp nat_cmp [] id) ≡ is_same id []
+least_or_not [] = refl
+least_or_not (place ∷ id) = refl
+
+above_least : (id : List ℕ) → is_eq (slice_cmp nat_cmp [] id) ≡ false → comes_before [] id ≡ true
+above_least [] e = sym e
+above_least (place ∷ id) e = refl
+
+and_no : (a b : Bool) → b ≡ false → (a && b) ≡ false
+and_no true b e = e
+and_no false b e = refl
+
+-- where no link has the least id, all ids are above it
+all_above : (world : World) (want : PlainWant) → not (is_none (link_at world [])) ≡ false → All (λ id. comes_before [] id ≡ true) (ids_found world want)
+all_above world want none =
+    let some = ids_in (links_found world want) in
+    let not_least : All (λ (link : LinkRow). is_same link.id [] ≡ false) world.links = none_passes (λ (link : LinkRow). is_same link.id []) world.links (sym (found_or_not (λ (link : LinkRow). is_same link.id []) world.links) ∙ none) in
+    let not_there : among [] (ascending some) ≡ false =
+    with_keys-among some [] []
+    ∙ among_chosen [] id_of (is_wanted world want) world.links
+    ∙ any_alike (λ link. is_wanted world want link && is_eq (slice_cmp nat_cmp [] (id_of link))) (λ link. false) world.links (λ k d lt. and_no _ _ (least_or_not _ ∙ not_least k d lt))
+    ∙ none_any world.links
+    in
+    let each = none_passes (λ id. is_eq (slice_cmp nat_cmp [] id)) (ascending some) not_there in
+    λ k d lt. above_least _ (each k d lt)
+
+pub found_all : (world : World) (want : PlainWant) (limit : ℕ) (found : List (List ℕ)) → not (is_none (link_at world [])) ≡ false → found ≡ ids_after world want [] limit → length found < limit → found ≡ ids_found world want
+found_all world want limit found none is short =
+    let above = all_pass (λ id. comes_before [] id) (ids_found world want) (all_above world want none) in
+    let front : found ≡ take limit (ids_found world want) = is ∙ ap (take limit) above in
+    front ∙ whole_front limit (ids_found world want) (subst (λ (ids : List (List ℕ)). length ids < limit) front short)
+
+-- ---- how many they are
+
+many_alike : {X : Type 0} (p : X → Bool) (xs ys : List X) → IsPermutation xs ys → count_by p xs ≡ count_by p ys
+many_alike p xs ys moved = sym (sum_by-IsPermutation (λ x. cond (p x) 1 0) xs ys moved)
+
+pub counted : (held : LinkLists) (shown : Trees) (view : FlatView) (want : PlainWant) (found : List (List ℕ)) → held ≡ shown.links → Stands shown view → IsStrictlySortedBy (slice_cmp nat_cmp) (ids_in held.links) → found ≡ ids_found view.world want
+    → length found ≡ length (links_found view.world want)
+counted held shown view want found same stands sorted is =
+    let moved = subst (λ (lists : LinkLists). IsPermutation lists.links view.world.links) (sym same) stands.link_table in
+    ap length (is ∙ ids_are view.world want held.links sorted moved)
+    ∙ length-map (filter (is_wanted view.world want) held.links) id_of
+    ∙ length-filter (is_wanted view.world want) held.links
+    ∙ many_alike (is_wanted view.world want) held.links view.world.links moved
+    ∙ sym (length-filter (is_wanted view.world want) view.world.links)
+
+-- ---- whether there is a link
+
+pub is_some_of : {X Y Z : Type 0} (f : X → Y) (g : Y → Z) (found : Option X) → is_some found ≡ not (is_none (option_map g (option_map f found)))
+is_some_of f g None = refl
+is_some_of f g (Some x) = refl
+
+pub is_there : (held : LinkLists) (shown : Trees) (view : FlatView) (id : List ℕ) → held ≡ shown.links → Stands shown view → not (is_none (link_in held.links id)) ≡ not (is_none (link_at view.world id))
+is_there held shown view id same stands =
+    let moved = subst (λ (lists : LinkLists). IsPermutation lists.links view.world.links) (sym same) stands.link_table in
+    found_or_not (is_of id) held.links ∙ list_any-IsPermutation (is_of id) held.links view.world.links moved ∙ sym (found_or_not (is_of id) view.world.links)

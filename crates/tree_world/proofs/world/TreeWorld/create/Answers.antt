@@ -1,0 +1,21 @@
+use Rattle.std.proofs.Common.{◌≡◌, ◌∙◌, refl, sym, subst}
+use Rattle.tree_world.specs.Standing.{Stands}
+use Rattle.tree_world.proofs.Roots.{taken_back}
+use Rattle.tree_world.proofs.Holds.{holds_same, holds_added}
+use Rattle.tree_world.proofs.Made.{created_as}
+use Rattle.tree_world.proofs.world.TreeWorld.create.Goals as goal
+
+pub invariant_of-self-in_default : goal.invariant_of-self-in_default
+invariant_of-self-in_default c =
+    holds_same c.self.inside.pooms _ c.self.inside.documents _ c.self.inside.contents (c.back.ensures ∙ taken_back c.self.inside.pooms c.empty.new.self c.mark-mark.result c.empty.ensures.grows c.mark-mark.ensures) c.in_default.ensures.same_documents c.self.invariant
+
+pub invariant_of-self-2 : goal.invariant_of-self-2
+invariant_of-self-2 c =
+    let may = c.if-not-may_come_in.ensures refl in
+    holds_same c.empty.new.self _ _ _ c.self.inside.contents refl c.in-Ok.ensures.documents
+    (holds_added c.self.inside.pooms c.empty.new.self c.self.inside.documents c.self.inside.contents c.self.invariant c.empty.ensures.kept c.empty.ensures.grows c.args.document.now c.in_ok-root.root c.in_ok-root.ensures.document may.address may.absent)
+
+pub returns-clause-ok : goal.returns-clause-ok
+returns-clause-ok c view stands =
+    created_as _ view (subst (λ t. Stands t view) (sym c.self.view_is) stands) c.self.invariant.0 c.args.session c.args.document.now (c.if-not-may_come_in.ensures refl) c.empty.new.self c.empty.ensures.kept c.empty.ensures.grows c.in_ok-root.root c.in_ok-root.ensures.document
+    c.add_open.new.documents c.add_open.new.access _ c.in-Ok.ensures.documents c.in-Ok.ensures.access c.in_ok-counted.ensures c.in_ok-root.ensures.nothing

@@ -1,0 +1,35 @@
+use Rattle.std.proofs.Common.{◌∙◌, ℕ, ◌+◌, map, ap, refl, sym, subst}
+use Rattle.febe_data.specs.Plain.{plain_spec, plain_specs}
+use Rattle.links.specs.LinkLists.{plain_link}
+use Rattle.world_rules.specs.Apply.{link_between}
+use Rattle.tree_world.specs.Standing.{Stands}
+use Rattle.tree_world.proofs.Tables.{has_some}
+use Rattle.tree_world.proofs.Roots.{root_stands}
+use Rattle.tree_world.proofs.Holds.{holds_same, holds_rooted}
+use Rattle.tree_world.proofs.LinkMade.{made_in, lacks_it}
+use Rattle.tree_world.proofs.world.TreeWorld.make_link.Goals as goal
+
+pub links-count-requires : goal.links-count-requires
+links-count-requires c = record { document = root_stands c.self.inside.pooms c.self.inside.documents c.args.home.now c.in-Some.root c.self.invariant.0 (sym c.in-Some.ensures) }
+
+pub come_in-requires-clause-root : goal.come_in-requires-clause-root
+come_in-requires-clause-root c = root_stands c.self.inside.pooms c.self.inside.documents c.args.home.now c.in-Some.root c.self.invariant.0 (sym c.in-Some.ensures)
+
+pub come_in-requires-clause-absent : goal.come_in-requires-clause-absent
+come_in-requires-clause-absent c = lacks_it c.self.inside.links.links c.in_ok-link.link.id (λ link. link.now) plain_link c.get.result c.is_some.result c.get.ensures c.is_some.ensures c.if-is_some.false
+
+pub set_root-requires : goal.set_root-requires
+set_root-requires c = has_some c.self.inside.documents c.args.home.now c.in-Some.root (sym c.in-Some.ensures)
+
+pub invariant_of-self-2 : goal.invariant_of-self-2
+invariant_of-self-2 c =
+    holds_same c.come_in.new.pooms _ _ _ c.self.inside.contents refl c.set_root.ensures
+    (holds_rooted c.self.inside.pooms c.come_in.new.pooms c.self.inside.documents c.self.inside.contents c.self.invariant c.come_in.ensures.kept c.come_in.ensures.grows c.args.home.now c.in_ok-made.made c.in_ok-made.ensures.root)
+
+pub returns-clause-ok : goal.returns-clause-ok
+returns-clause-ok c view session stands =
+    made_in _ view (subst (λ t. Stands t view) (sym c.self.view_is) stands) c.self.invariant.0 c.args.home.now c.in-Some.root c.in-Some.ensures c.come_in.new.pooms c.come_in.ensures.kept c.come_in.ensures.grows c.in_ok-made.made c.in_ok-made.ensures.root c.set_root.new.self _
+    c.set_root.ensures c.in_ok-counted.ensures session c.args.number c.args.place (plain_specs c.args.from.now.items) (plain_specs c.args.to.now.items) (plain_specs c.args.three.now.items) c.come_in.new.links (plain_link c.in_ok-link.link)
+    (c.in_ok-link.ensures.value view stands ∙ (λ i. link_between view.world c.args.home.now c.args.number (map plain_spec (c.as_slice.ensures i)) (map plain_spec (c.as_slice-2.ensures i)) (map plain_spec (c.as_slice-3.ensures i))))
+    (lacks_it c.self.inside.links.links c.in_ok-link.link.id (λ link. link.now) plain_link c.get.result c.is_some.result c.get.ensures c.is_some.ensures c.if-is_some.false) c.in_ok-made.ensures.added c.in_ok-made.ensures.ends c.in_ok-made.ensures.text
+    c.in_ok-made.ensures.links (c.if-place-count.false ∙ ap (λ (n : ℕ). n + 1) c.links-count.ensures)

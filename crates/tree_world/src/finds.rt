@@ -1,0 +1,79 @@
+//! What requests ask of content and links, answered from trees.
+ghost use Rattle.std.specs.Prelude.{◌≡◌};
+
+use crate::world::TreeWorld;
+use febe_data::{Diagonal, Item, List, Run, Spec, Tumbler, Want};
+use std::alloc::Global;
+use world_rules::{End, Finds, Size, WantedRuns, WorldError};
+
+impl Finds for TreeWorld {
+    fn picked_length(&self, _alloc: Global, specs: &[Spec]) -> Result<usize, WorldError> {
+        self.picked_addresses(specs)
+    }
+
+    fn runs_up_to(
+        &self,
+        alloc: Global,
+        specs: &[Spec],
+        most: usize,
+    ) -> Result<Option<List<Run>>, WorldError> {
+        self.runs_within(alloc, specs, most)
+    }
+
+    fn retrieved_size(&self, specs: &[Spec]) -> Size {
+        self.size_of(specs)
+    }
+
+    fn retrieved(&self, alloc: Global, specs: &[Spec]) -> Result<List<Item>, WorldError> {
+        self.picked_items(alloc, specs)
+    }
+
+    fn diagonals(
+        &self,
+        alloc: Global,
+        left: &Spec,
+        right: &Spec,
+    ) -> Result<Option<List<Diagonal>>, WorldError> {
+        self.relation(alloc, left, right)
+    }
+
+    fn documents_found(&self, alloc: Global, specs: &[Spec]) -> Result<List<Tumbler>, WorldError> {
+        self.documents_with(alloc, specs)
+    }
+
+    fn links_found(&self, want: &Want, runs: &WantedRuns) -> Result<u32, WorldError> {
+        self.count_links(want, runs)
+    }
+
+    fn ids_found(
+        &self,
+        alloc: Global,
+        want: &Want,
+        runs: &WantedRuns,
+    ) -> Result<List<Tumbler>, WorldError> {
+        self.link_ids(alloc, want, runs)
+    }
+
+    fn ids_after(
+        &self,
+        alloc: Global,
+        want: &Want,
+        runs: &WantedRuns,
+        after: &Tumbler,
+        limit: u32,
+    ) -> Result<List<Tumbler>, WorldError> {
+        self.link_ids_after(alloc, want, runs, after, limit)
+    }
+
+    fn has_link(&self, id: &Tumbler) -> bool {
+        self.is_link(id)
+    }
+
+    fn end_now(&self, alloc: Global, id: &Tumbler, end: End) -> Result<List<Spec>, WorldError> {
+        self.end_specs(alloc, id, end)
+    }
+
+    fn end_set(&self, alloc: Global, end: End, specs: &[Spec]) -> Result<List<Spec>, WorldError> {
+        self.specs_in_end(alloc, end, specs)
+    }
+}

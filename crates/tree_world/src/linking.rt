@@ -1,0 +1,158 @@
+//! Which links are wanted, found in the table of links.
+ghost use Rattle.std.specs.Prelude.{◌≡◌, length, map, not, is_none, All, IfOk, IsTrue};
+ghost use Rattle.tumbler.specs.Places.{IsTumbler};
+ghost use Rattle.tumbler.specs.Span.{SpanFits};
+ghost use Rattle.febe_data.specs.Plain.{plain_spec, plain_want};
+ghost use Rattle.links.specs.LinkLists.{IsRun, run_span};
+ghost use Rattle.world_rules.specs.FlatView.{FlatView};
+ghost use Rattle.world_rules.specs.Finding.{links_found, ids_found, ids_after, link_at};
+ghost use Rattle.world_rules.specs.Wanted.{AreWantedRuns};
+ghost use Rattle.tree_world.specs.Standing.{Stands};
+ghost use Rattle.tree_world.specs.inside.Met.{IsWantedEnd, AreWantedEnds};
+
+use crate::world::TreeWorld;
+use febe_data::{List, Run, Span, Spec, Tumbler, Want};
+use links::{WantedEnds, run_span};
+use std::alloc::Global;
+use world_rules::{WantedRuns, WorldError};
+
+/// The addresses of the run's bytes. What is no run of a document's content has none.
+pub(crate) fn span_of_run(run: &Run) -> Result<Span, WorldError>
+    ensures right { IfOk result (λ span. IsRun run.now) }
+    ensures value { IfOk result (λ span. span ≡ run_span run.now) }
+    ensures fits { IfOk result SpanFits }
+{
+    if !run.content.is_document() {
+        return Err(WorldError::NoTumbler);
+    }
+    if run.first == 0 || run.length == 0 {
+        return Err(WorldError::NoTumbler);
+    }
+    if run.length > u32::MAX - run.first {
+        return Err(WorldError::NoTumbler);
+    }
+    Ok(run_span(run))
+}
+
+/// Those of each run, in the order of the runs.
+fn spans_of_runs(alloc: Global, runs: &[Run]) -> Result<List<Span>, WorldError>
+    ensures right { IfOk result (λ made. All IsRun runs.now) }
+    ensures value { IfOk result (λ made. made.items ≡ map run_span runs.now) }
+    ensures fits { IfOk result (λ made. All SpanFits made.items) }
+{
+    let mut made = List::new(alloc);
+    for run in runs {
+        made.push(span_of_run(run)?)?;
+    }
+    Ok(made)
+}
+
+/// What an end has to meet: the runs that its specs pick, or anything where there is no spec.
+fn wanted_end(alloc: Global, specs: &[Spec], runs: &[Run]) -> Result<Option<List<Span>>, WorldError>
+    ensures { IfOk result (IsWantedEnd (map plain_spec specs.now) runs.now) }
+{
+    if specs.is_empty() {
+        return Ok(None);
+    }
+    let spans = spans_of_runs(alloc, runs)?;
+    Ok(Some(spans))
+}
+
+/// What each end has to meet.
+fn wanted_ends(alloc: Global, want: &Want, runs: &WantedRuns) -> Result<WantedEnds, WorldError>
+    ensures { IfOk result (AreWantedEnds (plain_want want.now) runs.now) }
+{
+    let from = wanted_end(alloc, want.from.as_slice(), runs.from.as_slice())?;
+    let to = wanted_end(alloc, want.to.as_slice(), runs.to.as_slice())?;
+    let three = wanted_end(alloc, want.three.as_slice(), runs.three.as_slice())?;
+    Ok(WantedEnds { from, to, three })
+}
+
+/// Whether the end of each span is a tumbler.
+pub(crate) fn all_fit(spans: &[Span]) -> bool
+    ensures { IsTrue result → All SpanFits spans.now }
+{
+    for span in spans {
+        if !span.fits() {
+            return false;
+        }
+    }
+    true
+}
+
+/// Each is a tumbler, which callers are to know of all together.
+fn are_tumblers(tumblers: &[Tumbler])
+    ensures { All IsTumbler tumblers.now }
+{
+    for tumbler in tumblers {
+        let _ = tumbler.places();
+    }
+}
+
+impl TreeWorld {
+    /// Whether there is a link of that id.
+    pub(crate) fn is_link(&self, id: &Tumbler) -> bool
+        ensures { (view : FlatView) → Stands self.now view → result ≡ not (is_none (link_at view.world id.now)) }
+    {
+        self.links.get(id).is_some()
+    }
+
+    /// The first so many ids above the tumbler, of the links that are wanted.
+    pub(crate) fn link_ids_after(
+        &self,
+        alloc: Global,
+        want: &Want,
+        runs: &WantedRuns,
+        after: &Tumbler,
+        limit: u32,
+    ) -> Result<List<Tumbler>, WorldError>
+        requires { (view : FlatView) → Stands self.now view → AreWantedRuns view.world (plain_want want.now) runs.now }
+        ensures items { (view : FlatView) → Stands self.now view → IfOk result (λ made. made.items ≡ ids_after view.world (plain_want want.now) after.now limit) }
+        ensures valid { IfOk result (λ made. All IsTumbler made.items) }
+    {
+        if !all_fit(want.homes.as_slice()) {
+            return Err(WorldError::NoTumbler);
+        }
+        let ends = wanted_ends(alloc, want, runs)?;
+        self.links.in_order();
+        let found = self.links.find(alloc, &want.homes, &ends, after, limit)?;
+        are_tumblers(found.as_slice());
+        Ok(found)
+    }
+
+    /// The ids of the links that are wanted, ascending. No link has the tumbler of no places as its id.
+    pub(crate) fn link_ids(
+        &self,
+        alloc: Global,
+        want: &Want,
+        runs: &WantedRuns,
+    ) -> Result<List<Tumbler>, WorldError>
+        requires { (view : FlatView) → Stands self.now view → AreWantedRuns view.world (plain_want want.now) runs.now }
+        ensures items { (view : FlatView) → Stands self.now view → IfOk result (λ made. made.items ≡ ids_found view.world (plain_want want.now)) }
+        ensures valid { IfOk result (λ made. All IsTumbler made.items) }
+    {
+        let least = Tumbler::zero(alloc);
+        if self.is_link(&least) {
+            return Err(WorldError::NoTumbler);
+        }
+        let found = self.link_ids_after(alloc, want, runs, &least, u32::MAX)?;
+        if found.len() >= u32::MAX as usize {
+            return Err(WorldError::TooGreat);
+        }
+        Ok(found)
+    }
+
+    /// How many links are wanted.
+    pub(crate) fn count_links(&self, want: &Want, runs: &WantedRuns) -> Result<u32, WorldError>
+        requires { (view : FlatView) → Stands self.now view → AreWantedRuns view.world (plain_want want.now) runs.now }
+        ensures { (view : FlatView) → Stands self.now view → IfOk result (λ count. count ≡ length (links_found view.world (plain_want want.now))) }
+    {
+        self.links.in_order();
+        let found = self.link_ids(self.alloc, want, runs)?;
+        let count = found.len();
+        if count > u32::MAX as usize {
+            return Err(WorldError::TooGreat);
+        }
+        Ok(count as u32)
+    }
+}
