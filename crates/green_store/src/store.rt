@@ -4,9 +4,9 @@ ghost use Rattle.std.specs.List.{list_any};
 
 use crate::step::{Step, StepAnswer};
 use febe_data::{Change, Entry, Limits, List, Memory, Refusal, Reply, Request, Tumbler};
-use flat_world::FlatWorld;
 use std::alloc::Global;
 use std::marker::Model;
+use tree_world::TreeWorld;
 use world_rules::{Applies, Effect, Served};
 
 /// A history that begins with a restart, and the world that it has built, to which each entry is applied once. Any world
@@ -22,8 +22,8 @@ pub struct StoreOver<W: Applies> {
     limits: Limits,
 }
 
-/// The store of a back end that keeps its world as plain lists.
-pub type Store = StoreOver<FlatWorld>;
+/// The store of a back end that keeps its world in trees and tables.
+pub type Store = StoreOver<TreeWorld>;
 
 impl<W: Applies> Model for StoreOver<W> {
     ghost use Rattle.febe_data.specs.Plain.{plain_history};
@@ -37,7 +37,7 @@ impl<W: Applies> Model for StoreOver<W> {
     ghost invariant = { λ s. IsStore (plain_history s.history.items) s.history.spare (W.stands s.world) s.live.items s.greatest };
 }
 
-impl StoreOver<FlatWorld> {
+impl StoreOver<TreeWorld> {
     ghost use Rattle.world_rules.specs.History.{restart_entry};
 
     /// A store of a back end that has just begun.
@@ -45,14 +45,15 @@ impl StoreOver<FlatWorld> {
         ensures history { IfOk result (λ store. store.history ≡ restart_entry ∷ []) }
         ensures limits { IfOk result (λ store. store.limits ≡ limits) }
     {
-        StoreOver::over(alloc, FlatWorld::new(alloc), limits)
+        let world = TreeWorld::new(alloc)?;
+        StoreOver::over(alloc, world, limits)
     }
 }
 
 impl<W: Applies + Drop> StoreOver<W> {
     ghost use Rattle.febe_data.specs.Plain.{plain_history};
     ghost use Rattle.world_rules.specs.Apply.{world_of};
-    ghost use Rattle.world_rules.specs.FlatView.{nothing_yet};
+    ghost use Rattle.world_rules.specs.FlatView.{nothing_yet, view_of};
     ghost use Rattle.world_rules.specs.History.{restart_entry};
     ghost use Rattle.world_rules.specs.Holding.{holder};
     ghost use Rattle.green_store.specs.IsStep.{IsStep};
@@ -98,6 +99,13 @@ impl<W: Applies + Drop> StoreOver<W> {
         ensures { plain_history result.now.items ≡ self.now.history }
     {
         &self.history
+    }
+
+    /// The world that the history has built.
+    pub fn world(&self) -> &W
+        ensures { W.stands result.now (view_of self.now.history) }
+    {
+        &self.world
     }
 
     /// The session that has the document open for writing, if one has.
