@@ -1,0 +1,3 @@
+pub mod Ascends
+pub mod Entries
+pub mod Turns

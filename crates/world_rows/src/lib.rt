@@ -1,0 +1,15 @@
+//! Worlds that short histories make: what each look-up is told, by whatever answers, and which entries fit.
+#![tactic(auto)]
+
+#[cfg(test)]
+mod fitting;
+#[cfg(test)]
+mod found;
+#[cfg(test)]
+mod histories;
+#[cfg(test)]
+mod looked;
+#[cfg(test)]
+mod turned;
+#[cfg(test)]
+mod worlds;
