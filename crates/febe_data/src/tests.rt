@@ -3,6 +3,7 @@ ghost use Rattle.std.specs.Prelude.{◌<◌};
 
 use super::*;
 use std::alloc::Global;
+use std::process::Abort;
 use std::test::Fail;
 
 /// The tumbler of that one place.
@@ -103,30 +104,42 @@ fn is_want(want: &Want, n: u32) -> bool {
         && are_specs(&want.three, 53)
 }
 
-/// Requests that change documents, each with numbers of its own.
-fn changing(alloc: Global) -> Result<List<Request>, Memory> {
-    let mut requests = List::new(alloc);
-    requests.push(Request::Insert {
+fn insert_of(alloc: Global) -> Result<Request, Memory> {
+    let text = List::from_slice(alloc, b"hello")?;
+    Ok(Request::Insert {
         document: made(alloc, 1),
         at: made(alloc, 2),
-        text: List::from_slice(alloc, b"hello")?,
-    })?;
-    requests.push(Request::Copy {
+        text,
+    })
+}
+
+fn copy_of(alloc: Global) -> Result<Request, Memory> {
+    let specs = specs_of(alloc, 5)?;
+    Ok(Request::Copy {
         document: made(alloc, 3),
         at: made(alloc, 4),
-        specs: specs_of(alloc, 5)?,
-    })?;
-    requests.push(Request::Rearrange {
+        specs,
+    })
+}
+
+fn rearrange_of(alloc: Global) -> Result<Request, Memory> {
+    let cuts = tumblers_of(alloc, 7)?;
+    Ok(Request::Rearrange {
         document: made(alloc, 6),
-        cuts: tumblers_of(alloc, 7)?,
-    })?;
-    requests.push(Request::CreateLink {
+        cuts,
+    })
+}
+
+fn create_link_of(alloc: Global) -> Result<Request, Memory> {
+    let from = specs_of(alloc, 9)?;
+    let to = specs_of(alloc, 10)?;
+    let three = specs_of(alloc, 11)?;
+    Ok(Request::CreateLink {
         home: made(alloc, 8),
-        from: specs_of(alloc, 9)?,
-        to: specs_of(alloc, 10)?,
-        three: specs_of(alloc, 11)?,
-    })?;
-    Ok(requests)
+        from,
+        to,
+        three,
+    })
 }
 
 fn is_changing(request: &Request) -> bool {
@@ -150,34 +163,19 @@ fn is_changing(request: &Request) -> bool {
     }
 }
 
-/// Requests that look, each with numbers of its own.
-fn looking(alloc: Global) -> Result<List<Request>, Memory> {
-    let mut requests = List::new(alloc);
-    requests.push(Request::Retrieve {
-        specs: specs_of(alloc, 21)?,
-    })?;
-    requests.push(Request::Relate {
-        left: spec_of(alloc, 22)?,
-        right: spec_of(alloc, 23)?,
-    })?;
-    requests.push(Request::FindDocuments {
-        specs: specs_of(alloc, 24)?,
-    })?;
-    requests.push(Request::EndSets {
-        specs: specs_of(alloc, 25)?,
-    })?;
-    requests.push(Request::CountLinks {
-        want: want_of(alloc, 26)?,
-    })?;
-    requests.push(Request::FindLinks {
-        want: want_of(alloc, 27)?,
-    })?;
-    requests.push(Request::NextLinks {
-        want: want_of(alloc, 28)?,
+fn relate_of(alloc: Global) -> Result<Request, Memory> {
+    let left = spec_of(alloc, 22)?;
+    let right = spec_of(alloc, 23)?;
+    Ok(Request::Relate { left, right })
+}
+
+fn next_links_of(alloc: Global) -> Result<Request, Memory> {
+    let want = want_of(alloc, 28)?;
+    Ok(Request::NextLinks {
+        want,
         after: made(alloc, 29),
         limit: 30,
-    })?;
-    Ok(requests)
+    })
 }
 
 fn is_looking(request: &Request) -> bool {
@@ -195,30 +193,28 @@ fn is_looking(request: &Request) -> bool {
     }
 }
 
-/// Replies that hold lists, each with numbers of its own.
-fn replies(alloc: Global) -> Result<List<Reply>, Memory> {
-    let mut replies = List::new(alloc);
+fn items_of(alloc: Global) -> Result<List<Item>, Memory> {
+    let text = List::from_slice(alloc, b"abc")?;
     let mut items = List::new(alloc);
-    items.push(Item::Bytes(List::from_slice(alloc, b"abc")?))?;
+    items.push(Item::Bytes(text))?;
     items.push(Item::Link(made(alloc, 1)))?;
-    replies.push(Reply::Retrieved(items))?;
-    replies.push(Reply::SpanSet(spans_of(alloc, 2)?))?;
+    Ok(items)
+}
+
+fn diagonals_of(alloc: Global) -> Result<List<Diagonal>, Memory> {
     let diagonal = Diagonal {
         left: 3,
         right: 4,
         length: 5,
     };
-    replies.push(Reply::Related(List::from_slice(alloc, &[diagonal.copy()])?))?;
-    replies.push(Reply::Followed(specs_of(alloc, 6)?))?;
-    replies.push(Reply::Documents(tumblers_of(alloc, 7)?))?;
-    replies.push(Reply::EndSets {
-        from: specs_of(alloc, 8)?,
-        to: specs_of(alloc, 9)?,
-        three: specs_of(alloc, 10)?,
-    })?;
-    replies.push(Reply::Links(tumblers_of(alloc, 11)?))?;
-    replies.push(Reply::NextLinks(tumblers_of(alloc, 12)?))?;
-    Ok(replies)
+    List::from_slice(alloc, &[diagonal.copy()])
+}
+
+fn end_sets_of(alloc: Global) -> Result<Reply, Memory> {
+    let from = specs_of(alloc, 8)?;
+    let to = specs_of(alloc, 9)?;
+    let three = specs_of(alloc, 10)?;
+    Ok(Reply::EndSets { from, to, three })
 }
 
 fn are_items(items: &List<Item>) -> bool {
@@ -254,33 +250,45 @@ fn is_reply(reply: &Reply) -> bool {
     }
 }
 
-/// Changes that hold lists, each with numbers of its own.
-fn changes(alloc: Global) -> Result<List<Change>, Memory> {
-    let mut changes = List::new(alloc);
-    changes.push(Change::Insert {
+fn inserted(alloc: Global) -> Result<Change, Memory> {
+    let text = List::from_slice(alloc, b"abc")?;
+    Ok(Change::Insert {
         document: made(alloc, 1),
         at: 4,
         first: 9,
-        text: List::from_slice(alloc, b"abc")?,
-    })?;
-    changes.push(Change::Rearrange {
+        text,
+    })
+}
+
+fn rearranged(alloc: Global) -> Result<Change, Memory> {
+    let cuts = List::from_slice(alloc, &[2, 3, 5])?;
+    Ok(Change::Rearrange {
         document: made(alloc, 2),
-        cuts: List::from_slice(alloc, &[2, 3, 5])?,
-    })?;
-    changes.push(Change::Copy {
+        cuts,
+    })
+}
+
+fn copied(alloc: Global) -> Result<Change, Memory> {
+    let specs = specs_of(alloc, 4)?;
+    Ok(Change::Copy {
         document: made(alloc, 3),
         at: 6,
-        specs: specs_of(alloc, 4)?,
-    })?;
-    changes.push(Change::Link {
+        specs,
+    })
+}
+
+fn linked(alloc: Global) -> Result<Change, Memory> {
+    let from = specs_of(alloc, 6)?;
+    let to = specs_of(alloc, 7)?;
+    let three = specs_of(alloc, 8)?;
+    Ok(Change::Link {
         home: made(alloc, 5),
         number: 7,
         place: 8,
-        from: specs_of(alloc, 6)?,
-        to: specs_of(alloc, 7)?,
-        three: specs_of(alloc, 8)?,
-    })?;
-    Ok(changes)
+        from,
+        to,
+        three,
+    })
 }
 
 fn is_change(change: &Change) -> bool {
@@ -372,36 +380,84 @@ fn copies(rt: HostRuntime) {
     assert!(rt; copy.first == 3 && copy.length == 5);
 }
 
+fn check_changing(rt: &impl Abort, alloc: Global, request: Request) -> Result<(), Memory> {
+    let copy = request.try_clone(alloc)?;
+    assert!(rt; is_changing(&copy));
+    Ok(())
+}
+
 #[test]
-fn clones_of_requests(rt: HostRuntime) -> Result<(), Fail> {
-    for request in changing(rt.alloc())?.as_slice() {
-        assert!(rt; is_changing(&request.try_clone(rt.alloc())?));
-    }
-    for request in looking(rt.alloc())?.as_slice() {
-        assert!(rt; is_looking(&request.try_clone(rt.alloc())?));
-    }
+fn clones_of_changing_requests(rt: HostRuntime) -> Result<(), Fail> {
+    let alloc = rt.alloc();
+    check_changing(&rt, alloc, insert_of(alloc)?)?;
+    check_changing(&rt, alloc, copy_of(alloc)?)?;
+    check_changing(&rt, alloc, rearrange_of(alloc)?)?;
+    check_changing(&rt, alloc, create_link_of(alloc)?)?;
+    Ok(())
+}
+
+fn check_looking(rt: &impl Abort, alloc: Global, request: Request) -> Result<(), Memory> {
+    let copy = request.try_clone(alloc)?;
+    assert!(rt; is_looking(&copy));
+    Ok(())
+}
+
+#[test]
+fn clones_of_looking_requests(rt: HostRuntime) -> Result<(), Fail> {
+    let alloc = rt.alloc();
+    let specs = specs_of(alloc, 21)?;
+    check_looking(&rt, alloc, Request::Retrieve { specs })?;
+    check_looking(&rt, alloc, relate_of(alloc)?)?;
+    let specs = specs_of(alloc, 24)?;
+    check_looking(&rt, alloc, Request::FindDocuments { specs })?;
+    let specs = specs_of(alloc, 25)?;
+    check_looking(&rt, alloc, Request::EndSets { specs })?;
+    let want = want_of(alloc, 26)?;
+    check_looking(&rt, alloc, Request::CountLinks { want })?;
+    let want = want_of(alloc, 27)?;
+    check_looking(&rt, alloc, Request::FindLinks { want })?;
+    check_looking(&rt, alloc, next_links_of(alloc)?)?;
+    Ok(())
+}
+
+fn check_reply(rt: &impl Abort, alloc: Global, reply: Reply) -> Result<(), Memory> {
+    let copy = reply.try_clone(alloc)?;
+    assert!(rt; is_reply(&copy));
     Ok(())
 }
 
 #[test]
 fn clones_of_replies(rt: HostRuntime) -> Result<(), Fail> {
-    for reply in replies(rt.alloc())?.as_slice() {
-        assert!(rt; is_reply(&reply.try_clone(rt.alloc())?));
-    }
+    let alloc = rt.alloc();
+    check_reply(&rt, alloc, Reply::Retrieved(items_of(alloc)?))?;
+    check_reply(&rt, alloc, Reply::SpanSet(spans_of(alloc, 2)?))?;
+    check_reply(&rt, alloc, Reply::Related(diagonals_of(alloc)?))?;
+    check_reply(&rt, alloc, Reply::Followed(specs_of(alloc, 6)?))?;
+    check_reply(&rt, alloc, Reply::Documents(tumblers_of(alloc, 7)?))?;
+    check_reply(&rt, alloc, end_sets_of(alloc)?)?;
+    check_reply(&rt, alloc, Reply::Links(tumblers_of(alloc, 11)?))?;
+    check_reply(&rt, alloc, Reply::NextLinks(tumblers_of(alloc, 12)?))?;
+    Ok(())
+}
+
+fn check_change(rt: &impl Abort, alloc: Global, change: Change) -> Result<(), Memory> {
+    let entry = Entry {
+        session: 2,
+        serial: 7,
+        change,
+    };
+    let copy = entry.try_clone(alloc)?;
+    assert!(rt; copy.session == 2 && copy.serial == 7 && is_change(&copy.change));
     Ok(())
 }
 
 #[test]
 fn clones_of_entries(rt: HostRuntime) -> Result<(), Fail> {
-    for change in changes(rt.alloc())?.as_slice() {
-        let entry = Entry {
-            session: 2,
-            serial: 7,
-            change: change.try_clone(rt.alloc())?,
-        };
-        let copy = entry.try_clone(rt.alloc())?;
-        assert!(rt; copy.session == 2 && copy.serial == 7 && is_change(&copy.change));
-    }
+    let alloc = rt.alloc();
+    check_change(&rt, alloc, inserted(alloc)?)?;
+    check_change(&rt, alloc, rearranged(alloc)?)?;
+    check_change(&rt, alloc, copied(alloc)?)?;
+    check_change(&rt, alloc, linked(alloc)?)?;
     Ok(())
 }
 
