@@ -26,6 +26,7 @@ pub mod ExchangeBranches
 pub mod ExchangeNodes
 pub mod PackedOrigins
 pub mod PackedNode
+pub mod Stood
 pub mod PackedRows
 pub mod PackedBranches
 pub mod SeenPlaces

@@ -32,7 +32,7 @@ pub record Grows {L : Type 0} (old new : List (Shape L)) : Type 0 where
   pub more : List (Shape L)
   pub is : new ≡ old ++ more
 
--- ---- how an exchange goes through a tree; only private functions cite these
+-- ---- how nodes are taken apart and made anew; only functions that copy paths cite these
 
 -- a node seen from a base: all that is below it fits there
 pub record IsRightAt {L : Type 0} (w : Widths L) (nodes : List (Shape L)) (k : ℕ) (a b : List ℕ) : Type 0 where

@@ -119,8 +119,8 @@ impl<P: Plane> Arena<P> {
         &self.nodes.as_slice()[node.0 as usize].summary
     }
 
-    /// What is kept of the shape of the tree below a node.
-    pub(crate) fn standing(&self, node: Node) -> Standing
+    /// What is kept of the shape of the tree below a node. It takes no memory.
+    pub fn standing(&self, node: Node) -> Standing
         requires { node.0 < length self.now }
         ensures { result ≡ kept_standing (standing_of self.now node.0) }
     {

@@ -27,6 +27,8 @@ pub use arena::Arena;
 pub use edits::Exchanged;
 pub use found::RowAt;
 pub use gap::Gap;
+pub use opening::{branches_moved, rows_moved};
 pub use plane::Plane;
 pub use planes::{ContentPlane, KeyPlane, TextPlane};
+pub use standing::Standing;
 pub use tree::{Branch, Children, Node, Row, TreeMark};

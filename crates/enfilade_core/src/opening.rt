@@ -45,7 +45,7 @@ pub(crate) fn branch_moved(branch: &Branch, first: &Tumbler, second: &Tumbler) -
 }
 
 /// Rows, moved on both axes.
-pub(crate) fn rows_moved<P: Plane>(
+pub fn rows_moved<P: Plane>(
     alloc: Global,
     rows: &[Row<P::Leaf>],
     first: &Tumbler,
@@ -63,7 +63,7 @@ pub(crate) fn rows_moved<P: Plane>(
 }
 
 /// Branches, moved on both axes.
-pub(crate) fn branches_moved(
+pub fn branches_moved(
     alloc: Global,
     branches: &[Branch],
     first: &Tumbler,

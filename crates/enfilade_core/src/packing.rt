@@ -8,6 +8,7 @@ ghost use Rattle.enfilade_core.specs.Right.{IsRight};
 ghost use Rattle.enfilade_core.specs.Plain.{shape, plain_row};
 ghost use Rattle.enfilade_core.specs.Exchange.{IsPacked, Grows};
 ghost use Rattle.enfilade_core.specs.Packing.{back, branch_back, MayStandAt, IsPlaced};
+ghost use Rattle.enfilade_core.specs.Standing.{standings, standing_in, standing_below, standing_of};
 
 use crate::arena::Arena;
 use crate::plane::Plane;
@@ -156,6 +157,7 @@ impl<P: Plane> Arena<P> {
         requires { MayStandAt P.widths self.old (shape P.plain children) first second }
         ensures grows { Grows self.old self.new }
         ensures placed { IfOk result (λ branch. IsPlaced P.widths self.old self.new (shape P.plain children) first second branch) }
+        ensures standing { IfOk result (λ branch. standing_of self.new branch.node.0 ≡ standing_in (standings self.old) (shape P.plain children)) }
     {
         let node = self.add_node(children)?;
         let summary = self.summary(node);
@@ -168,12 +170,14 @@ impl<P: Plane> Arena<P> {
         })
     }
 
-    /// A new bottom node, which begins just before its least place on each axis.
-    pub(crate) fn rows_packed(&mut self, rows: &[Row<P::Leaf>]) -> Result<Branch, Memory>
+    /// A new bottom node, which begins just before its least place on each axis, and the branch by which its
+    /// rows stand where they stood.
+    pub fn rows_packed(&mut self, rows: &[Row<P::Leaf>]) -> Result<Branch, Memory>
         requires right { IsRightRows P.widths (map (plain_row P.plain) rows.now) }
         requires some { rows.now ≢ [] }
         ensures grows { Grows self.old self.new }
         ensures packed { IfOk result (λ branch. IsPacked P.widths self.old self.new (Rows (map (plain_row P.plain) rows.now)) branch) }
+        ensures standing { IfOk result (λ branch. standing_of self.new branch.node.0 ≡ standing_in (standings self.old) (Rows (map (plain_row P.plain) rows.now))) }
     {
         let first = first_before::<P>(rows);
         let second = second_before::<P>(rows);
@@ -181,12 +185,14 @@ impl<P: Plane> Arena<P> {
         self.placed(Children::Bottom(made), first, second)
     }
 
-    /// A new inner node, which begins where the least of its children's origins is on each axis.
-    pub(crate) fn branches_packed(&mut self, branches: &[Branch]) -> Result<Branch, Memory>
+    /// A new inner node, which begins where the least of its children's origins is on each axis, and the
+    /// branch by which they stand where they stood.
+    pub fn branches_packed(&mut self, branches: &[Branch]) -> Result<Branch, Memory>
         requires right { IsRight P.widths self.old (Branches branches.now) }
         requires filled { rows_in (rows_table self.old) (Branches branches.now) ≢ [] }
         ensures grows { Grows self.old self.new }
         ensures packed { IfOk result (λ branch. IsPacked P.widths self.old self.new (Branches branches.now) branch) }
+        ensures standing { IfOk result (λ branch. standing_of self.new branch.node.0 ≡ standing_below (standings self.old) branches.now) }
     {
         let first = first_least(branches);
         let second = second_least(branches);

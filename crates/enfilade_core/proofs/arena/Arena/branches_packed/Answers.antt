@@ -1,8 +1,11 @@
+use Rattle.std.proofs.Common.{◌≡◌, ◌∙◌}
 use Rattle.std.proofs.lemmas.Result.{IfOk-weaker}
 use Rattle.enfilade_core.specs.Rows.{Branches}
 use Rattle.enfilade_core.specs.Exchange.{IsPacked}
 use Rattle.enfilade_core.specs.Packing.{IsPlaced}
 use Rattle.enfilade_core.proofs.PackedBranches.{are_past, branches-may_stand, branches-packed}
+use Rattle.enfilade_core.specs.Standing.{standings, standing_below, standing_of}
+use Rattle.enfilade_core.proofs.Stood.{branches-stand}
 use Rattle.enfilade_core.proofs.arena.Arena.branches_packed.Goals as goal
 
 pub placed-requires : goal.placed-requires
@@ -21,3 +24,10 @@ returns-clause-packed g c =
     IfOk-weaker c.placed.result (IsPlaced g.P.Plane.widths old new (Branches c.in_ok-made.made.items) first.result second.result) (IsPacked g.P.Plane.widths old new (Branches c.args.branches.now)) (λ branch placed.
     branches-packed g.P.Plane.widths old new first.result second.result c.args.branches.now c.in_ok-made.made.items branch
     (are_past first.result second.result c.args.branches.now first.ensures.up_to second.ensures.up_to) c.in_ok-made.ensures placed) c.placed.ensures.placed
+
+pub returns-clause-standing : goal.returns-clause-standing
+returns-clause-standing g c =
+    let told = standings c.args.self.now in
+    let new = c.placed.new.self in
+    IfOk-weaker c.placed.result (λ branch. standing_of new branch.node.0 ≡ standing_below told c.in_ok-made.made.items) (λ branch. standing_of new branch.node.0 ≡ standing_below told c.args.branches.now)
+    (λ branch is. is ∙ branches-stand told c.first_least-first.result c.second_least-second.result c.args.branches.now c.in_ok-made.made.items c.in_ok-made.ensures) c.placed.ensures.standing
