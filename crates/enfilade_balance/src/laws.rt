@@ -1,0 +1,24 @@
+//! Laws of what trees owe. Each is a function that does nothing, whose contract says the law.
+ghost use Rattle.enfilade_balance.specs.Laws.{DebtsStay, StepsAreCounted, SettledTreesAreFull};
+
+use enfilade_core::laws::nodes_are_right;
+use enfilade_core::{Arena, Plane};
+
+/// Nodes that are added leave what the trees that are there owe, and whether a step is allowed in them.
+pub fn debts_stay<P: Plane>(arena: &Arena<P>)
+    ensures { DebtsStay arena.now }
+{
+    nodes_are_right(arena);
+}
+
+/// In a tree that nobody edits, no more steps are made in turn than it owes: each of them lowers that.
+pub fn steps_are_counted()
+    ensures { StepsAreCounted }
+{}
+
+/// A tree of d levels, two or more, in which no step is allowed has at least 2^d leaves.
+pub fn settled_trees_are_full<P: Plane>(arena: &Arena<P>)
+    ensures { SettledTreesAreFull P.widths arena.now }
+{
+    nodes_are_right(arena);
+}
