@@ -1,11 +1,13 @@
 -- What a log has at its end while its gate is closed.
-use Rattle.std.proofs.Common.{◌≡◌, ◌≢◌, ◌⊎◌, inl, inr, ⊎_elim, ℕ, ◌≤◌, true, false, List, [], ◌∷◌, ◌++◌, length, refl, sym, ◌∙◌, ap, arith, length-append}
+use Rattle.std.proofs.Common.{◌≡◌, ◌≢◌, ◌⊎◌, inl, inr, ⊎_elim, ℕ, ◌≤◌, true, false, List, [], ◌∷◌, ◌++◌, length, refl, sym, ◌∙◌, ap, subst, Option, None, Some, Result, Ok, Err, OnOk, arith, length-append}
 use Rattle.std.proofs.lemmas.Bool.Decides.{nat_tests}
 use Rattle.std.proofs.lemmas.List.{append-nil}
-use Rattle.green_io.specs.Disk.{Written, Torn}
+use Rattle.green_io.specs.declared.disk.Area.TheVariants as area
+use Rattle.green_io.specs.Areas.{Areas}
+use Rattle.green_io.specs.Disk.{Written, Torn, Changes}
 use Rattle.edit_log.specs.Images.{IsShut}
-use Rattle.edit_log.specs.inside.Ends.{IsLog, HasTornGate, begins_shut}
-use Rattle.edit_log.proofs.Parts.{torn_behind, written_behind, torn_gate, written_at}
+use Rattle.edit_log.specs.inside.Ends.{IsLog, HasTornGate, ClosesEnd, begins_shut}
+use Rattle.edit_log.proofs.Parts.{torn_behind, written_behind, written_last, torn_gate, written_at}
 
 short : (bytes : List ℕ) → length bytes ≤ 1 → (bytes ≡ []) ⊎ ((byte : ℕ) × (bytes ≡ byte ∷ []))
 short [] few = inl refl
@@ -38,10 +40,36 @@ written_at_end front [] old new is written =
 written_at_end front (gate ∷ rest) old new is written =
     (rest, written_at front (gate ∷ []) rest old new (0 ∷ []) (length front) is refl refl written)
 
+gate_zero : (gate : ℕ) (rest : List ℕ) → begins_shut (gate ∷ rest) ≡ true → gate ≡ 0
+gate_zero gate rest closed = grind (arith, nat_tests)
+
 -- a gate that is 0 was 0
 pub shut_at_end : (front end log : List ℕ) → begins_shut end ≡ true → IsLog (front ++ end) log → IsShut front log
 shut_at_end front [] log closed is = absurd (cc closed)
-shut_at_end front (gate ∷ rest) log closed is = (rest, is ∙ ap (λ (k : ℕ). front ++ (k ∷ rest)) (gate_is gate closed))
-  where
-    gate_is : (k : ℕ) → begins_shut (k ∷ rest) ≡ true → k ≡ 0
-    gate_is k closed = grind (arith, nat_tests)
+shut_at_end front (gate ∷ rest) log closed is = (rest, is ∙ ap (λ (k : ℕ). front ++ (k ∷ rest)) (gate_zero gate rest closed))
+
+-- what was written to the gate, in what the log reads
+written_end : (front end old new : List ℕ) → Written (length front) (0 ∷ []) old new → ClosesEnd front end old new
+written_end front [] old new written is = written_last front old new (0 ∷ []) (is ∙ append-nil front) written
+written_end front (gate ∷ rest) old new written is =
+    written_at front (gate ∷ []) rest old new (0 ∷ []) (length front) is refl refl written
+
+written_to : (front end : List ℕ) (at : ℕ) (old new : Option Areas) → at ≡ length front → Changes area.Log (Written at (0 ∷ [])) old new → Changes area.Log (ClosesEnd front end) old new
+written_to front end at None None is changes = tt
+written_to front end at None (Some y) is changes = absurd changes
+written_to front end at (Some x) None is changes = absurd changes
+written_to front end at (Some x) (Some y) is changes =
+    (written_end front end x.log y.log (subst (λ (k : ℕ). Written k (0 ∷ []) x.log y.log) is changes.0), changes.1)
+
+pub written_reads : {T E : Type 0} (r : Result T E) (front end : List ℕ) (at : ℕ) (old new : Option Areas) → at ≡ length front → OnOk r (Changes area.Log (Written at (0 ∷ [])) old new) → OnOk r (Changes area.Log (ClosesEnd front end) old new)
+written_reads (Ok x) front end at old new is changes = written_to front end at old new is changes
+written_reads (Err e) front end at old new is changes = tt
+
+-- a gate that is 0 stays
+shut_stays : (front end log : List ℕ) → begins_shut end ≡ true → ClosesEnd front end log log
+shut_stays front [] log closed is = absurd (cc closed)
+shut_stays front (gate ∷ rest) log closed is = is ∙ ap (λ (k : ℕ). front ++ (k ∷ rest)) (gate_zero gate rest closed)
+
+pub shut_reads : (front end : List ℕ) (reads : Option Areas) → begins_shut end ≡ true → Changes area.Log (ClosesEnd front end) reads reads
+shut_reads front end None closed = tt
+shut_reads front end (Some areas) closed = (shut_stays front end areas.log closed, λ other apart. refl)

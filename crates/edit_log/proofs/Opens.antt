@@ -6,11 +6,11 @@ use Rattle.entry_codec.specs.Format.{body_of}
 use Rattle.entry_codec.specs.Laws.{OneBody, BodySaysLength}
 use Rattle.green_io.specs.declared.disk.Area.TheVariants as area
 use Rattle.green_io.specs.Areas.{Areas}
-use Rattle.green_io.specs.Disk.{DiskState, WhereTold, LeavesOnly, Nothing, IsDurable, images_now}
+use Rattle.green_io.specs.Disk.{DiskState, WhereTold, Changes, LeavesOnly, Nothing, IsDurable, images_now}
 use Rattle.green_io.proofs.Crash.{weaker, nothing_then}
-use Rattle.edit_log.specs.Log.{gated, IsEnd, HasEntries, HasNext, IsWholeEnd, IsWhole}
+use Rattle.edit_log.specs.Log.{gated, IsEnd, HasEntries, HasEndClosed, HasNext, IsWholeEnd, IsWhole}
 use Rattle.edit_log.specs.Images.{IsAjar, InLog, LogImages, AreEntries, Hides, AsRead, HoldsAsRead}
-use Rattle.edit_log.specs.inside.Ends.{IsLog, HasTornGate}
+use Rattle.edit_log.specs.inside.Ends.{IsLog, HasTornGate, ClosesEnd}
 use Rattle.edit_log.proofs.Unique.{read_once}
 use Rattle.edit_log.proofs.Wholes.{ajar_whole}
 
@@ -74,3 +74,22 @@ closing_holds one says a b c bytes entries scanned end first whole read has ends
     nothing_then a b c (HoldsAsRead entries a.reads) first
     (weaker b c (InLog (HasTornGate (gated scanned) end)) (HoldsAsRead entries a.reads) then
     (λ image torn. torn_as_read one says a.reads bytes entries scanned end image whole read has ends torn))
+
+-- what the log reads once its end gate is closed, behind the entries that were read
+closed_since : (bytes : List ℕ) (entries : List PlainEntry) (end : List ℕ) (old new : Option Areas) → WhereTold old (λ areas. bytes ≡ areas.log) → HasEntries entries end bytes → IsEnd end → Changes area.Log (ClosesEnd (gated entries) end) old new → Changes area.Log (HasEndClosed entries) old new
+closed_since bytes entries end None None read has ends changes = tt
+closed_since bytes entries end None (Some y) read has ends changes = absurd changes
+closed_since bytes entries end (Some x) None read has ends changes = absurd changes
+closed_since bytes entries end (Some x) (Some y) read has ends changes = (
+  record {
+    end = end;
+    has = subst (HasEntries entries end) read has;
+    ends = ends;
+    closed = changes.0 (sym read ∙ has.parts);
+  },
+  changes.1,
+)
+
+pub closed_as_read : (a b c : Option Areas) (bytes : List ℕ) (entries : List PlainEntry) (end : List ℕ) → b ≡ a → WhereTold a (λ areas. bytes ≡ areas.log) → HasEntries entries end bytes → IsEnd end → Changes area.Log (ClosesEnd (gated entries) end) b c → Changes area.Log (HasEndClosed entries) a c
+closed_as_read a b c bytes entries end same read has ends changes =
+    closed_since bytes entries end a c read has ends (subst (λ r. Changes area.Log (ClosesEnd (gated entries) end) r c) same changes)

@@ -1,6 +1,6 @@
 -- What writes, whole or torn, leave of a log.
 use Rattle.std.proofs.Common.{◌≡◌, ℕ, ◌+◌, ◌-◌, List, [], ◌∷◌, ◌++◌, length, take, drop, replicate, refl, sym, ◌∙◌, ap, arith, append_assoc, length-append}
-use Rattle.std.proofs.lemmas.List.{take_at, drop_at, append-nil}
+use Rattle.std.proofs.lemmas.List.{take_at, drop_at, drop_all, append-nil}
 use Rattle.green_io.specs.Disk.{Written, Torn}
 use Rattle.edit_log.specs.Images.{IsShut, IsAjar}
 
@@ -32,6 +32,20 @@ written_at front mid rest old new bytes at is long same written =
     ∙ ap (λ (l : List ℕ). l ++ bytes ++ drop (at + length bytes) old) (append-nil front)
     ∙ ap (λ (l : List ℕ). front ++ bytes ++ l) after
     ∙ append_assoc front bytes rest
+
+-- a write at the end of what is there
+pub written_last : (front old new bytes : List ℕ) → old ≡ front → Written (length front) bytes old new → new ≡ front ++ bytes
+written_last front old new bytes is written =
+    let at = length front in
+    let none : at - length old ≡ 0 = omega (arith, ap length is) in
+    let before : take at old ≡ front = ap (take at) (is ∙ sym (append-nil front)) ∙ take_at front [] at refl in
+    let after : drop (at + length bytes) old ≡ [] = drop_all (at + length bytes) old (omega (arith, ap length is)) in
+    written
+    ∙ ap (λ (l : List ℕ). l ++ replicate (at - length old) 0 ++ bytes ++ drop (at + length bytes) old) before
+    ∙ ap (λ (k : ℕ). front ++ replicate k 0 ++ bytes ++ drop (at + length bytes) old) none
+    ∙ ap (λ (l : List ℕ). l ++ bytes ++ drop (at + length bytes) old) (append-nil front)
+    ∙ ap (λ (l : List ℕ). front ++ bytes ++ l) after
+    ∙ append-nil (front ++ bytes)
 
 -- a write that begins right behind what is given, over any bytes
 pub written_behind : (front rest old new bytes : List ℕ) (at : ℕ) → old ≡ front ++ rest → length front ≡ at → Written at bytes old new → (behind : List ℕ) × (new ≡ front ++ (bytes ++ behind))

@@ -1,5 +1,5 @@
 -- The bytes of a log: gates and bodies.
-use Rattle.std.specs.Prelude.{◌≡◌, ◌≢◌, ◌⊎◌, ℕ, ◌<◌, ◌≤◌, List, [], ◌∷◌, ◌++◌, length}
+use Rattle.std.specs.Prelude.{◌≡◌, ◌≢◌, ◌⊎◌, ℕ, ◌<◌, ◌≤◌, List, [], ◌∷◌, ◌++◌, length, drop}
 use Rattle.std.specs.List.{AllByRecursion}
 use Rattle.febe_data.specs.Plain.{PlainEntry}
 use Rattle.entry_codec.specs.Bodies.{HasBody, BeginsWithBody}
@@ -31,6 +31,14 @@ pub record ReadsAs (entries : List PlainEntry) (log : List ℕ) : Type 0 where
   pub end : List ℕ
   pub has : HasEntries entries end log
   pub ends : IsEnd end
+
+-- These are the entries of the old log as it is read. The new log has the same bytes but for a gate 0 at its end, in place
+-- of the gate that stood there, or behind them where none did.
+pub record HasEndClosed (entries : List PlainEntry) (old new : List ℕ) : Type 0 where
+  pub end : List ℕ
+  pub has : HasEntries entries end old
+  pub ends : IsEnd end
+  pub closed : new ≡ gated entries ++ (0 ∷ drop 1 end)
 
 -- The log cannot be read past the gate at this place, behind its first entries: the gate is 1, more bytes come
 -- behind it, and they begin with no body, or the log has as many entries as it may have.

@@ -1,11 +1,13 @@
 //! Opening a log.
-ghost use Rattle.std.specs.Prelude.{◌≡◌, ◌≤◌, IsSome, IfOk};
+ghost use Rattle.std.specs.Prelude.{◌≡◌, ◌≤◌, length, IsSome, IfOk};
+ghost use Rattle.std.specs.List.{AllByRecursion};
 ghost use Rattle.febe_data.specs.Plain.{plain_history};
-ghost use Rattle.green_io.specs.Disk.{LeavesOnly, LeavesOthers, WhereTold};
+ghost use Rattle.entry_codec.specs.Bodies.{HasBody};
+ghost use Rattle.green_io.specs.Disk.{Changes, LeavesOnly, LeavesOthers, WhereTold};
 ghost use Rattle.green_io.specs.Outside.{HasRisen};
 ghost use Rattle.edit_log.specs.Answers.{OnDamaged, OnDiskFault, OnOtherFault};
 ghost use Rattle.edit_log.specs.Images.{IsOpen, AsRead, HoldsAsRead};
-ghost use Rattle.edit_log.specs.Log.{ReadsAs, IsDamagedAt, IsWhole};
+ghost use Rattle.edit_log.specs.Log.{most_entries, ReadsAs, HasEndClosed, IsDamagedAt, IsWhole};
 
 use crate::log::EditLog;
 use crate::pending::Pending;
@@ -40,8 +42,11 @@ impl EditLog {
     pub fn open<D: Disk>(alloc: Global, disk: &mut D) -> Result<(EditLog, List<Entry>), LogFault>
         ensures any_moment { (entries : _) → AsRead (D.state disk.old).reads (IsWhole entries) → LeavesOnly (D.state disk.old) (D.state disk.new) (HoldsAsRead entries (D.state disk.old).reads) }
         ensures entries { IfOk result (λ opened. WhereTold (D.state disk.old).reads (λ areas. ReadsAs (plain_history opened.1.items) areas.log)) }
+        ensures spelled { IfOk result (λ opened. AllByRecursion HasBody (plain_history opened.1.items)) }
+        ensures few { IfOk result (λ opened. length (plain_history opened.1.items) ≤ most_entries) }
         ensures stands { IfOk result (λ opened. IsSome (D.state disk.old).reads → IsOpen (D.state disk.new) opened.0 (plain_history opened.1.items)) }
         ensures idle { IfOk result (λ opened. opened.0.pending ≡ Pending.Nothing) }
+        ensures closed { IfOk result (λ opened. Changes Area.Log (HasEndClosed (plain_history opened.1.items)) (D.state disk.old).reads (D.state disk.new).reads) }
         ensures damaged { OnDamaged result (λ at. WhereTold (D.state disk.old).reads (λ areas. IsDamagedAt at areas.log)) }
         ensures untouched { OnOtherFault result ((D.state disk.new).reads ≡ (D.state disk.old).reads) }
         ensures others { LeavesOthers Area.Log (D.state disk.old) (D.state disk.new) }

@@ -1,9 +1,9 @@
 //! The writes of a log, each of which is synced before the next begins.
 ghost use Rattle.std.specs.Prelude.{◌≡◌, ◌<◌, ◌≤◌, ◌^◌, ℕ, List, [], ◌∷◌, ◌++◌, length, OnOk, OnErr};
-ghost use Rattle.green_io.specs.Disk.{LeavesOnly, LeavesOthers};
+ghost use Rattle.green_io.specs.Disk.{Changes, LeavesOnly, LeavesOthers};
 ghost use Rattle.green_io.specs.Outside.{HasRisen};
 ghost use Rattle.edit_log.specs.Images.{IsShut, IsAjar, LogImages, InLog};
-ghost use Rattle.edit_log.specs.inside.Ends.{IsLog, HasTornGate, begins_shut};
+ghost use Rattle.edit_log.specs.inside.Ends.{IsLog, HasTornGate, ClosesEnd, begins_shut};
 
 use green_io::{Area, Disk, DiskFailed, write_and_sync};
 
@@ -58,6 +58,7 @@ fn is_closed(end: &[u8]) -> bool
 pub(crate) fn close_end<D: Disk>(disk: &mut D, at: u64, end: &[u8]) -> Result<(), DiskFailed>
     ensures any_moment { (front : List ℕ) → LogImages (D.state disk.old) at front (IsLog (front ++ end.now)) → LeavesOnly (D.state disk.old) (D.state disk.new) (InLog (HasTornGate front end.now)) }
     ensures closed { (front : List ℕ) → LogImages (D.state disk.old) at front (IsLog (front ++ end.now)) → OnOk result (LogImages (D.state disk.new) at front (IsShut front)) }
+    ensures reads { (front : List ℕ) → at ≡ length front → OnOk result (Changes Area.Log (ClosesEnd front end.now) (D.state disk.old).reads (D.state disk.new).reads) }
     ensures others { LeavesOthers Area.Log (D.state disk.old) (D.state disk.new) }
     ensures never_falls { D.fault_count disk.old ≤ D.fault_count disk.new }
     ensures failed { OnErr result (HasRisen (D.fault_count disk.old) (D.fault_count disk.new)) }

@@ -1,5 +1,5 @@
 -- The end of a log that is being closed.
-use Rattle.std.specs.Prelude.{◌≡◌, ◌≢◌, ◌⊎◌, ℕ, ◌==◌, Bool, false, List, [], ◌∷◌, ◌++◌}
+use Rattle.std.specs.Prelude.{◌≡◌, ◌≢◌, ◌⊎◌, ℕ, ◌==◌, Bool, false, List, [], ◌∷◌, ◌++◌, drop}
 
 -- the log is this
 abbrev pub IsLog : List ℕ → List ℕ → Type 0
@@ -15,3 +15,7 @@ begins_shut (gate ∷ rest) = gate == 0
 abbrev pub HasTornGate : List ℕ → List ℕ → List ℕ → Type 0
 HasTornGate front [] log = (log ≡ front) ⊎ ((byte : ℕ) × (log ≡ front ++ (byte ∷ [])))
 HasTornGate front (gate ∷ rest) log = (gate ≢ 0) × ((byte : ℕ) × (log ≡ front ++ (byte ∷ rest)))
+
+-- a log with these bytes at its end has a gate 0 there, in place of the first of them, or where none is
+abbrev pub ClosesEnd : List ℕ → List ℕ → List ℕ → List ℕ → Type 0
+ClosesEnd front end old new = old ≡ front ++ end → new ≡ front ++ (0 ∷ drop 1 end)

@@ -6,7 +6,7 @@ use Rattle.green_io.specs.Disk.{Torn, Written}
 use Rattle.edit_log.specs.Images.{IsShut}
 use Rattle.edit_log.specs.inside.Ends.{IsLog, HasTornGate}
 use Rattle.edit_log.proofs.Answering.{on_ok}
-use Rattle.edit_log.proofs.Ends.{torn_at_end, written_at_end, shut_at_end}
+use Rattle.edit_log.proofs.Ends.{torn_at_end, written_at_end, written_reads, shut_at_end, shut_reads}
 use Rattle.edit_log.proofs.Steps.{torn_images, written_images}
 use Rattle.edit_log.proofs.phases.close_end.Goals as goal
 
@@ -28,6 +28,13 @@ returns-clause-closed g c front images =
     (λ written durable. written_images _ _ _ _ _ _ front front (IsLog (front ++ c.args.end.now)) (IsShut front) (g.met.D.Disk.is_disk c.args.disk.now) images c.write_and_sync.ensures.told written durable
     (λ old new was put. written_at_end front c.args.end.now old new was (subst (λ at. Written at (0 ∷ []) old new) images.at_end put))
     images.at_end)
+
+pub returns-then-is_closed-clause-reads : goal.returns-then-is_closed-clause-reads
+returns-then-is_closed-clause-reads g c front at = shut_reads front c.args.end.now (g.D.Disk.state c.args.disk.now).reads (sym c.is_closed.ensures ∙ c.if-is_closed.true)
+
+pub returns-clause-reads : goal.returns-clause-reads
+returns-clause-reads g c front at =
+    written_reads c.write_and_sync.result front c.args.end.now c.args.at (g.D.Disk.state c.args.disk.now).reads (g.D.Disk.state c.write_and_sync.new.disk).reads at c.write_and_sync.ensures.written
 
 pub returns-then-is_closed-clause-others : goal.returns-then-is_closed-clause-others
 returns-then-is_closed-clause-others g c = untouched_others area.Log (g.D.Disk.state c.args.disk.now)
