@@ -1,6 +1,5 @@
 -- Who has what open, and for which account, after a change of the table and of the world.
-use Rattle.std.proofs.Common.{◌≡◌, ◌∙◌, ℕ, ◌&&◌, ◌||◌, Bool, true, false, not, List, [], ◌∷◌, ◌++◌, Option, Some, None, Ordering, Less, Equal, Greater, cond, refl, sym, ap, subst, true≢false, arith}
-use Rattle.std.proofs.lemmas.Bool.Decides.{nat_tests}
+use Rattle.std.proofs.Common.{◌≡◌, ◌∙◌, ℕ, ◌&&◌, Bool, true, false, not, List, [], ◌∷◌, ◌++◌, Option, Some, None, Ordering, Less, Equal, Greater, cond, refl, sym, ap, subst, true≢false}
 use Rattle.std.specs.Prelude.{◌==◌, All}
 use Rattle.std.specs.List.{find, filter, list_any}
 use Rattle.std.specs.Option.{option_map}
@@ -8,16 +7,16 @@ use Rattle.std.specs.Ordering.{nat_cmp, ordering_then, is_eq}
 use Rattle.std.specs.BTreeSet.{insert_key}
 use Rattle.std.specs.Cmp.Lexicographic.{slice_cmp}
 use Rattle.std.proofs.lemmas.Map.Lookups.{exact_unsigned, exact_bytes}
-use Rattle.std.proofs.lemmas.List.Elements.{All-head, All-tail, All-cons, All-nil}
+use Rattle.std.proofs.lemmas.List.Elements.{All-cons, All-nil}
 use Rattle.febe_data.specs.declared.access.Mode.{Mode}
-use Rattle.febe_data.specs.declared.access.Mode.TheVariants.{Read, Write}
+use Rattle.febe_data.specs.declared.access.Mode.TheVariants.{Write}
 use Rattle.world_rules.specs.declared.rows.OpenRow.{OpenRow}
 use Rattle.world_rules.specs.declared.rows.AccountRow.{AccountRow}
-use Rattle.world_rules.specs.World.{World, is_same, opens, mode_of, account_of_session}
+use Rattle.world_rules.specs.World.{World, is_same, opens}
 use Rattle.world_rules.specs.Apply.{without_session, accounts_without, without_opening}
-use Rattle.access_table.specs.AccessRows.{AccessRows, mode_in, account_in, row_cmp, account_cmp}
+use Rattle.access_table.specs.AccessRows.{mode_in, account_in, row_cmp, account_cmp}
 use Rattle.tree_world.specs.Trees.{Trees}
-use Rattle.tree_world.specs.Standing.{EachOpenedOnce, OneWriterEach, SessionsStand}
+use Rattle.tree_world.specs.Standing.{EachOpenedOnce, SessionsStand}
 use Rattle.tree_world.proofs.Once.{each_filtered, each_last}
 use Rattle.tree_world.proofs.Options.{none_there, one_value}
 use Rattle.tree_world.proofs.Found.{both, either_none, false_when, number_alike, number_is, address_alike, address_is, find_gone, find_kept, find_last_own, find_last_other, find_in_own, find_in_other}
@@ -35,7 +34,7 @@ opened_is session document row e =
     let parts = both (row.session == session) (is_same row.document document) e in
     (number_is row.session session parts.0, address_is row.document document parts.1)
 
-opens_own : (row : OpenRow) → opens row.session row.document row ≡ true
+pub opens_own : (row : OpenRow) → opens row.session row.document row ≡ true
 opens_own row = rw (number_alike row.session) (address_alike row.document)
 
 opens_back : (r row : OpenRow) → opens row.session row.document r ≡ true → opens r.session r.document row ≡ true
@@ -99,7 +98,7 @@ account_none rows session none = step (find (λ (r : AccountRow). r.session == s
     step (Some row) h = absurd (none_there row.account h)
 
 module _ (session : ℕ) (document : List ℕ) (mode : Mode) where
-  abbrev fresh : OpenRow
+  abbrev pub fresh : OpenRow
   fresh = record { session = session; document = document; mode = mode }
 
   fresh_seen : (s : ℕ) (d : List ℕ) (b : Bool) → is_pair session document s d ≡ b → opens s d fresh ≡ b
@@ -135,7 +134,7 @@ module _ (session : ℕ) (document : List ℕ) (mode : Mode) where
       step Greater is h = true≢false (sym (ap is_eq h))
       step Equal is h = here (sym (exact_unsigned session row.session is)) (sym (exact_bytes document row.document h))
 
-  all_apart : (rows : List OpenRow) → find (opens session document) rows ≡ None → All (λ row. row_cmp fresh row ≡ Equal → ⊥) rows
+  pub all_apart : (rows : List OpenRow) → find (opens session document) rows ≡ None → All (λ row. row_cmp fresh row ≡ Equal → ⊥) rows
   all_apart [] none = All-nil (λ row. row_cmp fresh row ≡ Equal → ⊥)
   all_apart (row ∷ rows) none = step (opens session document row) refl none (all_apart rows)
     where

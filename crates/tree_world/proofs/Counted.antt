@@ -1,10 +1,8 @@
 -- The count of a session is that of its entry in the map.
-use Rattle.std.proofs.Common.{◌≡◌, ◌∙◌, ℕ, zero, suc, ◌+◌, ◌<◌, ◌||◌, Bool, true, false, cond, List, [], ◌∷◌, map, Option, Some, None, refl, sym, ap, subst, true≢false, arith}
-use Rattle.std.proofs.lemmas.Bool.Decides.{nat_tests}
+use Rattle.std.proofs.Common.{◌≡◌, ◌∙◌, ℕ, ◌+◌, ◌-◌, ◌<◌, ◌||◌, Bool, true, false, cond, List, [], ◌∷◌, map, Option, Some, None, refl, sym, ap, subst, true≢false, arith}
 use Rattle.std.proofs.lemmas.Iterator.Adapters.{option_map_id}
-use Rattle.std.specs.Prelude.{◌==◌, ◌^◌, IsTrue}
+use Rattle.std.specs.Prelude.{◌==◌, ◌^◌}
 use Rattle.std.specs.Cmp.{nat_eq_equiv, unsigned_ties}
-use Rattle.std.specs.List.{find, list_any}
 use Rattle.std.specs.Map.{lookup}
 use Rattle.std.specs.Option.{unwrap_or, is_some, option_map}
 use Rattle.std.specs.Ordering.{nat_cmp, is_eq}
@@ -17,7 +15,6 @@ use Rattle.world_rules.specs.InPlace.{HasRoom}
 use Rattle.tree_world.specs.Standing.{CountsStand, is_known}
 use Rattle.tree_world.specs.inside.Counted.{session_row, session_rows}
 use Rattle.tree_world.proofs.Found.{number_is, number_alike}
-use Rattle.tree_world.proofs.Options.{none_there}
 
 number_seen : (session other : ℕ) → (other == session) ≡ is_eq (nat_cmp session other)
 number_seen session other = nat_eq_equiv.symm other session ∙ unsigned_ties session other
@@ -169,3 +166,43 @@ not_most session n m shown rows shows stand room there =
 
 pub known_here : (session : ℕ) (m : BTreeMap ℕ ℕ) (shown : List SessionRow) → session_rows m ≡ shown → HasRoom shown session → tree.get nat_cmp m session ≡ None → ⊥
 known_here session m shown shows room none = known_there session m shown shown shows (record { entries = λ s. refl; known = λ s there. there }) room none
+
+-- ---- one entry less
+
+counted_own : (session : ℕ) (rows : List SessionRow) → entries_in (with_entry session rows) session ≡ entries_in rows session + 1
+counted_own session rows = more_entries session rows session ∙ ap (λ b. cond b (entries_in rows session + 1) (entries_in rows session)) (number_alike session)
+
+still_known : (session : ℕ) (rows : List SessionRow) (s : ℕ) → is_known rows s ≡ true → is_known (with_entry session rows) s ≡ true
+still_known session [] s h = absurd (true≢false (sym h))
+still_known session (row ∷ rows) s h = step (row.session == session) (row.session == s) refl h (still_known session rows s)
+  where
+    step : (a b : Bool) → (row.session == s) ≡ b → (b || is_known rows s) ≡ true → (is_known rows s ≡ true → is_known (with_entry session rows) s ≡ true)
+        → is_known (cond a (record row { entries = row.entries + 1 } ∷ rows) (row ∷ with_entry session rows)) s ≡ true
+    step true true e h rest = rw e refl
+    step true false e h rest = rw e h
+    step false true e h rest = rw e refl
+    step false false e h rest = rw e (rest h)
+
+pub none_less : (session entries : ℕ) (held rows : List SessionRow) → entries ≡ entries_in held session → entries ≡ 0 → CountsStand held (with_entry session rows) → ⊥
+none_less session entries held rows is none stand = let e = sym is ∙ none in let f = stand.entries session ∙ counted_own session rows in never (entries_in held session) (entries_in rows session) e f
+  where
+    never : (a b : ℕ) → a ≡ 0 → a ≡ b + 1 → ⊥
+    never a b e f = omega (arith, e, f)
+
+pub here_if_counted : (session : ℕ) (m : BTreeMap ℕ ℕ) (shown : List SessionRow) → session_rows m ≡ shown → (entries_in shown session ≡ 0 → ⊥) → tree.get nat_cmp m session ≡ None → ⊥
+here_if_counted session m shown shows some none = some (ap (λ rows. entries_in rows session) (sym shows) ∙ none_zero m session none)
+
+module _ (session value : ℕ) (old new : BTreeMap ℕ ℕ) (shown left : List SessionRow) (shows : session_rows old ≡ shown) (leaves : session_rows new ≡ left) (sets : Sets session value old new) (is : value ≡ entries_in shown session - 1) where
+  pub counted_less : (rows : List SessionRow) → CountsStand shown (with_entry session rows) → CountsStand left rows
+  counted_less rows stand =
+      subst (λ now. CountsStand now rows) leaves (record {
+        entries = λ s. set_entries session value old new sets s ∙ by s (s == session) refl;
+        known = λ s there. set_known session value old new sets s ∙ either (s == session) (is_known (session_rows old) s) (ap (λ was. is_known was s) shows ∙ stand.known s (still_known session rows s there));
+      })
+    where
+      less : (a b : ℕ) → a ≡ b + 1 → a - 1 ≡ b
+      less a b e = omega (arith, e)
+
+      by : (s : ℕ) (b : Bool) → (s == session) ≡ b → cond b value (entries_in (session_rows old) s) ≡ entries_in rows s
+      by s true e = is ∙ less (entries_in shown session) (entries_in rows session) (stand.entries session ∙ counted_own session rows) ∙ ap (entries_in rows) (sym (number_is s session e))
+      by s false e = ap (λ was. entries_in was s) shows ∙ stand.entries s ∙ more_entries session rows s ∙ ap (λ b. cond b (entries_in rows session + 1) (entries_in rows s)) e

@@ -2,8 +2,8 @@
 use Rattle.std.proofs.Common.{◌≡◌, ◌≢◌, ◌∙◌, ◌⊎◌, inl, inr, ⊎_elim, ℕ, zero, suc, ◌+◌, ◌<◌, ◌≤◌, ◌&&◌, ◌||◌, Bool, true, false, not, cond, List, [], ◌∷◌, ◌++◌, length, map, replicate, Ordering, Less, Equal, Greater, refl, sym, ap, subst, true≢false, arith, append_assoc, length-append, nat_cmp}
 use Rattle.std.specs.Prelude.{All, IsPermutation, IsTrue}
 use Rattle.std.specs.List.{list_any, flat_map}
-use Rattle.std.specs.Ordering.{is_le, is_lt}
-use Rattle.std.specs.Cmp.Lexicographic.{slice_cmp}
+use Rattle.std.specs.Ordering.{is_le, is_lt, ordering_reverse}
+use Rattle.std.specs.Cmp.Lexicographic.{slice_cmp, nat_list_cmp_total}
 use Rattle.std.proofs.lemmas.List.Sorted.{list_any-IsPermutation}
 use Rattle.std.proofs.lemmas.List.Elements.{All-nil, All-cons, All-append, All-weaker}
 use Rattle.tumbler.specs.declared.span.Span.{Span}
@@ -20,6 +20,8 @@ use Rattle.poom.specs.Pieces.{address_in, addresses_from}
 use Rattle.poom.specs.Edited.{run_addresses}
 use Rattle.spanfilade.specs.Index.{IndexTree, rows_in_index, row_of, rows_for, row_end, with_span, lengthened, IsLengthened}
 use Rattle.spanfilade.specs.Index as index
+use Rattle.spanfilade.specs.Keys.{is_met_by}
+use Rattle.enfilade_search.specs.Meeting.{lies_between}
 use Rattle.links.specs.LinkLists.{run_span}
 use Rattle.world_rules.specs.World.{is_same, content_address}
 use Rattle.world_rules.specs.Picking.{is_between}
@@ -131,17 +133,38 @@ runs_cover key (run ∷ runs) =
     (All-weaker (λ a. covers key a (run_row key run) ≡ true) (Among key (rows_for (map run_span (run ∷ runs)) key)) (λ a h. left_so (covers key a (run_row key run)) (list_any (covers key a) (rows_for (map run_span runs) key)) h) (addresses_from 1 run.content run.first run.length) (run_covers key run))
     (All-weaker (Among key (rows_for (map run_span runs) key)) (Among key (rows_for (map run_span (run ∷ runs)) key)) (λ a h. right_so (covers key a (run_row key run)) (list_any (covers key a) (rows_for (map run_span runs) key)) h) (run_addresses runs) (runs_cover key runs))
 
+-- A row of no width is met where it stands. So spans that are met alike cover alike.
+abbrev point : List ℕ → placed.Row (List ℕ)
+point a = record { first = a; second = []; leaf = [] }
+
+lies_as : (start end a : List ℕ) → is_between start end a ≡ lies_between start end a
+lies_as start end a = ap (λ b. b && comes_before a end) (step (slice_cmp nat_cmp start a) ∙ ap (λ r. not (is_lt r)) (sym (nat_list_cmp_total.antisymm a start)))
+  where
+    step : (r : Ordering) → is_le r ≡ not (is_lt (ordering_reverse r))
+    step Less = refl
+    step Equal = refl
+    step Greater = refl
+
+covers_as : (key a : List ℕ) (spans : List Span) → list_any (covers key a) (rows_for spans key) ≡ is_met_by spans (point a)
+covers_as key a [] = refl
+covers_as key a (span ∷ spans) = λ i. (address_alike key i && lies_as span.start (end_of span) a i) || covers_as key a spans i
+
+met_cover : (key : List ℕ) (runs : List Run) (given spans : List Span) → given ≡ map run_span runs → ((row : placed.Row (List ℕ)) → is_met_by spans row ≡ is_met_by given row) → All (Among key (rows_for spans key)) (run_addresses runs)
+met_cover key runs given spans is met =
+    All-weaker (Among key (rows_for (map run_span runs) key)) (Among key (rows_for spans key))
+    (λ a h. covers_as key a spans ∙ met (point a) ∙ ap (λ (ss : List Span). is_met_by ss (point a)) is ∙ sym (covers_as key a (map run_span runs)) ∙ h) (run_addresses runs) (runs_cover key runs)
+
 module _ (key : List ℕ) (spans : List Span) (old new : IndexTree) (came : IsPermutation (rows_for spans key ++ rows_in_index old) (rows_in_index new)) where
   pub added_keeps : (d a : List ℕ) → IsCovered old d a → IsCovered new d a
   added_keeps d a h =
       sym (list_any-IsPermutation (covers d a) (rows_for spans key ++ rows_in_index old) (rows_in_index new) came) ∙ any_append (covers d a) (rows_for spans key) (rows_in_index old) ∙ right_so (list_any (covers d a) (rows_for spans key)) (list_any (covers d a) (rows_in_index old)) h
 
-  pub added_covers : (runs : List Run) → spans ≡ map run_span runs → All (IsCovered new key) (run_addresses runs)
-  added_covers runs is =
-      All-weaker (Among key (rows_for (map run_span runs) key)) (IsCovered new key)
+  pub added_covers : (runs : List Run) (given : List Span) → given ≡ map run_span runs → ((row : placed.Row (List ℕ)) → is_met_by spans row ≡ is_met_by given row) → All (IsCovered new key) (run_addresses runs)
+  added_covers runs given is met =
+      All-weaker (Among key (rows_for spans key)) (IsCovered new key)
       (λ a h. sym (list_any-IsPermutation (covers key a) (rows_for spans key ++ rows_in_index old) (rows_in_index new) came) ∙ any_append (covers key a) (rows_for spans key) (rows_in_index old)
-      ∙ left_so (list_any (covers key a) (rows_for spans key)) (list_any (covers key a) (rows_in_index old)) (ap (λ (ss : List Span). list_any (covers key a) (rows_for ss key)) is ∙ h))
-      (run_addresses runs) (runs_cover key runs)
+      ∙ left_so (list_any (covers key a) (rows_for spans key)) (list_any (covers key a) (rows_in_index old)) h)
+      (run_addresses runs) (met_cover key runs given spans is met)
 
 -- ---- one span
 

@@ -39,3 +39,4 @@ pub mod Whole
 pub mod LinkMade
 pub mod Brought
 pub mod EntryCounted
+pub mod Undone

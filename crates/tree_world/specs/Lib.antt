@@ -3,4 +3,5 @@ pub use Rattle.world_rules.specs.World
 pub mod Trees
 pub mod Standing
 pub mod Changed
+pub mod Undone
 pub mod inside

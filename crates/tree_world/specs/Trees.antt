@@ -1,8 +1,10 @@
 -- A world in trees and tables, as contracts see it.
 use Rattle.std.specs.Prelude.{◌≡◌, ℕ, ◌≤◌, List, [], All, Option, Some, None}
+use Rattle.tumbler.specs.Address.{IsDocument}
 use Rattle.enfilade_core.specs.declared.tree.Node.{Node}
 use Rattle.enfilade_core.specs.Rows.{Shape, rows_of}
-use Rattle.granfilade.specs.Content.{ContentTree, ByteAt, content}
+use Rattle.granfilade.specs.Content.{ContentTree, ByteAt, content, tree_rows}
+use Rattle.granfilade.specs.Puts.{IsContent}
 use Rattle.poom.specs.Laid as laid
 use Rattle.doc_table.specs.declared.rows.DocumentRow.{DocumentRow}
 use Rattle.doc_table.specs.DocumentRows.{root_in, content_in}
@@ -49,3 +51,9 @@ IsCounted documents at = (document : List ℕ) (number : ℕ) → at.address ≡
 -- all are
 abbrev pub AreCounted : List (DocumentRow Node) → ContentTree → Type 0
 AreCounted documents contents = All (IsCounted documents) (content contents)
+
+-- What the trees keep to by themselves: each document's root is one, each address a document's, each byte at an address
+-- of content, and counted for its document.
+abbrev pub AreSound : Trees → Type 0
+AreSound trees =
+    All (λ (row : DocumentRow Node). laid.IsRoot trees.nodes row.root.0) trees.documents × All (λ (row : DocumentRow Node). IsDocument row.document) trees.documents × IsContent (tree_rows trees.contents) × AreCounted trees.documents trees.contents

@@ -5,6 +5,7 @@ ghost use Rattle.world_rules.specs.FlatView.{FlatView, after_entry};
 ghost use Rattle.world_rules.specs.InPlace.{DropsOnly, HasRoom};
 ghost use Rattle.tree_world.specs.Standing.{Stands};
 ghost use Rattle.tree_world.specs.Changed.{after_change};
+ghost use Rattle.tree_world.specs.Undone.{ChangeCame};
 
 use crate::world::TreeWorld;
 use febe_data::{Change, Entry, Memory};
@@ -13,10 +14,16 @@ use world_rules::Applies;
 
 impl TreeWorld {
     /// What a session's change does, before it is counted for the session.
-    fn change(&mut self, alloc: Global, session: u64, change: &Change) -> Result<(), Memory>
+    pub(crate) fn change(
+        &mut self,
+        alloc: Global,
+        session: u64,
+        change: &Change,
+    ) -> Result<(), Memory>
         ensures ok { (view : FlatView) → Stands self.old view → OnOk result (Stands self.new (after_change view session (plain_change change.now))) }
         ensures err { (view : FlatView) → Stands self.old view → OnErr result (Stands self.new view) }
         ensures sessions { self.new.sessions ≡ self.old.sessions }
+        ensures came { OnOk result (ChangeCame session (plain_change change.now) self.old self.new) }
         ensures in_place { DropsOnly change.now → IsOk result }
     {
         match change {

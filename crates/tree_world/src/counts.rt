@@ -75,6 +75,19 @@ impl Counts {
             unreachable!()
         };
     }
+
+    /// Counts one entry of the session less. It takes no memory.
+    pub(crate) fn uncount(&mut self, session: u64)
+        ensures { (rows : List SessionRow) → CountsStand self.old (with_entry session rows) → CountsStand self.new rows }
+    {
+        let entries = self.get(session);
+        if entries == 0 {
+            return;
+        }
+        let Ok(_) = self.held.insert(session, entries - 1) else {
+            unreachable!()
+        };
+    }
 }
 
 /// One more, where the type has it.

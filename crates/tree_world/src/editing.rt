@@ -11,6 +11,7 @@ ghost use Rattle.febe_data.specs.Plain.{plain_spec, span_deleted, blocks_swapped
 ghost use Rattle.world_rules.specs.FlatView.{FlatView};
 ghost use Rattle.tree_world.specs.Standing.{Stands};
 ghost use Rattle.tree_world.specs.Changed.{after_change};
+ghost use Rattle.tree_world.specs.Undone.{EntryCame, DocumentEdited};
 
 use crate::counts::one_more;
 use crate::indexing::{index_runs, total_bytes};
@@ -79,6 +80,7 @@ impl TreeWorld {
     pub(crate) fn delete(&mut self, document: &Tumbler, span: &Span) -> Result<(), Memory>
         ensures ok { (view : FlatView) (session : ℕ) → Stands self.old view → OnOk result (Stands self.new (after_change view session (span_deleted document.now span.now))) }
         ensures err { OnErr result (self.new ≡ self.old) }
+        ensures came { OnOk result (EntryCame (DocumentEdited document.now) self.old self.new) }
         ensures sessions { self.new.sessions ≡ self.old.sessions }
     {
         let counted = one_more(self.counted)?;
@@ -98,6 +100,7 @@ impl TreeWorld {
     pub(crate) fn rearrange(&mut self, document: &Tumbler, cuts: &List<u32>) -> Result<(), Memory>
         ensures ok { (view : FlatView) (session : ℕ) → Stands self.old view → OnOk result (Stands self.new (after_change view session (blocks_swapped document.now cuts.now.items))) }
         ensures err { OnErr result (self.new ≡ self.old) }
+        ensures came { OnOk result (EntryCame (DocumentEdited document.now) self.old self.new) }
         ensures sessions { self.new.sessions ≡ self.old.sessions }
     {
         let counted = one_more(self.counted)?;
@@ -165,6 +168,7 @@ impl TreeWorld {
     ) -> Result<(), Memory>
         ensures ok { (view : FlatView) (session : ℕ) → Stands self.old view → OnOk result (Stands self.new (after_change view session (specs_copied document.now at (map plain_spec specs.now)))) }
         ensures err { OnErr result (self.new ≡ self.old) }
+        ensures came { OnOk result (EntryCame (DocumentEdited document.now) self.old self.new) }
         ensures sessions { self.new.sessions ≡ self.old.sessions }
     {
         let counted = one_more(self.counted)?;

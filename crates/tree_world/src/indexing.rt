@@ -11,7 +11,7 @@ use crate::run_spans::run_spans;
 use enfilade_core::Node;
 use febe_data::{List, Memory, Run, Span, Tumbler};
 use poom::Poom;
-use spanfilade::Spanfilade;
+use spanfilade::{Spanfilade, joined};
 use std::alloc::Global;
 
 /// The V-addresses of all text.
@@ -40,7 +40,8 @@ pub(crate) fn text_runs(
     Ok(runs)
 }
 
-/// The spans of runs come in for a document. Where it is refused the index is as before.
+/// The spans of runs come in for a document, joined where they touch, so that many runs that make one cost as one. Where it
+/// is refused the index is as before.
 pub(crate) fn index_runs(
     alloc: Global,
     index: &mut Spanfilade,
@@ -55,6 +56,7 @@ pub(crate) fn index_runs(
 {
     let mark = index.mark();
     let spans = run_spans(alloc, runs)?;
+    let spans = joined(alloc, spans.as_slice())?;
     let Ok(()) = index.add_all(&spans, document) else {
         index.back(&mark);
         return Err(Memory);

@@ -16,6 +16,7 @@ ghost use Rattle.febe_data.specs.Plain.{text_inserted};
 ghost use Rattle.world_rules.specs.FlatView.{FlatView};
 ghost use Rattle.tree_world.specs.Standing.{Stands};
 ghost use Rattle.tree_world.specs.Changed.{after_change};
+ghost use Rattle.tree_world.specs.Undone.{EntryCame, DocumentEdited};
 ghost use Rattle.tree_world.specs.inside.Seen.{text_run};
 ghost use Rattle.spanfilade.specs.Index.{rows_in_index};
 ghost use Rattle.spanfilade.specs.Index.{IsCovered as IsIndexed};
@@ -154,6 +155,7 @@ impl TreeWorld {
     ) -> Result<(), Memory>
         ensures ok { (view : FlatView) (session : ℕ) → Stands self.old view → OnOk result (Stands self.new (after_change view session (text_inserted document.now at first text.now))) }
         ensures err { OnErr result (self.new ≡ self.old) }
+        ensures came { OnOk result (EntryCame (DocumentEdited document.now) self.old self.new) }
         ensures sessions { self.new.sessions ≡ self.old.sessions }
     {
         let counted = one_more(self.counted)?;

@@ -23,6 +23,8 @@ mod run_spans;
 mod sessions;
 #[cfg(test)]
 mod tests;
+mod undoing;
 mod world;
 
+pub use undoing::{Undo, Undoes};
 pub use world::TreeWorld;

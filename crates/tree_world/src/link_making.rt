@@ -7,11 +7,13 @@ ghost use Rattle.poom.specs.Laid.{IsRoot, texts};
 ghost use Rattle.poom.specs.Laid.{links as links_laid};
 ghost use Rattle.poom.specs.Edited.{IsLinkId};
 ghost use Rattle.febe_data.specs.Plain.{plain_spec, plain_specs, link_made};
-ghost use Rattle.links.specs.LinkLists.{IsRun, IsLink, plain_link, has_in, added, most_links};
+ghost use Rattle.links.specs.LinkLists.{IsRun, IsLink, AllGrow, plain_link, has_in, added, most_links};
+ghost use Rattle.world_rules.specs.World.{link_address};
 ghost use Rattle.world_rules.specs.Apply.{link_between};
 ghost use Rattle.world_rules.specs.FlatView.{FlatView};
 ghost use Rattle.tree_world.specs.Standing.{Stands, EndsStand};
 ghost use Rattle.tree_world.specs.Changed.{after_change};
+ghost use Rattle.tree_world.specs.Undone.{EntryCame, LinkCame};
 
 use crate::counts::one_more;
 use crate::linking::span_of_run;
@@ -68,6 +70,7 @@ fn linked(alloc: Global, links: &mut Links, link: LinkRow) -> Result<(), Memory>
     requires runs { IsLink (plain_link link) }
     ensures added { OnOk result (links.new.links ≡ added links.old.links (plain_link link)) }
     ensures ends { OnOk result (EndsStand links.new) }
+    ensures grow { OnOk result (AllGrow links.old links.new) }
     ensures refused { OnErr result (links.new ≡ links.old) }
 {
     links.add(alloc, link)?;
@@ -98,6 +101,7 @@ fn come_in(
     ensures links { IfOk result (λ made. links_laid (rows_of pooms.new made.0) ≡ links_laid (rows_of pooms.old root.0) ++ link.id ∷ []) }
     ensures added { OnOk result (links.new.links ≡ added links.old.links (plain_link link)) }
     ensures ends { OnOk result (EndsStand links.new) }
+    ensures grow { OnOk result (AllGrow links.old links.new) }
     ensures refused { OnErr result (pooms.new ≡ pooms.old) }
     ensures as_before { OnErr result (links.new ≡ links.old) }
 {
@@ -125,6 +129,7 @@ impl TreeWorld {
         ensures value { (view : FlatView) → Stands self.now view → IfOk result (λ link. plain_link link ≡ link_between view.world home.now number (map plain_spec from.now) (map plain_spec to.now) (map plain_spec three.now)) }
         ensures runs { IfOk result (λ link. IsLink (plain_link link)) }
         ensures id { IfOk result (λ link. IsLinkId link.id) }
+        ensures address { IfOk result (λ link. link.id ≡ link_address home.now number) }
     {
         if !home.is_document() || number == 0 || number == u32::MAX {
             return Err(Memory);
@@ -166,6 +171,7 @@ impl TreeWorld {
     ) -> Result<(), Memory>
         ensures ok { (view : FlatView) (session : ℕ) → Stands self.old view → OnOk result (Stands self.new (after_change view session (link_made home.now number place (plain_specs from.now.items) (plain_specs to.now.items) (plain_specs three.now.items)))) }
         ensures err { OnErr result (self.new ≡ self.old) }
+        ensures came { OnOk result (EntryCame (LinkCame home.now (link_address home.now number)) self.old self.new) }
         ensures sessions { self.new.sessions ≡ self.old.sessions }
     {
         let counted = one_more(self.counted)?;

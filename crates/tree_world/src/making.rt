@@ -7,6 +7,7 @@ ghost use Rattle.access_table.specs.AccessRows.{opened};
 ghost use Rattle.world_rules.specs.FlatView.{FlatView};
 ghost use Rattle.tree_world.specs.Standing.{Stands};
 ghost use Rattle.tree_world.specs.Changed.{after_change, MayComeIn};
+ghost use Rattle.tree_world.specs.Undone.{EntryCame, DocumentCame};
 
 use crate::counts::one_more;
 use crate::indexing::{index_runs, text_runs};
@@ -79,6 +80,7 @@ impl TreeWorld {
     ) -> Result<(), Memory>
         ensures ok { (view : FlatView) → Stands self.old view → OnOk result (Stands self.new (after_change view session (document_created document.now))) }
         ensures err { OnErr result (self.new ≡ self.old) }
+        ensures came { OnOk result (EntryCame (DocumentCame session document.now) self.old self.new) }
         ensures sessions { self.new.sessions ≡ self.old.sessions }
     {
         let counted = one_more(self.counted)?;
@@ -114,6 +116,7 @@ impl TreeWorld {
     ) -> Result<(), Memory>
         ensures ok { (view : FlatView) → Stands self.old view → OnOk result (Stands self.new (after_change view session (version_made source.now document.now))) }
         ensures err { OnErr result (self.new ≡ self.old) }
+        ensures came { OnOk result (EntryCame (DocumentCame session document.now) self.old self.new) }
         ensures sessions { self.new.sessions ≡ self.old.sessions }
     {
         let counted = one_more(self.counted)?;

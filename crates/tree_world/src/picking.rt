@@ -1,5 +1,5 @@
 //! What specs pick: how much it is, and its runs.
-ghost use Rattle.std.specs.Prelude.{◌≡◌, ◌+◌, ◌<◌, ◌++◌, nat_lt, true, false, map, length, All, IfOk, IfSome, IfNone, OnOk};
+ghost use Rattle.std.specs.Prelude.{◌≡◌, ◌+◌, ◌<◌, ◌≤◌, ◌++◌, nat_lt, true, false, map, length, All, IfOk, IfSome, IfNone, OnOk};
 ghost use Rattle.std.specs.List.{sum_by};
 ghost use Rattle.tumbler.specs.Span.{SpanFits};
 ghost use Rattle.febe_data.specs.Plain.{plain_spec};
@@ -7,6 +7,7 @@ ghost use Rattle.poom.specs.Edited.{IsContentRun, run_addresses};
 ghost use Rattle.world_rules.specs.FlatView.{FlatView};
 ghost use Rattle.world_rules.specs.Picking.{picked_addresses, runs_of};
 ghost use Rattle.world_rules.specs.Refusals.{total_of};
+ghost use Rattle.tree_world.specs.Trees.{text_in, links_in};
 ghost use Rattle.tree_world.specs.Standing.{Stands};
 ghost use Rattle.tree_world.specs.inside.Seen.{text_picked, text_count, link_count, addresses_by_spec, addresses_by_specs, runs_picked, runs_by_spec, runs_by_specs, ComesTo};
 
@@ -27,26 +28,46 @@ fn push_runs(made: &mut List<Run>, runs: &[Run]) -> Result<(), Memory>
 }
 
 impl TreeWorld {
-    /// How many bytes of a document's text a span picks. It takes no memory.
-    pub(crate) fn text_count(&self, document: &Tumbler, span: &Span) -> u32
-        requires { SpanFits span.now }
-        ensures { result ≡ text_count self.now document.now span.now }
+    /// How many bytes a document's text has, and none where there is no such document. It takes no memory.
+    pub(crate) fn text_long(&self, document: &Tumbler) -> u32
+        ensures value { result ≡ length (text_in self.now document.now) }
+        ensures few { result ≤ 4294967294 }
     {
         let Some(root) = self.documents.root(document) else {
             return 0;
         };
-        picked_count(1, span, self.pooms.length(root))
+        self.pooms.length(root)
     }
 
-    /// How many of a document's links a span picks. It takes no memory.
-    pub(crate) fn link_count(&self, document: &Tumbler, span: &Span) -> u32
-        requires { SpanFits span.now }
-        ensures { result ≡ link_count self.now document.now span.now }
+    /// How many links a document has, and none where there is no such document. It takes no memory.
+    pub(crate) fn links_long(&self, document: &Tumbler) -> u32
+        ensures value { result ≡ length (links_in self.now document.now) }
+        ensures few { result ≤ 4294967294 }
     {
         let Some(root) = self.documents.root(document) else {
             return 0;
         };
-        picked_count(2, span, self.pooms.links(root))
+        self.pooms.links(root)
+    }
+
+    /// How many bytes of a document's text, which is so long, a span picks. It looks at no tree, and takes no memory.
+    pub(crate) fn text_count(&self, _document: &Tumbler, long: u32, span: &Span) -> u32
+        requires fits { SpanFits span.now }
+        requires long { long ≡ length (text_in self.now _document.now) }
+        requires few { long ≤ 4294967294 }
+        ensures { result ≡ text_count self.now _document.now span.now }
+    {
+        picked_count(1, span, long)
+    }
+
+    /// How many of a document's links, which are so many, a span picks. It looks at no tree, and takes no memory.
+    pub(crate) fn link_count(&self, _document: &Tumbler, many: u32, span: &Span) -> u32
+        requires fits { SpanFits span.now }
+        requires many { many ≡ length (links_in self.now _document.now) }
+        requires few { many ≤ 4294967294 }
+        ensures { result ≡ link_count self.now _document.now span.now }
+    {
+        picked_count(2, span, many)
     }
 
     /// How many addresses the spans of a spec pick.
@@ -54,12 +75,13 @@ impl TreeWorld {
     fn count_by_spec(&self, spec: &Spec) -> Result<usize, WorldError>
         ensures { IfOk result (λ picked. picked ≡ sum_by (text_count self.now spec.now.document) spec.now.spans.items) }
     {
+        let long = self.text_long(&spec.document);
         let mut picked: usize = 0;
         for span in spec.spans.as_slice() {
             if !span.fits() {
                 return Err(WorldError::NoTumbler);
             }
-            let count = self.text_count(&spec.document, span) as usize;
+            let count = self.text_count(&spec.document, long, span) as usize;
             picked = picked.checked_add(count).ok_or(WorldError::TooGreat)?;
         }
         Ok(picked)
@@ -86,13 +108,23 @@ impl TreeWorld {
         Ok(picked)
     }
 
-    /// The runs of what a span picks from a document's text.
-    pub(crate) fn span_runs(&self, document: &Tumbler, span: &Span) -> Result<List<Run>, Memory>
-        requires { SpanFits span.now }
+    /// The runs of what a span picks from a document's text, which is so long. A span that picks nothing looks at no tree.
+    pub(crate) fn span_runs(
+        &self,
+        document: &Tumbler,
+        long: u32,
+        span: &Span,
+    ) -> Result<List<Run>, Memory>
+        requires fits { SpanFits span.now }
+        requires long { long ≡ length (text_in self.now document.now) }
+        requires few { long ≤ 4294967294 }
         ensures runs { IfOk result (λ runs. runs.items ≡ runs_picked self.now document.now span.now) }
         ensures bytes { IfOk result (λ runs. run_addresses runs.items ≡ text_picked self.now document.now span.now) }
         ensures content { IfOk result (λ runs. All IsContentRun runs.items) }
     {
+        if self.text_count(document, long, span) == 0 {
+            return Ok(List::new(self.alloc));
+        }
         let Some(root) = self.documents.root(document) else {
             return Ok(List::new(self.alloc));
         };
@@ -107,11 +139,12 @@ impl TreeWorld {
         ensures bytes { OnOk result (run_addresses made.new.items ≡ run_addresses made.old.items ++ addresses_by_spec self.now (plain_spec spec.now)) }
         ensures content { OnOk result (All IsContentRun made.old.items → All IsContentRun made.new.items) }
     {
+        let long = self.text_long(&spec.document);
         for span in spec.spans.as_slice() {
             if !span.fits() {
                 return Err(WorldError::NoTumbler);
             }
-            let runs = self.span_runs(&spec.document, span)?;
+            let runs = self.span_runs(&spec.document, long, span)?;
             push_runs(made, runs.as_slice())?;
         }
         Ok(())
@@ -152,11 +185,12 @@ impl TreeWorld {
     ) -> Result<bool, WorldError>
         ensures { IfOk result (ComesTo most (made.old.items ++ runs_by_spec self.now (plain_spec spec.now)) made.new.items) }
     {
+        let long = self.text_long(&spec.document);
         for span in spec.spans.as_slice() {
             if !span.fits() {
                 return Err(WorldError::NoTumbler);
             }
-            let runs = self.span_runs(&spec.document, span)?;
+            let runs = self.span_runs(&spec.document, long, span)?;
             push_runs(made, runs.as_slice())?;
             if made.len() > most {
                 return Ok(false);

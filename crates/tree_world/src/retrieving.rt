@@ -1,5 +1,5 @@
 //! What a retrieve gives: how much it is, and its items.
-ghost use Rattle.std.specs.Prelude.{◌≡◌, ℕ, ◌+◌, ◌-◌, ◌^◌, ◌++◌, min, map, length, false, All, IfOk, OnOk};
+ghost use Rattle.std.specs.Prelude.{◌≡◌, ℕ, ◌+◌, ◌-◌, ◌^◌, ◌≤◌, ◌++◌, min, map, length, false, All, IfOk, OnOk};
 ghost use Rattle.std.specs.List.{list_any, sum_by};
 ghost use Rattle.tumbler.specs.Span.{SpanFits};
 ghost use Rattle.febe_data.specs.Plain.{plain_spec, plain_item, link};
@@ -9,8 +9,9 @@ ghost use Rattle.poom.specs.Edited.{IsContentRun, run_addresses};
 ghost use Rattle.world_rules.specs.FlatView.{FlatView};
 ghost use Rattle.world_rules.specs.Answers.{items_of, NamesTumbler};
 ghost use Rattle.world_rules.specs.Refusals.{is_bad_span, has_bad_span, total_of, span_bytes, span_items};
+ghost use Rattle.tree_world.specs.Trees.{text_in, links_in};
 ghost use Rattle.tree_world.specs.Standing.{Stands};
-ghost use Rattle.tree_world.specs.inside.Seen.{text_count, item_count, bytes_found, text_item, items_picked, items_by_spec, items_by_specs};
+ghost use Rattle.tree_world.specs.inside.Seen.{text_count, item_count, text_picked, links_picked, bytes_found, text_item, items_picked, items_by_spec, items_by_specs};
 
 use crate::run_spans::run_span;
 use crate::world::TreeWorld;
@@ -20,14 +21,18 @@ use std::alloc::Global;
 use world_rules::{Size, WorldError};
 
 impl TreeWorld {
-    /// How much a span gives.
-    fn span_size(&self, document: &Tumbler, span: &Span) -> Size
-        requires { SpanFits span.now }
+    /// How much a span gives, of a text that is so long and of so many links.
+    fn span_size(&self, document: &Tumbler, long: u32, many: u32, span: &Span) -> Size
+        requires fits { SpanFits span.now }
+        requires long { long ≡ length (text_in self.now document.now) }
+        requires many { many ≡ length (links_in self.now document.now) }
+        requires few_bytes { long ≤ 4294967294 }
+        requires few_links { many ≤ 4294967294 }
         ensures bytes { result.bytes ≡ text_count self.now document.now span.now }
         ensures items { result.items ≡ item_count self.now document.now span.now }
     {
-        let bytes = self.text_count(document, span) as usize;
-        let links = self.link_count(document, span) as usize;
+        let bytes = self.text_count(document, long, span) as usize;
+        let links = self.link_count(document, many, span) as usize;
         let texts = if bytes == 0 { 0 } else { 1 };
         Size {
             bytes,
@@ -42,10 +47,12 @@ impl TreeWorld {
         ensures bytes { result.bytes ≡ min (sum_by (text_count self.now spec.now.document) spec.now.spans.items) (2 ^ 64 - 1) }
         ensures items { result.items ≡ min (sum_by (item_count self.now spec.now.document) spec.now.spans.items) (2 ^ 64 - 1) }
     {
+        let long = self.text_long(&spec.document);
+        let many = self.links_long(&spec.document);
         let mut bytes: usize = 0;
         let mut items: usize = 0;
         for span in spec.spans.as_slice() {
-            let size = self.span_size(&spec.document, span);
+            let size = self.span_size(&spec.document, long, many, span);
             bytes = bytes.saturating_add(size.bytes);
             items = items.saturating_add(size.items);
         }
@@ -135,25 +142,69 @@ fn push_links(items: &mut List<Item>, ids: &[Tumbler]) -> Result<(), Memory>
 }
 
 impl TreeWorld {
+    /// Adds one item with the bytes that a span picks from a document's text, which is so long, where it picks any.
+    fn push_span_text(
+        &self,
+        alloc: Global,
+        items: &mut List<Item>,
+        document: &Tumbler,
+        long: u32,
+        span: &Span,
+    ) -> Result<(), Memory>
+        requires fits { SpanFits span.now }
+        requires long { long ≡ length (text_in self.now document.now) }
+        requires few { long ≤ 4294967294 }
+        ensures items { OnOk result (map plain_item items.new.items ≡ map plain_item items.old.items ++ text_item (content self.now.contents) (text_picked self.now document.now span.now)) }
+        ensures valid { OnOk result (All NamesTumbler (map plain_item items.old.items) → All NamesTumbler (map plain_item items.new.items)) }
+    {
+        let runs = self.span_runs(document, long, span)?;
+        push_text(alloc, items, &self.contents, runs.as_slice())
+    }
+
+    /// Adds the links that a span picks from a document's, which are so many.
+    fn push_span_links(
+        &self,
+        items: &mut List<Item>,
+        document: &Tumbler,
+        many: u32,
+        span: &Span,
+    ) -> Result<(), Memory>
+        requires fits { SpanFits span.now }
+        requires many { many ≡ length (links_in self.now document.now) }
+        requires few { many ≤ 4294967294 }
+        ensures items { OnOk result (map plain_item items.new.items ≡ map plain_item items.old.items ++ map link (links_picked self.now document.now span.now)) }
+        ensures valid { OnOk result (All NamesTumbler (map plain_item items.old.items) → All NamesTumbler (map plain_item items.new.items)) }
+    {
+        if self.link_count(document, many, span) == 0 {
+            return Ok(());
+        }
+        let Some(root) = self.documents.root(document) else {
+            return Ok(());
+        };
+        let ids = self.pooms.picked_links(root, span)?;
+        push_links(items, ids.as_slice())
+    }
+
     /// Adds what a span gives.
     fn push_span(
         &self,
         alloc: Global,
         items: &mut List<Item>,
         document: &Tumbler,
+        long: u32,
+        many: u32,
         span: &Span,
     ) -> Result<(), Memory>
-        requires { SpanFits span.now }
+        requires fits { SpanFits span.now }
+        requires long { long ≡ length (text_in self.now document.now) }
+        requires many { many ≡ length (links_in self.now document.now) }
+        requires few_bytes { long ≤ 4294967294 }
+        requires few_links { many ≤ 4294967294 }
         ensures items { OnOk result (map plain_item items.new.items ≡ map plain_item items.old.items ++ items_picked self.now document.now span.now) }
         ensures valid { OnOk result (All NamesTumbler (map plain_item items.old.items) → All NamesTumbler (map plain_item items.new.items)) }
     {
-        let Some(root) = self.documents.root(document) else {
-            return Ok(());
-        };
-        let runs = self.pooms.picked(root, document, span)?;
-        let ids = self.pooms.picked_links(root, span)?;
-        push_text(alloc, items, &self.contents, runs.as_slice())?;
-        push_links(items, ids.as_slice())
+        self.push_span_text(alloc, items, document, long, span)?;
+        self.push_span_links(items, document, many, span)
     }
 
     /// Adds what the spans of a spec give.
@@ -163,8 +214,10 @@ impl TreeWorld {
         ensures items { OnOk result (map plain_item items.new.items ≡ map plain_item items.old.items ++ items_by_spec self.now (plain_spec spec.now)) }
         ensures valid { OnOk result (All NamesTumbler (map plain_item items.old.items) → All NamesTumbler (map plain_item items.new.items)) }
     {
+        let long = self.text_long(&spec.document);
+        let many = self.links_long(&spec.document);
         for span in spec.spans.as_slice() {
-            self.push_span(alloc, items, &spec.document, span)?;
+            self.push_span(alloc, items, &spec.document, long, many, span)?;
         }
         Ok(())
     }

@@ -10,6 +10,8 @@ use Rattle.tree_world.proofs.Holds.{holds_same, holds_rooted}
 use Rattle.tree_world.proofs.Whole.{total_is}
 use Rattle.tree_world.proofs.Brought.{addresses_are}
 use Rattle.tree_world.proofs.Edited.{copied_as}
+use Rattle.tree_world.specs.Undone.{DocumentEdited}
+use Rattle.tree_world.proofs.Undone.{of_old, was_edited}
 use Rattle.tree_world.proofs.world.TreeWorld.copy.Goals as goal
 
 room_for : (n k long total : ℕ) → n + k ≤ 1073741824 → n ≡ long → k ≡ total → long + total ≤ 1073741824
@@ -50,3 +52,8 @@ returns-clause-ok c view session stands =
     (c.in_ok-runs.ensures.bytes ∙ sym (addresses_are c.args.self.now view stands (map plain_spec c.args.specs.now)))
     (c.if-not-has_place.ensures.from_one refl) (up_to c.args.at c.length.result _ (c.if-not-has_place.ensures.to_end refl) c.length.ensures) c.in_ok-made.ensures.text c.in_ok-made.ensures.links c.in-Ok.ensures.keeps
     (subst (λ runs. All (IsCovered c.index_runs.new.index c.args.document.now) (run_addresses runs)) c.as_slice-2.ensures c.in-Ok.ensures.covers)
+
+pub returns-clause-came : goal.returns-clause-came
+returns-clause-came c =
+    of_old (DocumentEdited c.args.document.now) _ _ _ c.self.view_is
+    (was_edited _ c.args.document.now c.in-Some.root (sym c.in-Some.ensures) c.in_ok-made.made c.copied.new.pooms c.index_runs.new.index c.set_root.new.self _ c.copied.ensures.grows c.index_runs.ensures.grows c.set_root.ensures)

@@ -1,8 +1,10 @@
-use Rattle.std.proofs.Common.{◌≡◌, ◌∙◌, refl, sym, subst}
+use Rattle.std.proofs.Common.{◌∙◌, refl, sym, subst}
 use Rattle.tree_world.specs.Standing.{Stands}
 use Rattle.tree_world.proofs.Roots.{taken_back}
 use Rattle.tree_world.proofs.Holds.{holds_same, holds_added}
 use Rattle.tree_world.proofs.Made.{created_as}
+use Rattle.tree_world.specs.Undone.{DocumentCame}
+use Rattle.tree_world.proofs.Undone.{of_old, came_in, grown_none}
 use Rattle.tree_world.proofs.world.TreeWorld.create.Goals as goal
 
 pub invariant_of-self-in_default : goal.invariant_of-self-in_default
@@ -19,3 +21,9 @@ pub returns-clause-ok : goal.returns-clause-ok
 returns-clause-ok c view stands =
     created_as _ view (subst (λ t. Stands t view) (sym c.self.view_is) stands) c.self.invariant.0 c.args.session c.args.document.now (c.if-not-may_come_in.ensures refl) c.empty.new.self c.empty.ensures.kept c.empty.ensures.grows c.in_ok-root.root c.in_ok-root.ensures.document
     c.add_open.new.documents c.add_open.new.access _ c.in-Ok.ensures.documents c.in-Ok.ensures.access c.in_ok-counted.ensures c.in_ok-root.ensures.nothing
+
+pub returns-clause-came : goal.returns-clause-came
+returns-clause-came c =
+    let may = c.if-not-may_come_in.ensures refl in
+    of_old (DocumentCame c.args.session c.args.document.now) _ _ _ c.self.view_is
+    (came_in _ c.args.session c.args.document.now c.in_ok-root.root c.empty.new.self c.self.inside.index c.add_open.new.documents c.add_open.new.access _ c.empty.ensures.grows (grown_none c.self.inside.index.nodes) may.absent may.unopened c.in-Ok.ensures.documents c.in-Ok.ensures.access)

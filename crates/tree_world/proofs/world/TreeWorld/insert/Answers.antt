@@ -1,4 +1,4 @@
-use Rattle.std.proofs.Common.{◌≡◌, ◌∙◌, ℕ, ◌+◌, ◌-◌, ◌≤◌, List, length, All, refl, ap, sym, subst, arith}
+use Rattle.std.proofs.Common.{◌∙◌, ℕ, ◌+◌, ◌-◌, ◌≤◌, List, length, All, refl, ap, sym, subst, arith}
 use Rattle.tumbler.specs.declared.span.Span.{Span}
 use Rattle.enfilade_core.specs.Rows.{rows_of}
 use Rattle.granfilade.specs.Content.{laid, content}
@@ -7,13 +7,14 @@ use Rattle.poom.specs.Laid.{texts, exchanged_at}
 use Rattle.poom.specs.Pieces.{addresses_from}
 use Rattle.spanfilade.specs.Index.{rows_in_index}
 use Rattle.spanfilade.specs.Index as index
-use Rattle.world_rules.specs.World.{content_address}
 use Rattle.doc_table.specs.DocumentRows.{root_in}
 use Rattle.tree_world.specs.Standing.{Stands, IsCovered}
 use Rattle.tree_world.proofs.Tables.{has_some}
 use Rattle.tree_world.proofs.Roots.{root_stands, taken_back}
 use Rattle.tree_world.proofs.Covering.{covered_keeps, covered_covers}
 use Rattle.tree_world.proofs.TextCame.{came_as, holds_came, root_made, contents_back, holds_back, same_trees, next_at, room_at, document_there}
+use Rattle.tree_world.specs.Undone.{DocumentEdited}
+use Rattle.tree_world.proofs.Undone.{of_old, text_came}
 use Rattle.tree_world.proofs.world.TreeWorld.insert.Goals as goal
 
 pub length-requires : goal.length-requires
@@ -95,3 +96,9 @@ returns-clause-ok c view session stands =
     (c.in-Ok.ensures.text ∙ ap (λ (n : ℕ). exchanged_at c.args.at c.args.at (addresses_from 1 document first n) (texts (rows_of c.self.inside.pooms c.in-Some.root.0))) count) c.in-Ok.ensures.links
     (covered_keeps document document first c.in-Some-numbered.count c.self.inside.index c.cover.new.index covered)
     (subst (λ (n : ℕ). All (IsCovered c.cover.new.index document) (addresses_from 1 document first n)) count (covered_covers document document first c.in-Some-numbered.count c.self.inside.index c.cover.new.index covered))
+
+pub returns-clause-came : goal.returns-clause-came
+returns-clause-came c =
+    of_old (DocumentEdited c.args.document.now) _ _ _ c.self.view_is
+    (text_came _ c.args.document.now c.in-Some.root (sym c.in-Some.ensures) c.in-Ok.made c.put_text.new.contents c.in-Some-checked_add.total c.shown_at.new.pooms c.cover.new.index c.set_root.new.self c.set_content.new.self _ _ c.put_text.ensures.grows c.shown_at.ensures.grows
+    c.cover.ensures.grows c.set_root.ensures c.set_content.ensures)

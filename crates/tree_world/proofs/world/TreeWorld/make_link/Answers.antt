@@ -7,6 +7,9 @@ use Rattle.tree_world.proofs.Tables.{has_some}
 use Rattle.tree_world.proofs.Roots.{root_stands}
 use Rattle.tree_world.proofs.Holds.{holds_same, holds_rooted}
 use Rattle.tree_world.proofs.LinkMade.{made_in, lacks_it}
+use Rattle.tree_world.specs.Undone.{LinkCame}
+use Rattle.world_rules.specs.World.{link_address}
+use Rattle.tree_world.proofs.Undone.{of_old, link_came}
 use Rattle.tree_world.proofs.world.TreeWorld.make_link.Goals as goal
 
 pub links-count-requires : goal.links-count-requires
@@ -33,3 +36,10 @@ returns-clause-ok c view session stands =
     (c.in_ok-link.ensures.value view stands ∙ (λ i. link_between view.world c.args.home.now c.args.number (map plain_spec (c.as_slice.ensures i)) (map plain_spec (c.as_slice-2.ensures i)) (map plain_spec (c.as_slice-3.ensures i))))
     (lacks_it c.self.inside.links.links c.in_ok-link.link.id (λ link. link.now) plain_link c.get.result c.is_some.result c.get.ensures c.is_some.ensures c.if-is_some.false) c.in_ok-made.ensures.added c.in_ok-made.ensures.ends c.in_ok-made.ensures.text
     c.in_ok-made.ensures.links (c.if-place-count.false ∙ ap (λ (n : ℕ). n + 1) c.links-count.ensures)
+
+pub returns-clause-came : goal.returns-clause-came
+returns-clause-came c =
+    of_old (LinkCame c.args.home.now (link_address c.args.home.now c.args.number)) _ _ _ c.self.view_is
+    (link_came _ c.args.home.now c.in-Some.root (sym c.in-Some.ensures) c.in_ok-made.made (link_address c.args.home.now c.args.number) (plain_link c.in_ok-link.link) c.come_in.new.pooms c.set_root.new.self c.come_in.new.links _ c.come_in.ensures.grows c.in_ok-made.ensures.grow
+    c.set_root.ensures
+    (lacks_it c.self.inside.links.links c.in_ok-link.link.id (λ link. link.now) plain_link c.get.result c.is_some.result c.get.ensures c.is_some.ensures c.if-is_some.false) c.in_ok-made.ensures.added c.in_ok-link.ensures.address)

@@ -1,4 +1,4 @@
-use Rattle.std.proofs.Common.{◌≡◌, ◌∙◌, refl, sym, subst, ap}
+use Rattle.std.proofs.Common.{◌∙◌, refl, sym, subst, ap}
 use Rattle.std.specs.Prelude.{All, Some}
 use Rattle.poom.specs.Laid.{IsRoot}
 use Rattle.poom.specs.Edited.{IsContentRun, run_addresses}
@@ -7,6 +7,8 @@ use Rattle.tree_world.specs.Standing.{Stands, IsCovered}
 use Rattle.tree_world.proofs.Roots.{root_stands}
 use Rattle.tree_world.proofs.Holds.{holds_same, holds_added}
 use Rattle.tree_world.proofs.Made.{versioned_as, stay_kept, stay_grown}
+use Rattle.tree_world.specs.Undone.{DocumentCame}
+use Rattle.tree_world.proofs.Undone.{of_old, came_in, grown_none}
 use Rattle.tree_world.proofs.world.TreeWorld.version.Goals as goal
 
 pub text_runs-requires : goal.text_runs-requires
@@ -33,3 +35,10 @@ returns-clause-ok c view stands =
     (subst (λ node. IsRoot c.self.inside.pooms node.0) (sym c.version.ensures) root)
     c.add_open.new.documents c.add_open.new.access _ c.in-Ok.ensures.documents c.in-Ok.ensures.access c.in_ok-counted.ensures c.args.source.now (sym c.in-Some.ensures ∙ ap Some (sym c.version.ensures)) c.index_runs.new.index c.in_ok-index_runs.ensures.keeps
     (subst (λ xs. All (IsCovered c.index_runs.new.index c.args.document.now) xs) (ap run_addresses c.as_slice.ensures ∙ c.in_ok-runs.ensures.bytes ∙ ap (text_at c.self.inside.pooms) c.in-Some.ensures) c.in_ok-index_runs.ensures.covers)
+
+pub returns-clause-came : goal.returns-clause-came
+returns-clause-came c =
+    let may = c.if-not-may_come_in.ensures refl in
+    of_old (DocumentCame c.args.session c.args.document.now) _ _ _ c.self.view_is
+    (came_in _ c.args.session c.args.document.now c.version.result c.self.inside.pooms c.index_runs.new.index c.add_open.new.documents c.add_open.new.access _ (grown_none c.self.inside.pooms) c.index_runs.ensures.grows may.absent may.unopened c.in-Ok.ensures.documents
+    c.in-Ok.ensures.access)
