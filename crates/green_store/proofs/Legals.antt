@@ -13,7 +13,7 @@ use Rattle.febe_data.specs.Plain.{PlainRequest, insert, copy, rearrange, create,
 use Rattle.world_rules.specs.World.{World}
 use Rattle.world_rules.specs.Apply.{world_of}
 use Rattle.world_rules.specs.FlatView.{FlatView, view_of}
-use Rattle.world_rules.specs.History.{is_live, kept}
+use Rattle.world_rules.specs.History.{is_live, kept, is_counted}
 use Rattle.world_rules.specs.Refusals.{wanted, opens_version}
 use Rattle.world_rules.specs.Effects.{Effect, effect, opening}
 use Rattle.world_rules.specs.Answers.{answer}
@@ -24,6 +24,8 @@ use Rattle.world_rules.specs.declared.effects.Effect as coded
 use Rattle.world_rules.specs.declared.requests.Served.TheVariants.{Refused, Changed, Answered}
 use Rattle.tumbler.specs.declared.memory.Memory.{Memory as NoMemory}
 use Rattle.world_rules.proofs.Folded.{folds_to_world, counts_kept}
+use Rattle.green_store.specs.Durable.{IsEdit}
+use Rattle.green_store.specs.inside.{IsKeptOrTakenBack, IsTakenBack}
 use Rattle.green_store.specs.LeavesLive.{LeavesLive}
 use Rattle.green_store.specs.Sessions.{end_entry}
 use Rattle.green_store.specs.Steps.{Steps}
@@ -75,19 +77,19 @@ pub wanted_is : (limits : LimitsView) (h : List PlainEntry) (session : ℕ) (req
 wanted_is limits h session request =
     ap (λ (n : ℕ). wanted limits n (view_of h).world session request) (counts_kept h) ∙ ap (λ (w : World). wanted limits (length (kept h)) w session request) (folds_to_world h)
 
-module _ (limits : LimitsView) (session : ℕ) (history : List PlainEntry) (request : PlainRequest) (live : is_live history session ≡ true) where
+module _ (limits : LimitsView) (session : ℕ) (history : List PlainEntry) (request : PlainRequest) (rose : Bool) (live : is_live history session ≡ true) where
   nothing_wanted : (given : wanted_after limits history session request ≡ None) (reply : PlainReply) (added : List PlainEntry)
-      → IsServed history session request reply added false → IsLegal limits session history request reply added false
+      → IsServed history session request reply added rose → IsLegal limits session history request reply added rose
   nothing_wanted given reply added served = record { live = live; given = inr (rw given served) }
 
-  pub step_without_memory : request ≢ quit → Steps limits session history request (refused Memory) history false
+  pub step_without_memory : request ≢ quit → Steps limits session history request (refused Memory) history rose
   step_without_memory n = record {
     added = [];
     grows = sym (append-nil history);
     legal = record { live = live; given = inl (record { asks = n; reply_is = refl; nothing = refl }) };
   }
 
-  pub step_refused : (refusal : Refusal) → wanted_after limits history session request ≡ Some refusal → Steps limits session history request (refused refusal) history false
+  pub step_refused : (refusal : Refusal) → wanted_after limits history session request ≡ Some refusal → Steps limits session history request (refused refusal) history rose
   step_refused refusal given = record {
     added = [];
     grows = sym (append-nil history);
@@ -95,23 +97,31 @@ module _ (limits : LimitsView) (session : ℕ) (history : List PlainEntry) (requ
   }
 
   pub step_changed : (made : Effect) (reply : PlainReply) (after : List PlainEntry) → wanted_after limits history session request ≡ None → effect (world_of history) session request ≡ Some made
-      → reply ≡ made.reply → after ≡ history ++ entry_after history session made ∷ [] → Steps limits session history request reply after false
+      → reply ≡ made.reply → after ≡ history ++ entry_after history session made ∷ [] → Steps limits session history request reply after rose
   step_changed made reply after given e is grows = record {
     added = entry_after history session made ∷ [];
     grows = grows;
     legal = nothing_wanted given reply (entry_after history session made ∷ []) (rw e (inl (record { reply_is = is; entry = refl })));
   }
 
+  pub step_failed : (made : Effect) (reply : PlainReply) (after : List PlainEntry) → wanted_after limits history session request ≡ None → effect (world_of history) session request ≡ Some made
+      → is_counted made.change ≡ true → IsTakenBack history reply after rose → Steps limits session history request reply after rose
+  step_failed made reply after given e counted back = record {
+    added = [];
+    grows = back.stays ∙ sym (append-nil history);
+    legal = nothing_wanted given reply [] (rw e (inr (record { counted = counted; failed = back.failed; reply_is = back.reply_is; nothing = refl })));
+  }
+
   pub step_answered : (reply : PlainReply) → wanted_after limits history session request ≡ None → effect (world_of history) session request ≡ None
-      → reply ≡ answer (world_of history) request → Steps limits session history request reply history false
+      → reply ≡ answer (world_of history) request → Steps limits session history request reply history rose
   step_answered reply given e is = record {
     added = [];
     grows = sym (append-nil history);
     legal = nothing_wanted given reply [] (rw e (record { reply_is = is; nothing = refl }));
   }
 
-pub step_quit : (limits : LimitsView) (session : ℕ) (history : List PlainEntry) → is_live history session ≡ true → Steps limits session history quit has_quit (history ++ end_entry history session ∷ []) false
-step_quit limits session history live = record {
+pub step_quit : (limits : LimitsView) (session : ℕ) (history : List PlainEntry) (rose : Bool) → is_live history session ≡ true → Steps limits session history quit has_quit (history ++ end_entry history session ∷ []) rose
+step_quit limits session history rose live = record {
   added = end_entry history session ∷ [];
   grows = refl;
   legal = record { live = live; given = inr (inl (record { reply_is = refl; entry = refl })) };
@@ -122,17 +132,17 @@ pub done : {A E : Type 0} (r : Result A E) (P : Type 0) → IsOk r → OnOk r P 
 done (Ok value) P is on = on
 done (Err error) P is on = absurd cc
 
-pub step_made : (before after : StoreView) (session : ℕ) (request : PlainRequest) (live : is_live before.history session ≡ true) (made : coded.Effect) (r : Result Reply NoMemory)
+pub step_made : (before after : StoreView) (session : ℕ) (request : PlainRequest) (rose : Bool) (live : is_live before.history session ≡ true) (made : coded.Effect) (r : Result Reply NoMemory)
     → wanted_after before.limits before.history session request ≡ None → effect (world_of before.history) session request ≡ Some (plain_effect made) → IfOk r (λ reply. reply ≡ made.reply)
     → OnOk r (after ≡ with_one before (entry_after before.history session (plain_effect made)))
-    → IfOk r (λ reply. Steps before.limits session before.history request (plain_reply reply) after.history false)
-step_made before after session request live made (Ok reply) given e is grows =
-    step_changed before.limits session before.history request live (plain_effect made) (plain_reply reply) after.history given e (ap plain_reply is) (ap (λ (v : StoreView). v.history) grows)
-step_made before after session request live made (Err error) given e is grows = tt
+    → IfOk r (λ reply. Steps before.limits session before.history request (plain_reply reply) after.history rose)
+step_made before after session request rose live made (Ok reply) given e is grows =
+    step_changed before.limits session before.history request rose live (plain_effect made) (plain_reply reply) after.history given e (ap plain_reply is) (ap (λ (v : StoreView). v.history) grows)
+step_made before after session request rose live made (Err error) given e is grows = tt
 
 -- ---- what a store's world gives for a request
 
-module _ (before : StoreView) (limits : LimitsView) (world : FlatView) (session : ℕ) (request : PlainRequest) (live : is_live before.history session ≡ true)
+module _ (before : StoreView) (limits : LimitsView) (world : FlatView) (session : ℕ) (request : PlainRequest) (rose : Bool) (live : is_live before.history session ≡ true)
     (limits_are : limits ≡ before.limits) (world_is : world ≡ view_of before.history) where
   wanted_here : (found : Option Refusal) → wanted limits world.counted world.world session request ≡ found → wanted_after before.limits before.history session request ≡ found
   wanted_here found is =
@@ -142,16 +152,33 @@ module _ (before : StoreView) (limits : LimitsView) (world : FlatView) (session 
   folded : world.world ≡ world_of before.history
   folded = ap (λ (v : FlatView). v.world) world_is ∙ folds_to_world before.history
 
-  pub refused_here : (refusal : Refusal) → IsServedAs limits world session request (Refused refusal) → Steps before.limits session before.history request (refused refusal) before.history false
-  refused_here refusal served = step_refused before.limits session before.history request live refusal (wanted_here (Some refusal) served)
+  pub refused_here : (refusal : Refusal) → IsServedAs limits world session request (Refused refusal) → Steps before.limits session before.history request (refused refusal) before.history rose
+  refused_here refusal served = step_refused before.limits session before.history request rose live refusal (wanted_here (Some refusal) served)
 
-  pub answered_here : (reply : Reply) → IsServedAs limits world session request (Answered reply) → Steps before.limits session before.history request (plain_reply reply) before.history false
+  pub answered_here : (reply : Reply) → IsServedAs limits world session request (Answered reply) → Steps before.limits session before.history request (plain_reply reply) before.history rose
   answered_here reply served =
-      step_answered before.limits session before.history request live (plain_reply reply) (wanted_here None served.allowed) (ap (λ (w : World). effect w session request) (sym folded) ∙ served.query)
+      step_answered before.limits session before.history request rose live (plain_reply reply) (wanted_here None served.allowed) (ap (λ (w : World). effect w session request) (sym folded) ∙ served.query)
       (served.reply_is ∙ ap (λ (w : World). answer w request) folded)
 
   pub changed_here : (made : coded.Effect) (r : Result Reply NoMemory) (after : StoreView) → IsServedAs limits world session request (Changed made) → IfOk r (λ reply. reply ≡ made.reply)
       → OnOk r (after ≡ with_one before (entry_after before.history session (plain_effect made)))
-      → IfOk r (λ reply. Steps before.limits session before.history request (plain_reply reply) after.history false)
+      → IfOk r (λ reply. Steps before.limits session before.history request (plain_reply reply) after.history rose)
   changed_here made r after served is grows =
-      step_made before after session request live made r (wanted_here None served.allowed) (ap (λ (w : World). effect w session request) (sym folded) ∙ served.effect_is) is grows
+      step_made before after session request rose live made r (wanted_here None served.allowed) (ap (λ (w : World). effect w session request) (sym folded) ∙ served.effect_is) is grows
+
+  pub allowed_here : (made : coded.Effect) → IsServedAs limits world session request (Changed made) → wanted_after before.limits before.history session request ≡ None
+  allowed_here made served = wanted_here None served.allowed
+
+  pub effect_here : (made : coded.Effect) → IsServedAs limits world session request (Changed made) → effect (world_of before.history) session request ≡ Some (plain_effect made)
+  effect_here made served = ap (λ (w : World). effect w session request) (sym folded) ∙ served.effect_is
+
+  pub edit_here : (made : coded.Effect) → IsServedAs limits world session request (Changed made) → is_counted (plain_effect made).change ≡ true → IsEdit before.limits before.history session request (entry_after before.history session (plain_effect made))
+  edit_here made served counted = record { allowed = allowed_here made served; made = plain_effect made; effect_is = effect_here made served; counted = counted; entry_is = refl }
+
+  pub kept_here : (made : coded.Effect) (r : Result Reply NoMemory) (after : List PlainEntry) → IsServedAs limits world session request (Changed made) → is_counted (plain_effect made).change ≡ true
+      → IfOk r (λ reply. IsKeptOrTakenBack before.history session (plain_effect made) (plain_reply reply) after rose) → IfOk r (λ reply. Steps before.limits session before.history request (plain_reply reply) after rose)
+  kept_here made (Ok reply) after served counted (inl done) =
+      step_changed before.limits session before.history request rose live (plain_effect made) (plain_reply reply) after (allowed_here made served) (effect_here made served) done.reply_is done.grows
+  kept_here made (Ok reply) after served counted (inr back) =
+      step_failed before.limits session before.history request rose live (plain_effect made) (plain_reply reply) after (allowed_here made served) (effect_here made served) counted back
+  kept_here made (Err error) after served counted outcome = tt

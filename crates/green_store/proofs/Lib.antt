@@ -1,7 +1,14 @@
+pub mod Mended
 pub mod Histories
+pub mod Openings
+pub mod Reopened
 pub mod Lives
 pub mod Stores
 pub mod Legals
 pub mod Places
+pub mod Regulars
+pub mod Accepting
+pub mod Edits
+pub mod Quiet
 pub mod Remaining
 pub mod Serials

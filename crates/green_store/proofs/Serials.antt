@@ -1,5 +1,5 @@
 -- The serials of sessions that began after the last restart count on, whatever sessions ask.
-use Rattle.std.proofs.Common.{◌≡◌, ℕ, ◌+◌, ◌<◌, ◌≤◌, ◌∙◌, eqb, max, false, List, [], ◌∷◌, ◌++◌, length, refl, ap, sym, subst, inl, inr, arith}
+use Rattle.std.proofs.Common.{◌≡◌, ℕ, ◌+◌, ◌<◌, ◌≤◌, eqb, max, Bool, false, List, [], ◌∷◌, length, refl, ap, sym, subst, inl, inr, arith}
 use Rattle.std.specs.Prelude.{fold}
 use Rattle.std.proofs.lemmas.Bool.{ne_eqb}
 use Rattle.febe_data.specs.Plain.{PlainRequest, plain_request, PlainReply, plain_reply, PlainEntry}
@@ -29,12 +29,12 @@ none_above (e ∷ h) n session lt =
     let other : eqb e.session session ≡ false = ne_eqb e.session session (λ same. omega arith) in
     rw other (none_above h (max n e.session) session lt)
 
-begins_next : (h : List PlainEntry) (session : ℕ) → session ≡ greatest_session h + 1 → ComesNext h (begin_entry session)
+pub begins_next : (h : List PlainEntry) (session : ℕ) → session ≡ greatest_session h + 1 → ComesNext h (begin_entry session)
 begins_next h session number =
     let none : entries_of session h ≡ [] = none_above h 0 session (omega arith) in
     record { no_restart = λ e. cc; is_next = sym (ap (λ (es : List PlainEntry). length es + 1) none); is_first = λ begins. none }
 
-ends_next : (h : List PlainEntry) (session : ℕ) → ComesNext h (end_entry h session)
+pub ends_next : (h : List PlainEntry) (session : ℕ) → ComesNext h (end_entry h session)
 ends_next h session = record { no_restart = λ e. cc; is_next = refl; is_first = λ begins. cc }
 
 -- ---- steps
@@ -46,18 +46,18 @@ module _ (before after : StoreView) (count : SerialsCount before.history) where
   as_before : after ≡ before → SerialsCount after.history
   as_before stays = rw stays count
 
-  replied : (session : ℕ) (request : PlainRequest) (reply : PlainReply) (point : ℕ) → IsReplied before session request reply point after → SerialsCount after.history
-  replied session request reply point r = elim r.given [
-    | inl g ↦ subst SerialsCount (sym g.1.grows) (legal_steps_count before.limits session before.history request reply g.1.added false g.1.legal count)
+  replied : (session : ℕ) (request : PlainRequest) (reply : PlainReply) (point : ℕ) (rose : Bool) → IsReplied before session request reply point after rose → SerialsCount after.history
+  replied session request reply point rose r = elim r.given [
+    | inl g ↦ subst SerialsCount (sym g.1.grows) (legal_steps_count before.limits session before.history request reply g.1.added rose g.1.legal count)
     | inr g ↦ as_before g.1.stays
   ]
 
 pub steps_count : StepsCount
-steps_count before after steps.Begin (answers.Begun session) count step = with_entry before after count (begin_entry session) (begins_next before.history session step.number_is) step.grows
-steps_count before after steps.Begin answers.NoNumber count step = as_before before after count step.stays
-steps_count before after steps.Begin answers.Memory count step = as_before before after count step.stays
-steps_count before after (steps.Ask session request) (answers.Reply reply point) count step = replied before after count session (plain_request request) (plain_reply reply) point step
-steps_count before after (steps.Ask session request) answers.NoSession count step = as_before before after count step.stays
-steps_count before after (steps.End session) answers.Ended count step = with_entry before after count (end_entry before.history session) (ends_next before.history session) step.grows
-steps_count before after (steps.End session) answers.NoSession count step = as_before before after count step.stays
-steps_count before after other answer count step = absurd step
+steps_count before after steps.Begin (answers.Begun session) rose count step = with_entry before after count (begin_entry session) (begins_next before.history session step.number_is) step.grows
+steps_count before after steps.Begin answers.NoNumber rose count step = as_before before after count step.stays
+steps_count before after steps.Begin answers.Memory rose count step = as_before before after count step.stays
+steps_count before after (steps.Ask session request) (answers.Reply reply point) rose count step = replied before after count session (plain_request request) (plain_reply reply) point rose step
+steps_count before after (steps.Ask session request) answers.NoSession rose count step = as_before before after count step.stays
+steps_count before after (steps.End session) answers.Ended rose count step = with_entry before after count (end_entry before.history session) (ends_next before.history session) step.grows
+steps_count before after (steps.End session) answers.NoSession rose count step = as_before before after count step.stays
+steps_count before after other answer rose count step = absurd step

@@ -1,17 +1,20 @@
 -- What holds inside a store, kept by each kind of entry.
-use Rattle.std.proofs.Common.{◌≡◌, ℕ, ◌+◌, ◌-◌, ◌^◌, ◌<◌, ◌≤◌, ◌==◌, ◌∙◌, Bool, true, not, max, subst, List, [], ◌∷◌, ◌++◌, length, ap, sym, arith}
+use Rattle.std.proofs.Common.{◌≡◌, ℕ, ◌+◌, ◌-◌, ◌^◌, ◌<◌, ◌≤◌, ◌==◌, ◌∙◌, Bool, true, not, max, subst, List, [], ◌∷◌, ◌++◌, length, ap, refl, sym, arith}
 use Rattle.std.specs.Prelude.{◌||◌, ◌&&◌, filter}
 use Rattle.std.proofs.lemmas.List.{length-append}
 use Rattle.febe_data.specs.declared.entry.Entry.{Entry}
 use Rattle.febe_data.specs.Plain.{PlainEntry, PlainChange, plain_entry, plain_history}
 use Rattle.world_rules.specs.FlatView.{FlatView, after_entry, view_of, entries_in}
-use Rattle.world_rules.specs.History.{is_live, next_serial}
+use Rattle.world_rules.specs.History.{is_live, next_serial, kept}
 use Rattle.world_rules.specs.InPlace.{HasRoom}
 use Rattle.world_rules.proofs.Folded.{counts_entries}
+use Rattle.entry_fits.specs.Laws.{IsRegular}
+use Rattle.edit_log.specs.Images.{AreEntries}
 use Rattle.green_store.specs.IsStore.{IsStore}
 use Rattle.green_store.specs.LeavesLive.{LeavesLive}
 use Rattle.green_store.specs.Sessions.{greatest_session, begin_entry, end_entry}
 use Rattle.green_store.proofs.Histories.{entries_fit, view_of-push, is_live-push, greatest-push, plain_history-push}
+use Rattle.green_store.proofs.Regulars.{regular_begun, regular_ended, entries_other}
 use Rattle.green_store.proofs.Lives.{live_within, live_known, joined, parted, parted_fewer}
 
 grown : (h : List PlainEntry) (e : PlainEntry) (stands : FlatView → Type 0) → stands (after_entry (view_of h) e) → stands (view_of (h ++ e ∷ []))
@@ -24,6 +27,8 @@ begun h room more stood stands live greatest session store after next enough = r
   live_are = λ s. joined live session s ∙ ap (λ (b : Bool). session == s || b) (store.live_are s) ∙ sym (is_live-push h (begin_entry session) s);
   greatest_is = let above : session ≡ max (greatest_session h) session = omega arith in above ∙ sym (greatest-push h (begin_entry session));
   room_kept = omega (arith, length-append live (session ∷ []));
+  regular = regular_begun h session next store.regular;
+  entries = entries_other h (begin_entry session) refl store.entries;
 }
 
 within : (h : List PlainEntry) (greatest : ℕ) (e : PlainEntry) → greatest ≡ greatest_session h → is_live h e.session ≡ true → greatest ≡ greatest_session (h ++ e ∷ [])
@@ -39,15 +44,19 @@ over h room stood stands live greatest session store is after = record {
   live_are = λ s. parted live session s ∙ ap (λ (b : Bool). not (session == s) && b) (store.live_are s) ∙ sym (is_live-push h (end_entry h session) s);
   greatest_is = within h greatest (end_entry h session) store.greatest_is is;
   room_kept = omega (arith, parted_fewer live session (store.live_are session ∙ is), store.room_kept);
+  regular = regular_ended h session store.regular;
+  entries = entries_other h (end_entry h session) refl store.entries;
 }
 
 pub gone_on : (h : List PlainEntry) (room more : ℕ) (stood stands : FlatView → Type 0) (live : List ℕ) (greatest : ℕ) (e : PlainEntry) → IsStore h room stood live greatest → is_live h e.session ≡ true → LeavesLive e.change
-    → stands (after_entry (view_of h) e) → length live ≤ more → IsStore (h ++ e ∷ []) more stands live greatest
-gone_on h room more stood stands live greatest e store is stays after enough = record {
+    → stands (after_entry (view_of h) e) → length live ≤ more → IsRegular (h ++ e ∷ []) → AreEntries (kept (h ++ e ∷ [])) → IsStore (h ++ e ∷ []) more stands live greatest
+gone_on h room more stood stands live greatest e store is stays after enough regular entries = record {
   world_stands = grown h e stands after;
   live_are = λ s. store.live_are s ∙ sym (is_live-push h e s ∙ stays s (is_live h s) e.session e.serial);
   greatest_is = within h greatest e store.greatest_is is;
   room_kept = enough;
+  regular = regular;
+  entries = entries;
 }
 
 -- ---- the entry that the code makes

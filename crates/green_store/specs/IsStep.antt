@@ -1,5 +1,5 @@
 -- What each step does to a store, and what it is answered.
-use Rattle.std.specs.Prelude.{◌≡◌, ◌⊎◌, ℕ, ◌+◌, ◌<◌, ◌^◌, IsTrue, false, length}
+use Rattle.std.specs.Prelude.{◌≡◌, ◌⊎◌, ℕ, ◌+◌, ◌<◌, ◌^◌, Bool, IsTrue, false, length}
 use Rattle.febe_data.specs.declared.refusal.Refusal.TheVariants.{Memory}
 use Rattle.febe_data.specs.Plain.{PlainRequest, plain_request, PlainReply, plain_reply, refused}
 use Rattle.febe_data.specs.Validity.{IsRequest, IsReply}
@@ -42,33 +42,35 @@ pub record IsRefusedAsInvalid (before : StoreView) (reply : PlainReply) (after :
   pub reply_is : reply ≡ refused Memory
   pub stays : after ≡ before
 
--- a valid request is replied to by a legal step, and one that is not valid is refused
-abbrev pub IsGiven : StoreView → ℕ → PlainRequest → PlainReply → StoreView → Type 0
-IsGiven before session request reply after =
-    (IsRequest request × Steps before.limits session before.history request reply after.history false)
+-- a valid request is replied to by a legal step, in which the count of disk faults rose or not, and one that is not valid
+-- is refused
+abbrev pub IsGiven : StoreView → ℕ → PlainRequest → PlainReply → StoreView → Bool → Type 0
+IsGiven before session request reply after rose =
+    (IsRequest request × Steps before.limits session before.history request reply after.history rose)
     ⊎ ((¬ IsRequest request) × IsRefusedAsInvalid before reply after)
 
 -- The live session's request has this reply, with the number of entries after it: by a legal step where the
 -- request is valid.
-pub record IsReplied (before : StoreView) (session : ℕ) (request : PlainRequest) (reply : PlainReply) (point : ℕ) (after : StoreView) : Type 0 where
+pub record IsReplied (before : StoreView) (session : ℕ) (request : PlainRequest) (reply : PlainReply) (point : ℕ) (after : StoreView) (rose : Bool) : Type 0 where
   pub live : IsTrue (is_live before.history session)
   pub limits_stay : after.limits ≡ before.limits
   pub point_is : point ≡ length after.history
   pub valid : IsReply reply
-  pub given : IsGiven before session request reply after
+  pub given : IsGiven before session request reply after rose
 
 -- the live session has ended: its End is added
 pub record HasEnded (before : StoreView) (session : ℕ) (after : StoreView) : Type 0 where
   pub live : IsTrue (is_live before.history session)
   pub grows : after ≡ with_one before (end_entry before.history session)
 
--- A step, from the store before it to the one after it, and its answer. What is not listed never happens.
-abbrev pub IsStep : StoreView → Step → StoreView → StepAnswer → Type 0
-IsStep before steps.Begin after (answers.Begun session) = IsBegun before session after
-IsStep before steps.Begin after answers.NoNumber = HasNoNumber before after
-IsStep before steps.Begin after answers.Memory = HadNoMemory before after
-IsStep before (steps.Ask session request) after (answers.Reply reply point) = IsReplied before session (plain_request request) (plain_reply reply) point after
-IsStep before (steps.Ask session request) after answers.NoSession = IsNotLive before session after
-IsStep before (steps.End session) after answers.Ended = HasEnded before session after
-IsStep before (steps.End session) after answers.NoSession = IsNotLive before session after
-IsStep before step after answer = ⊥
+-- A step, from the store before it to the one after it, its answer, and whether the count of disk faults rose meanwhile. What is
+-- not listed never happens.
+abbrev pub IsStep : StoreView → Step → StoreView → StepAnswer → Bool → Type 0
+IsStep before steps.Begin after (answers.Begun session) rose = IsBegun before session after
+IsStep before steps.Begin after answers.NoNumber rose = HasNoNumber before after
+IsStep before steps.Begin after answers.Memory rose = HadNoMemory before after
+IsStep before (steps.Ask session request) after (answers.Reply reply point) rose = IsReplied before session (plain_request request) (plain_reply reply) point after rose
+IsStep before (steps.Ask session request) after answers.NoSession rose = IsNotLive before session after
+IsStep before (steps.End session) after answers.Ended rose = HasEnded before session after
+IsStep before (steps.End session) after answers.NoSession rose = IsNotLive before session after
+IsStep before step after answer rose = ⊥

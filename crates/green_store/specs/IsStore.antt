@@ -3,13 +3,17 @@ use Rattle.std.specs.Prelude.{◌≡◌, ℕ, ◌≤◌, ◌==◌, List, length}
 use Rattle.std.specs.List.{list_any}
 use Rattle.febe_data.specs.Plain.{PlainEntry}
 use Rattle.world_rules.specs.FlatView.{FlatView, view_of}
-use Rattle.world_rules.specs.History.{is_live}
+use Rattle.world_rules.specs.History.{is_live, kept}
+use Rattle.entry_fits.specs.Laws.{IsRegular}
+use Rattle.edit_log.specs.Images.{AreEntries}
 use Rattle.green_store.specs.Sessions.{greatest_session}
 
 -- The world stands for what the history has built, the live sessions and the greatest number are those of the history, and
--- there is room for the end of each live session.
+-- there is room for the end of each live session. The history is regular, and its kept entries are such as a log may have.
 pub record IsStore (history : List PlainEntry) (room : ℕ) (stands : FlatView → Type 0) (live : List ℕ) (greatest : ℕ) : Type 0 where
   pub world_stands : stands (view_of history)
   pub live_are : (session : ℕ) → list_any (λ s. s == session) live ≡ is_live history session
   pub greatest_is : greatest ≡ greatest_session history
   pub room_kept : length live ≤ room
+  pub regular : IsRegular history
+  pub entries : AreEntries (kept history)

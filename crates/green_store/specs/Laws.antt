@@ -1,4 +1,5 @@
 -- What holds of the histories of all stores.
+use Rattle.std.specs.Prelude.{Bool}
 use Rattle.world_rules.specs.World.{empty_world}
 use Rattle.world_rules.specs.Placed.{AllPlaced}
 use Rattle.world_rules.specs.Serials.{SerialsCount}
@@ -10,10 +11,10 @@ use Rattle.green_store.specs.StoreView.{StoreView}
 -- Steps of any sessions make new documents, and change them at places that are there. So the laws of such
 -- histories hold of a store's, which begins with a restart.
 abbrev pub StepsStayPlaced : Type 0
-StepsStayPlaced = (before after : StoreView) (step : Step) (answer : StepAnswer) → AllPlaced empty_world before.history
-    → IsStep before step after answer → AllPlaced empty_world after.history
+StepsStayPlaced = (before after : StoreView) (step : Step) (answer : StepAnswer) (rose : Bool) → AllPlaced empty_world before.history
+    → IsStep before step after answer rose → AllPlaced empty_world after.history
 
 -- And they leave the serials of each session that began after the last restart counting its entries from 1.
 abbrev pub StepsCount : Type 0
-StepsCount = (before after : StoreView) (step : Step) (answer : StepAnswer) → SerialsCount before.history
-    → IsStep before step after answer → SerialsCount after.history
+StepsCount = (before after : StoreView) (step : Step) (answer : StepAnswer) (rose : Bool) → SerialsCount before.history
+    → IsStep before step after answer rose → SerialsCount after.history

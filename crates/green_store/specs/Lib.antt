@@ -5,6 +5,14 @@ pub use Rattle.world_rules.specs.Apply
 pub use Rattle.world_rules.specs.History
 pub use Rattle.world_rules.specs.Holding
 pub use Rattle.world_rules.specs.Legal
+pub use Rattle.green_io.specs.Areas
+pub use Rattle.green_io.specs.Disk
+pub use Rattle.green_io.specs.Outside
+pub use Rattle.entry_fits.specs.Fits
+pub use Rattle.entry_fits.specs.Laws as EntryLaws
+pub use Rattle.edit_log.specs.Images
+pub use Rattle.edit_log.specs.Log
+pub use Rattle.edit_log.specs.LogView
 pub mod Sessions
 pub mod Steps
 pub mod StoreView
@@ -12,3 +20,7 @@ pub mod IsStep
 pub mod IsStore
 pub mod LeavesLive
 pub mod Laws
+pub mod Durable
+pub mod Opening
+pub mod Replayed
+pub mod inside

@@ -1,5 +1,17 @@
 //! Laws of stores. Each is a function that does nothing, whose contract says the law.
+ghost use Rattle.std.specs.Prelude.{Option};
+ghost use Rattle.febe_data.specs.Plain.{PlainEntry};
+ghost use Rattle.green_io.specs.Areas.{Areas};
+ghost use Rattle.green_io.specs.Disk.{images_now};
+ghost use Rattle.world_rules.specs.History.{kept};
+ghost use Rattle.green_store.specs.Durable.{Keeps, HoldsWith, IsThat};
 ghost use Rattle.green_store.specs.Laws.{StepsCount, StepsStayPlaced};
+ghost use Rattle.green_store.specs.Opening.{EachHasOneOpening};
+
+use crate::store::StoreOver;
+use edit_log::laws::{one_reading, open_is_whole, pending_is_whole};
+use green_io::Disk;
+use tree_world::Undoes;
 
 /// Whatever sessions ask, in whatever order: new documents are new, and changes are made at places that are there.
 pub fn steps_stay_placed()
@@ -10,3 +22,18 @@ pub fn steps_stay_placed()
 pub fn steps_count()
     ensures { StepsCount }
 {}
+
+/// What a crash leaves of a disk between two steps: a whole log with the kept entries, or with the pending edit behind them.
+pub fn images_are_kept<W: Undoes, D: Disk>(disk: &D, store: &StoreOver<W>)
+    ensures { (pending : Option PlainEntry) → Keeps (D.state disk.now) store.now pending → (image : Areas) → images_now (D.state disk.now) image → HoldsWith (kept store.now.history) (IsThat pending) image }
+{
+    open_is_whole(disk, &store.log);
+    pending_is_whole(disk, &store.log);
+}
+
+/// Where a store is opened, the bytes of the log alone decide between its entries and the one place of its damage.
+pub fn one_opening()
+    ensures { EachHasOneOpening }
+{
+    one_reading();
+}

@@ -1,11 +1,16 @@
 //! One store for many sessions: the history, and what each step adds to it.
 #![tactic(auto)]
 
+mod keeping;
 pub mod laws;
+mod opening;
+#[cfg(test)]
+mod opening_tests;
 mod step;
 mod store;
 #[cfg(test)]
 mod tests;
 
+pub use opening::OpenFault;
 pub use step::{Step, StepAnswer};
 pub use store::{Store, StoreOver};

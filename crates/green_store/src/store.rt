@@ -1,95 +1,73 @@
 //! The history of many sessions, and the world that it builds.
-ghost use Rattle.std.specs.Prelude.{◌≡◌, ◌≢◌, ◌+◌, ◌==◌, [], ◌∷◌, not, filter, false, IsTrue, IfOk, OnOk, OnErr};
+ghost use Rattle.std.specs.Prelude.{◌≡◌, ◌≢◌, ◌⊎◌, ◌≤◌, ◌+◌, ◌==◌, [], ◌∷◌, not, filter, Bool, false, Option, IsTrue, IfOk, OnOk, OnErr};
 ghost use Rattle.std.specs.List.{list_any};
 
+use crate::keeping::{is_kept, keep, look_at, record_of};
 use crate::step::{Step, StepAnswer};
+use edit_log::{Appended, EditLog};
 use febe_data::{Change, Entry, Limits, List, Memory, Refusal, Reply, Request, Tumbler};
+use green_io::{Area, Disk};
 use std::alloc::Global;
 use std::marker::Model;
-use tree_world::TreeWorld;
-use world_rules::{Applies, Effect, Served};
+use tree_world::{TreeWorld, Undoes};
+use world_rules::{Effect, Served};
 
-/// A history that begins with a restart, and the world that it has built, to which each entry is applied once. Any world
-/// serves that entries change and that answers what requests look up.
+/// A history that begins with the entries of a log and a restart, the world that it has built, to which each entry is applied
+/// once, and the log, to which each kept entry is appended before it is in the history. Any world serves that entries change,
+/// that takes the last one back, and that answers what requests look up.
 #[derive(Drop)]
-pub struct StoreOver<W: Applies> {
-    history: List<Entry>,
-    world: W,
+pub struct StoreOver<W: Undoes> {
+    pub(crate) history: List<Entry>,
+    pub(crate) world: W,
     /// The live sessions. The history has room for the end of each.
-    live: List<u64>,
+    pub(crate) live: List<u64>,
     /// The greatest session number of the history.
-    greatest: u64,
-    limits: Limits,
+    pub(crate) greatest: u64,
+    pub(crate) limits: Limits,
+    pub(crate) log: EditLog,
 }
 
 /// The store of a back end that keeps its world in trees and tables.
 pub type Store = StoreOver<TreeWorld>;
 
-impl<W: Applies> Model for StoreOver<W> {
+impl<W: Undoes> Model for StoreOver<W> {
     ghost use Rattle.febe_data.specs.Plain.{plain_history};
     ghost use Rattle.green_store.specs.StoreView.{StoreView};
     ghost use Rattle.green_store.specs.IsStore.{IsStore};
 
     ghost Value = { StoreView };
 
-    ghost view = { λ s. record { history = plain_history s.history.items; limits = s.limits } };
+    ghost view = { λ s. record { history = plain_history s.history.items; limits = s.limits; log = s.log } };
 
     ghost invariant = { λ s. IsStore (plain_history s.history.items) s.history.spare (W.stands s.world) s.live.items s.greatest };
 }
 
-impl StoreOver<TreeWorld> {
-    ghost use Rattle.world_rules.specs.History.{restart_entry};
-
-    /// A store of a back end that has just begun.
-    pub fn fresh(alloc: Global, limits: Limits) -> Result<Store, Memory>
-        ensures history { IfOk result (λ store. store.history ≡ restart_entry ∷ []) }
-        ensures limits { IfOk result (λ store. store.limits ≡ limits) }
-    {
-        let world = TreeWorld::new(alloc)?;
-        StoreOver::over(alloc, world, limits)
-    }
-}
-
-impl<W: Applies + Drop> StoreOver<W> {
+impl<W: Undoes + Drop> StoreOver<W> {
     ghost use Rattle.febe_data.specs.Plain.{plain_history};
+    ghost use Rattle.febe_data.specs.Plain.{PlainEntry};
+    ghost use Rattle.green_io.specs.Disk.{LeavesOnly, LeavesOthers};
     ghost use Rattle.world_rules.specs.Apply.{world_of};
-    ghost use Rattle.world_rules.specs.FlatView.{nothing_yet, view_of};
-    ghost use Rattle.world_rules.specs.History.{restart_entry};
+    ghost use Rattle.world_rules.specs.FlatView.{view_of};
     ghost use Rattle.world_rules.specs.Holding.{holder};
+    ghost use Rattle.green_store.specs.Durable.{has_risen, Keeps, HoldsStep, KeepsStep};
     ghost use Rattle.green_store.specs.IsStep.{IsStep};
 
-    /// A store of a back end that has just begun, over a world that no entry has changed yet.
-    #[tactic(auto, using(crate::proofs::Histories::histories))]
-    pub fn over(alloc: Global, mut world: W, limits: Limits) -> Result<StoreOver<W>, Memory>
-        requires { W.stands world nothing_yet }
-        ensures history { IfOk result (λ store. store.history ≡ restart_entry ∷ []) }
-        ensures limits { IfOk result (λ store. store.limits ≡ limits) }
-    {
-        let restart = Entry {
-            session: 0,
-            serial: 0,
-            change: Change::Restart,
-        };
-        let mut history = List::new(alloc);
-        world.apply(alloc, &restart)?;
-        history.push(restart)?;
-        Ok(StoreOver {
-            history,
-            world,
-            live: List::new(alloc),
-            greatest: 0,
-            limits,
-        })
-    }
-
-    /// Does one step, whole: where there is no memory in its midst, nothing of it stays.
-    pub fn step(&mut self, alloc: Global, step: Step) -> StepAnswer
-        ensures step { IsStep self.old step self.new result }
+    /// Does one step, whole: where there is no memory in its midst, or the disk fails, nothing of it stays but an edit that is
+    /// pending in the log, which the next edit takes back first.
+    ///
+    /// An edit builds its reply, its trees and its record first, then mends the log where an edit is pending, appends, and
+    /// stands. What was appended is never refused. Steps that make no kept change leave the disk alone.
+    pub fn step<D: Disk>(&mut self, alloc: Global, disk: &mut D, step: Step) -> StepAnswer
+        ensures step { IsStep self.old step self.new result (has_risen (D.fault_count disk.old) (D.fault_count disk.new)) }
         ensures limits { self.new.limits ≡ self.old.limits }
+        ensures any_moment { (pending : Option PlainEntry) → Keeps (D.state disk.old) self.old pending → LeavesOnly (D.state disk.old) (D.state disk.new) (HoldsStep self.old pending step) }
+        ensures keeps { (pending : Option PlainEntry) → Keeps (D.state disk.old) self.old pending → KeepsStep self.old pending step self.new result (D.state disk.new) }
+        ensures others { LeavesOthers Area.Log (D.state disk.old) (D.state disk.new) }
+        ensures never_falls { D.fault_count disk.old ≤ D.fault_count disk.new }
     {
         match step {
             Step::Begin => self.begin(alloc),
-            Step::Ask { session, request } => self.ask(alloc, session, &request),
+            Step::Ask { session, request } => self.ask(alloc, disk, session, &request),
             Step::End { session } => self.end(alloc, session),
         }
     }
@@ -137,12 +115,17 @@ fn remove(live: &mut List<u64>, session: u64)
 }
 
 #[tactic(auto, using(crate::proofs::Histories::histories))]
-impl<W: Applies + Drop> StoreOver<W> {
-    ghost use Rattle.febe_data.specs.Plain.{plain_request, plain_reply, plain_change};
+impl<W: Undoes + Drop> StoreOver<W> {
+    ghost use Rattle.febe_data.specs.Plain.{PlainEntry, plain_request, plain_reply, plain_change};
     ghost use Rattle.febe_data.specs.Validity.{IsRequest, IsReply};
-    ghost use Rattle.world_rules.specs.History.{is_live};
+    ghost use Rattle.green_io.specs.Disk.{LeavesOnly, LeavesOthers};
+    ghost use Rattle.world_rules.specs.Apply.{world_of};
+    ghost use Rattle.world_rules.specs.History.{is_live, is_counted, kept};
     ghost use Rattle.world_rules.specs.Legal.{entry_after};
+    ghost use Rattle.world_rules.specs.Placed.{IsPlaced};
     ghost use Rattle.world_rules.specs.PlainEffect.{plain_effect};
+    ghost use Rattle.green_store.specs.Durable.{has_risen, Keeps, HoldsWith, IsThat, HoldsRequest, KeepsRequest, HoldsStep, KeepsStep};
+    ghost use Rattle.green_store.specs.inside.{MayBeKept, IsKeptOrTakenBack, KeepsEdit};
     ghost use Rattle.green_store.specs.Sessions.{greatest_session, begin_entry, end_entry};
     ghost use Rattle.green_store.specs.Steps.{Steps};
     ghost use Rattle.green_store.specs.StoreView.{with_one};
@@ -150,7 +133,7 @@ impl<W: Applies + Drop> StoreOver<W> {
     ghost use Rattle.green_store.specs.LeavesLive.{LeavesLive};
 
     fn begin(&mut self, alloc: Global) -> StepAnswer
-        ensures step { IsStep self.old Step.Begin self.new result }
+        ensures step { (rose : Bool) → IsStep self.old Step.Begin self.new result rose }
         ensures limits { self.new.limits ≡ self.old.limits }
     {
         let Some(session) = self.greatest.checked_add(1) else {
@@ -162,14 +145,24 @@ impl<W: Applies + Drop> StoreOver<W> {
         }
     }
 
-    fn ask(&mut self, alloc: Global, session: u64, request: &Request) -> StepAnswer
-        ensures step { IsStep self.old (Step.Ask session request.now) self.new result }
+    fn ask<D: Disk>(
+        &mut self,
+        alloc: Global,
+        disk: &mut D,
+        session: u64,
+        request: &Request,
+    ) -> StepAnswer
+        ensures step { IsStep self.old (Step.Ask session request.now) self.new result (has_risen (D.fault_count disk.old) (D.fault_count disk.new)) }
         ensures limits { self.new.limits ≡ self.old.limits }
+        ensures any_moment { (pending : Option PlainEntry) → Keeps (D.state disk.old) self.old pending → LeavesOnly (D.state disk.old) (D.state disk.new) (HoldsStep self.old pending (Step.Ask session request.now)) }
+        ensures keeps { (pending : Option PlainEntry) → Keeps (D.state disk.old) self.old pending → KeepsStep self.old pending (Step.Ask session request.now) self.new result (D.state disk.new) }
+        ensures others { LeavesOthers Area.Log (D.state disk.old) (D.state disk.new) }
+        ensures never_falls { D.fault_count disk.old ≤ D.fault_count disk.new }
     {
         if !self.is_live(session) {
             return StepAnswer::NoSession;
         }
-        let reply = self.answer(alloc, session, request);
+        let reply = self.answer(alloc, disk, session, request);
         StepAnswer::Reply {
             reply,
             point: self.history.len() as u64,
@@ -177,7 +170,7 @@ impl<W: Applies + Drop> StoreOver<W> {
     }
 
     fn end(&mut self, alloc: Global, session: u64) -> StepAnswer
-        ensures step { IsStep self.old (Step.End session) self.new result }
+        ensures step { (rose : Bool) → IsStep self.old (Step.End session) self.new result rose }
         ensures limits { self.new.limits ≡ self.old.limits }
     {
         if !self.is_live(session) {
@@ -233,11 +226,21 @@ impl<W: Applies + Drop> StoreOver<W> {
     }
 
     /// The reply to a request of a live session. Only a quit ends the session.
-    fn answer(&mut self, alloc: Global, session: u64, request: &Request) -> Reply
+    fn answer<D: Disk>(
+        &mut self,
+        alloc: Global,
+        disk: &mut D,
+        session: u64,
+        request: &Request,
+    ) -> Reply
         requires { IsTrue (is_live self.old.history session) }
         ensures valid { IsReply (plain_reply result) }
         ensures limits { self.new.limits ≡ self.old.limits }
-        ensures given { IsGiven self.old session (plain_request request.now) (plain_reply result) self.new }
+        ensures given { IsGiven self.old session (plain_request request.now) (plain_reply result) self.new (has_risen (D.fault_count disk.old) (D.fault_count disk.new)) }
+        ensures any_moment { (pending : Option PlainEntry) → Keeps (D.state disk.old) self.old pending → LeavesOnly (D.state disk.old) (D.state disk.new) (HoldsRequest self.old pending session (plain_request request.now)) }
+        ensures keeps { (pending : Option PlainEntry) → Keeps (D.state disk.old) self.old pending → KeepsRequest self.old pending session (plain_request request.now) self.new (plain_reply result) (D.state disk.new) }
+        ensures others { LeavesOthers Area.Log (D.state disk.old) (D.state disk.new) }
+        ensures never_falls { D.fault_count disk.old ≤ D.fault_count disk.new }
     {
         if let Request::Quit = request {
             self.add_end(alloc, session);
@@ -246,32 +249,52 @@ impl<W: Applies + Drop> StoreOver<W> {
         if !request.is_valid() {
             return Reply::Refused(Refusal::Memory);
         }
-        match self.serve(alloc, session, request) {
+        match self.serve(alloc, disk, session, request) {
             Ok(reply) => reply,
             Err(Memory) => Reply::Refused(Refusal::Memory),
         }
     }
 
-    /// The reply to a request that is no quit, where there is memory for it.
-    fn serve(&mut self, alloc: Global, session: u64, request: &Request) -> Result<Reply, Memory>
+    /// The reply to a request that is no quit, where there is memory for it. Where there is none the disk is left alone.
+    fn serve<D: Disk>(
+        &mut self,
+        alloc: Global,
+        disk: &mut D,
+        session: u64,
+        request: &Request,
+    ) -> Result<Reply, Memory>
         requires live { IsTrue (is_live self.old.history session) }
         requires asks { request.now ≢ Request.Quit }
+        requires valid { IsRequest (plain_request request.now) }
         ensures valid { IfOk result (λ reply. IsReply (plain_reply reply)) }
         ensures limits { self.new.limits ≡ self.old.limits }
-        ensures steps { IfOk result (λ reply. Steps self.old.limits session self.old.history (plain_request request.now) (plain_reply reply) self.new.history false) }
+        ensures steps { IfOk result (λ reply. Steps self.old.limits session self.old.history (plain_request request.now) (plain_reply reply) self.new.history (has_risen (D.fault_count disk.old) (D.fault_count disk.new))) }
+        ensures any_moment { (pending : Option PlainEntry) → Keeps (D.state disk.old) self.old pending → LeavesOnly (D.state disk.old) (D.state disk.new) (HoldsRequest self.old pending session (plain_request request.now)) }
+        ensures keeps { (pending : Option PlainEntry) → Keeps (D.state disk.old) self.old pending → IfOk result (λ reply. KeepsRequest self.old pending session (plain_request request.now) self.new (plain_reply reply) (D.state disk.new)) }
+        ensures others { LeavesOthers Area.Log (D.state disk.old) (D.state disk.new) }
+        ensures never_falls { D.fault_count disk.old ≤ D.fault_count disk.new }
         ensures err { OnErr result (self.new ≡ self.old) }
+        ensures untouched { OnErr result (disk.new ≡ disk.old) }
     {
         match world_rules::serve(&self.world, alloc, session, request, &self.limits)? {
             Served::Refused(refusal) => Ok(Reply::Refused(refusal)),
             Served::Answered(reply) => Ok(reply),
+            Served::Changed(made) if is_kept(&made.change) => {
+                // What the types of its fields say of them, and the bounds of the limits.
+                look_at(&made.change);
+                let _ = self.limits.text();
+                self.make_kept(alloc, disk, session, made)
+            }
             Served::Changed(made) => self.make(alloc, session, made),
         }
     }
 
-    /// Makes a change of a live session that is neither its begin nor its end.
+    /// Makes a change of a live session that is neither its begin nor its end, and that is not kept over a restart.
     fn make(&mut self, alloc: Global, session: u64, made: Effect) -> Result<Reply, Memory>
         requires live { IsTrue (is_live self.old.history session) }
         requires stays { LeavesLive (plain_change made.change) }
+        requires placed { IsPlaced (world_of self.old.history) (plain_change made.change) }
+        requires drops { is_counted (plain_change made.change) ≡ false }
         ensures reply { IfOk result (λ reply. reply ≡ made.reply) }
         ensures ok { OnOk result (self.new ≡ with_one self.old (entry_after self.old.history session (plain_effect made))) }
         ensures err { OnErr result (self.new ≡ self.old) }
@@ -287,6 +310,45 @@ impl<W: Applies + Drop> StoreOver<W> {
         };
         self.world.apply(alloc, &entry)?;
         self.history.push_reserved(entry);
+        Ok(made.reply)
+    }
+
+    /// Makes a change of a live session that is kept over a restart: its trees and its record come first, then the log, and
+    /// then it is in the history. Where the disk fails the trees are taken back, which takes no memory.
+    fn make_kept<D: Disk>(
+        &mut self,
+        alloc: Global,
+        disk: &mut D,
+        session: u64,
+        made: Effect,
+    ) -> Result<Reply, Memory>
+        requires live { IsTrue (is_live self.old.history session) }
+        requires may { MayBeKept self.old.history session (plain_effect made) }
+        ensures limits { self.new.limits ≡ self.old.limits }
+        ensures outcome { IfOk result (λ reply. IsKeptOrTakenBack self.old.history session (plain_effect made) (plain_reply reply) self.new.history (has_risen (D.fault_count disk.old) (D.fault_count disk.new))) }
+        ensures any_moment { (pending : Option PlainEntry) → Keeps (D.state disk.old) self.old pending → LeavesOnly (D.state disk.old) (D.state disk.new) (HoldsWith (kept self.old.history) (λ other. IsThat pending other ⊎ (other ≡ entry_after self.old.history session (plain_effect made)))) }
+        ensures keeps { (pending : Option PlainEntry) → Keeps (D.state disk.old) self.old pending → IfOk result (λ reply. KeepsEdit self.old pending (entry_after self.old.history session (plain_effect made)) self.new (plain_reply reply) (D.state disk.new)) }
+        ensures others { LeavesOthers Area.Log (D.state disk.old) (D.state disk.new) }
+        ensures never_falls { D.fault_count disk.old ≤ D.fault_count disk.new }
+        ensures err { OnErr result (self.new ≡ self.old) }
+        ensures untouched { OnErr result (disk.new ≡ disk.old) }
+    {
+        let room = self.live.len().checked_add(1).ok_or(Memory)?;
+        self.history.reserve(room)?;
+        // A list with its spare is shorter than 2^64, so there is a next serial.
+        let _ = self.history.spare();
+        let edit = Entry {
+            session,
+            serial: self.world.entries_of(session) + 1,
+            change: made.change,
+        };
+        let record = record_of(alloc, &edit)?;
+        let undo = self.world.apply_with_undo(alloc, &edit)?;
+        let Appended::Ok = keep(&mut self.log, disk, &record) else {
+            self.world.undo(undo);
+            return Ok(Reply::Refused(Refusal::Disk));
+        };
+        self.history.push_reserved(edit);
         Ok(made.reply)
     }
 }

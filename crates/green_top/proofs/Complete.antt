@@ -1,18 +1,26 @@
--- A session's whole input is served.
-use Rattle.std.proofs.Common.{◌≡◌, ℕ, List, [], ◌++◌, length, Option, Some, None, refl, sym, ap, ◌∙◌, subst, inl, inr, ◌⊎◌, arith}
+-- A session's whole input is served over a log that is not damaged.
+use Rattle.std.proofs.Common.{◌≡◌, ℕ, ◌+◌, ◌<◌, ◌^◌, List, [], ◌++◌, length, Option, Some, None, refl, sym, ap, ◌∙◌, subst, inl, inr, ◌⊎◌, arith}
 use Rattle.std.specs.Io.KnownBytes.{Consumes, IsAtEnd}
 use Rattle.std.proofs.lemmas.List.{append-nil, length-append}
 use Rattle.febe_data.specs.LimitsView.{LimitsView}
+use Rattle.febe_data.specs.Plain.{PlainEntry}
 use Rattle.febe_fields.specs.Prefixes.{IsPrefix}
 use Rattle.febe_wire.specs.Sessions.{IsInput}
 use Rattle.febe_feed.proofs.Malformed.{prefixes_are_right}
+use Rattle.green_io.specs.Areas.{Areas}
+use Rattle.edit_log.specs.Laws.{EachHasOneReading}
+use Rattle.green_store.specs.declared.opening.OpenFault.{OpenFault}
+use Rattle.green_store.specs.declared.opening.OpenFault.TheVariants as faults
+use Rattle.green_store.specs.Sessions.{greatest_session}
 use Rattle.green_top.specs.declared.session_end.SessionEnd.{SessionEnd}
 use Rattle.green_top.specs.declared.session_end.SessionEnd.TheVariants as ends
-use Rattle.green_top.specs.Batch.{status_of, WhyNothing}
+use Rattle.green_top.specs.Batch.{status_of, fault_status, FaultCause, IsUsage, IsNotOpened}
 use Rattle.green_top.specs.Ends.{Cause}
-use Rattle.green_top.specs.Laws.{NoFaults, HasSession, Completeness}
+use Rattle.green_top.specs.Outcome.{Leaves}
+use Rattle.green_top.specs.Laws.{NoFaults, HasSession, HasLog, Completeness}
 use Rattle.green_top.specs.IoState.{IoState}
 use Rattle.green_top.specs.Words.{AreWords}
+use Rattle.green_top.proofs.Readings.{undamaged, opened_is, greatest_opened}
 
 -- what was read is a prefix of what was left
 prefix_of : (left left' : Option (List ℕ)) (input read : List ℕ) → left ≡ Some input → Consumes left left' read → (rest : List ℕ) × (left' ≡ Some rest) × (input ≡ read ++ rest)
@@ -22,6 +30,11 @@ prefix_of (Some xs) (Some ys) input read e c = (ys, refl, sym (some_is xs input 
   where
     some_is : (a b : List ℕ) → (let x : Option (List ℕ) = Some a in x) ≡ Some b → a ≡ b
     some_is a b is = cc
+
+-- where there is a number a session does not end for want of one
+number_left : (limits : LimitsView) (opened : List PlainEntry) (read written : List ℕ) (history : List PlainEntry) (points : List ℕ) (m n : ℕ) → greatest_session opened + 1 < 2 ^ 64 → ¬ Leaves limits opened ends.NoNumber read written history points m n
+number_left limits opened read written history points m n has (inl l) = omega (arith, has, l.0.0)
+number_left limits opened read written history points m n has (inr s) = s.answered_and_written
 
 module _ (before after : IoState) (s : HasSession before.left) (quiet : NoFaults before after) (read : List ℕ) (consumed : Consumes before.left after.left read) where
   abbrev prefix : (rest : List ℕ) × (after.left ≡ Some rest) × (s.input ≡ read ++ rest)
@@ -35,25 +48,36 @@ module _ (before after : IoState) (s : HasSession before.left) (quiet : NoFaults
       let none : prefix.0 ≡ [] = rw prefix.1 at over in
       subst IsInput (prefix.2 ∙ ap (λ (rest : List ℕ). read ++ rest) none ∙ append-nil read) s.whole
 
-  served : (end : SessionEnd) → Cause end read before after → (status_of end ≡ 0) ⊎ (status_of end ≡ 9)
-  served ends.Quit cause = inl refl
-  served ends.End cause = inl refl
-  served (ends.Malformed at) cause = absurd (prefixes_are_right read at is_prefix cause)
-  served (ends.Truncated at) cause = absurd (cause.0.inside (whole_read cause.1))
-  served ends.ReadFault cause = absurd (quiet.none_read cause.2)
-  served ends.WriteFault cause = absurd (quiet.none_written cause)
-  served ends.Memory cause = inr refl
-  served ends.Budget cause = absurd (omega (arith, cause.1, s.short, ap length prefix.2, length-append read prefix.0))
-  served ends.NoNumber cause = absurd cause
+  module _ (limits : LimitsView) (opened : List PlainEntry) (written : List ℕ) (history : List PlainEntry) (points : List ℕ) (has : greatest_session opened + 1 < 2 ^ 64) where
+    served : (end : SessionEnd) → Cause end read before after → Leaves limits opened end read written history points before.disk_faults after.disk_faults → (status_of end ≡ 0) ⊎ (status_of end ≡ 9)
+    served ends.Quit cause leaves = inl refl
+    served ends.End cause leaves = inl refl
+    served (ends.Malformed at) cause leaves = absurd (prefixes_are_right read at is_prefix cause)
+    served (ends.Truncated at) cause leaves = absurd (cause.0.inside (whole_read cause.1))
+    served ends.ReadFault cause leaves = absurd (quiet.none_read cause.2)
+    served ends.WriteFault cause leaves = absurd (quiet.none_written cause)
+    served ends.Memory cause leaves = inr refl
+    served ends.Budget cause leaves = absurd (omega (arith, cause.1, s.short, ap length prefix.2, length-append read prefix.0))
+    served ends.NoNumber cause leaves = absurd (number_left limits opened read written history points before.disk_faults after.disk_faults has leaves)
 
-by_nothing : (words : List (List ℕ)) (limits : LimitsView) (status : ℕ) → AreWords words limits → WhyNothing words status → (status ≡ 0) ⊎ (status ≡ 9)
-by_nothing words limits status are (inl wrong) = absurd (wrong.0 limits are)
-by_nothing words limits status are (inr memory) = inr memory.1
+-- the store is not opened for want of memory alone
+by_fault : EachHasOneReading → (reads left : Option Areas) (before after : IoState) → HasLog reads → NoFaults before after → (fault : OpenFault) → FaultCause fault reads left before after → fault_status fault ≡ 9
+by_fault one reads left before after log quiet (faults.Damaged at) cause = absurd (undamaged one reads log.entries log.read log.fit at cause.0)
+by_fault one reads left before after log quiet faults.Disk cause = absurd (quiet.none_of_disk cause)
+by_fault one reads left before after log quiet faults.Memory cause = refl
+
+by_nothing : EachHasOneReading → (words : List (List ℕ)) (limits : LimitsView) (reads left : Option Areas) (before after : IoState) (place status : ℕ) → AreWords words limits → HasLog reads → NoFaults before after
+    → IsUsage words before after place status ⊎ IsNotOpened words reads left before after place status → (status ≡ 0) ⊎ (status ≡ 9)
+by_nothing one words limits reads left before after place status are log quiet (inl wrong) = absurd (wrong.wrong limits are)
+by_nothing one words limits reads left before after place status are log quiet (inr n) = inr (n.status_is ∙ by_fault one reads left before after log quiet n.fault n.cause)
 
 either : (status given : ℕ) → status ≡ given → (given ≡ 0) ⊎ (given ≡ 9) → (status ≡ 0) ⊎ (status ≡ 9)
 either status given is (inl e) = inl (is ∙ e)
 either status given is (inr e) = inr (is ∙ e)
 
-pub completeness : Completeness
-completeness words limits before after report status are s quiet (inl nothing) = by_nothing words limits status are nothing.why
-completeness words limits before after report status are s quiet (inr o) = either status (status_of o.end) o.status_is (served before after s quiet o.run.read o.run.moves.consumed o.end o.run.cause)
+pub completeness : EachHasOneReading → Completeness
+completeness one words limits reads left before after report status are s log quiet (inl nothing) = by_nothing one words limits reads left before after report.place status are log quiet nothing.why
+completeness one words limits reads left before after report status are s log quiet (inr o) =
+    let is = opened_is one reads log.entries o.opened log.read o.from in
+    let has : greatest_session o.opened + 1 < 2 ^ 64 = omega (arith, log.number, ap greatest_session is, greatest_opened log.entries) in
+    either status (status_of o.end) o.status_is (served before after s quiet o.run.read o.run.moves.consumed o.limits o.opened o.run.written _ report.points.items has o.end o.run.cause o.run.leaves)

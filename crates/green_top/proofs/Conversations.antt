@@ -74,6 +74,7 @@ moves_both a b c r s w v p q = record {
   appended = appends_both a.taken b.taken c.taken w v p.appended q.appended;
   source_never_falls = le_trans p.source_never_falls q.source_never_falls;
   sink_never_falls = le_trans p.sink_never_falls q.sink_never_falls;
+  disk_never_falls = le_trans p.disk_never_falls q.disk_never_falls;
 }
 
 -- ---- the greeting
@@ -82,17 +83,18 @@ live_from_begin : (session : ℕ) (opened h : List PlainEntry) → Begins sessio
 live_from_begin session opened h b =
     ap (λ (x : List PlainEntry). is_live x session) b.grows ∙ fold-append (live_after session) false opened (begin_entry session ∷ []) ∙ rw (eq-eqb session session refl) refl
 
-module _ (limits : LimitsView) (session : ℕ) (h : List PlainEntry) (points : List ℕ) (feed : FeedView) (turns : TurnsView) (left : Option (List ℕ)) (source_faults : ℕ) (taken taken' : Option (List ℕ)) (faults faults' : ℕ)
-    (begun : HasBegun session (session_state h points feed turns (io_state left source_faults taken faults))) where
+module _ (limits : LimitsView) (session : ℕ) (h : List PlainEntry) (points : List ℕ) (feed : FeedView) (turns : TurnsView) (left : Option (List ℕ)) (source_faults : ℕ) (taken taken' : Option (List ℕ)) (faults faults' disk_faults : ℕ)
+    (begun : HasBegun session (session_state h points feed turns (io_state left source_faults taken faults disk_faults))) where
   abbrev start : SessionState
-  start = session_state h points feed turns (io_state left source_faults taken faults)
+  start = session_state h points feed turns (io_state left source_faults taken faults disk_faults)
 
-  put_only : (written : List ℕ) → Appends taken taken' written → faults ≤ faults' → Moves (io_state left source_faults taken faults) (io_state left source_faults taken' faults') [] written
+  put_only : (written : List ℕ) → Appends taken taken' written → faults ≤ faults' → Moves (io_state left source_faults taken faults disk_faults) (io_state left source_faults taken' faults' disk_faults) [] written
   put_only written appended rises = record {
     consumed = consumes_nothing left;
     appended = appended;
     source_never_falls = le_refl source_faults;
     sink_never_falls = rises;
+    disk_never_falls = le_refl disk_faults;
   }
 
   given_none : HasGiven ((greeting ++ feed.held) ++ []) [] feed
@@ -106,10 +108,10 @@ module _ (limits : LimitsView) (session : ℕ) (h : List PlainEntry) (points : L
   same_length : length (greeting ++ feed.held) ≡ length ((greeting ++ feed.held) ++ [])
   same_length = ap length (sym (append-nil (greeting ++ feed.held)))
 
-  just_begun : Progress limits session h h points [] (codes "P0~")
-  just_begun = rw begun.no_points (progress_begins limits session begun.opened h begun.begins)
+  just_begun : Progress limits session h h points [] (codes "P0~") disk_faults disk_faults
+  just_begun = rw begun.no_points (progress_begins limits session begun.opened h disk_faults begun.begins)
 
-  pub starts : IsPut taken taken' faults faults' (codes "P0~") put_results.Done → IsConversing limits session start (session_state h points feed turns (io_state left source_faults taken' faults'))
+  pub starts : IsPut taken taken' faults faults' (codes "P0~") put_results.Done → IsConversing limits session start (session_state h points feed turns (io_state left source_faults taken' faults' disk_faults))
   starts put = record {
     read = [];
     written = codes "P0~";
@@ -124,7 +126,7 @@ module _ (limits : LimitsView) (session : ℕ) (h : List PlainEntry) (points : L
     live = live_from_begin session begun.opened h begun.begins;
   }
 
-  pub greeting_fails : IsPut taken taken' faults faults' (codes "P0~") put_results.WriteFault → IsConversed limits session start (session_state h points feed turns (io_state left source_faults taken' faults')) ends.WriteFault
+  pub greeting_fails : IsPut taken taken' faults faults' (codes "P0~") put_results.WriteFault → IsConversed limits session start (session_state h points feed turns (io_state left source_faults taken' faults' disk_faults)) ends.WriteFault
   greeting_fails put = record {
     read = [];
     written = put.written;
@@ -178,12 +180,13 @@ module _ (limits : LimitsView) (session : ℕ) (start now after : SessionState) 
     unfolding prefix request_prefix
     whole none = record { prefix = prefix; whole = inr none }
 
-    taking : (written : List ℕ) → Appends now.io.taken after.io.taken written → now.io.sink_faults ≤ after.io.sink_faults → Moves start.io after.io (c.read ++ r) (c.written ++ written)
-    taking written appended rises = moves_both start.io now.io after.io c.read r c.written written c.moves (record {
+    taking : (written : List ℕ) → Appends now.io.taken after.io.taken written → now.io.sink_faults ≤ after.io.sink_faults → now.io.disk_faults ≤ after.io.disk_faults → Moves start.io after.io (c.read ++ r) (c.written ++ written)
+    taking written appended rises disk_rises = moves_both start.io now.io after.io c.read r c.written written c.moves (record {
       consumed = t.consumed;
       appended = appended;
       source_never_falls = t.never_falls;
       sink_never_falls = rises;
+      disk_never_falls = disk_rises;
     })
 
     short : length stream < 2 ^ 64
@@ -208,8 +211,8 @@ module _ (limits : LimitsView) (session : ℕ) (start now after : SessionState) 
     one_more : HasRequestPrefix asked_stream (c.requests ++ request ∷ [])
     one_more = request_prefix asked_stream (c.requests ++ request ∷ []) after.feed given_one still_greeted (last_may_quit c.requests request c.no_quits)
 
-    answered : (h : AnswersAndWrites limits session (answering now) (answering after) request put) → Progress limits session start.history after.history after.points (c.requests ++ request ∷ []) (c.written ++ h.output)
-    answered h = progress_goes_on limits session start.history now.history now.points c.requests c.written c.progress request h.output (answering now) (answering after) refl refl h.answers
+    answered : (h : AnswersAndWrites limits session (answering now) (answering after) request put) → Progress limits session start.history after.history after.points (c.requests ++ request ∷ []) (c.written ++ h.output) start.io.disk_faults after.io.disk_faults
+    answered h = progress_goes_on limits session start.history now.history now.points c.requests c.written start.io.disk_faults now.io.disk_faults c.progress request h.output (answering now) (answering after) refl refl refl h.answers
 
   pub goes_on : IsRound limits session now after None → IsConversing limits session start after
   goes_on ((request, no_quit, a), live) = elim a.answered [
@@ -217,7 +220,7 @@ module _ (limits : LimitsView) (session : ℕ) (start now after : SessionState) 
       read = c.read ++ a.read;
       written = c.written ++ h.output;
       requests = c.requests ++ request ∷ [];
-      moves = taking a.read a.reads h.output (subst (λ (w : List ℕ). Appends now.io.taken after.io.taken w) h.put.put h.put.appended) h.put.never_falls;
+      moves = taking a.read a.reads h.output (subst (λ (w : List ℕ). Appends now.io.taken after.io.taken w) h.put.put h.put.appended) h.put.never_falls h.answers.never_falls;
       given = given_one request put_results.Done a;
       greeted = still_greeted request put_results.Done a;
       no_quits = push_no_quit c.requests request c.no_quits no_quit;
@@ -236,7 +239,7 @@ module _ (limits : LimitsView) (session : ℕ) (start now after : SessionState) 
       written = c.written ++ h.output;
       answered = c.requests ++ quit ∷ [];
       output = c.written ++ h.output;
-      moves = taking a.read a.reads h.output (subst (λ (w : List ℕ). Appends now.io.taken after.io.taken w) h.put.put h.put.appended) h.put.never_falls;
+      moves = taking a.read a.reads h.output (subst (λ (w : List ℕ). Appends now.io.taken after.io.taken w) h.put.put h.put.appended) h.put.never_falls h.answers.never_falls;
       counted = ap (λ (x : TurnsView). x.taken) (counts a.read a.reads);
       within = bounded a.read a.reads;
       progress = answered quit put_results.Done a h;
@@ -253,7 +256,7 @@ module _ (limits : LimitsView) (session : ℕ) (start now after : SessionState) 
       written = c.written ++ h.put.written;
       answered = c.requests ++ request ∷ [];
       output = c.written ++ h.output;
-      moves = taking a.read a.reads h.put.written h.put.appended h.put.never_falls;
+      moves = taking a.read a.reads h.put.written h.put.appended h.put.never_falls h.answers.never_falls;
       counted = ap (λ (x : TurnsView). x.taken) (counts a.read a.reads);
       within = bounded a.read a.reads;
       progress = answered request put_results.WriteFault a h;
@@ -270,7 +273,7 @@ module _ (limits : LimitsView) (session : ℕ) (start now after : SessionState) 
       written = c.written ++ h.put.written;
       answered = c.requests ++ request ∷ [];
       output = c.written ++ h.output;
-      moves = taking a.read a.reads h.put.written h.put.appended h.put.never_falls;
+      moves = taking a.read a.reads h.put.written h.put.appended h.put.never_falls h.answers.never_falls;
       counted = ap (λ (x : TurnsView). x.taken) (counts a.read a.reads);
       within = bounded a.read a.reads;
       progress = answered request put_results.Memory a h;
@@ -282,10 +285,10 @@ module _ (limits : LimitsView) (session : ℕ) (start now after : SessionState) 
       written = c.written ++ [];
       answered = c.requests;
       output = c.written ++ [];
-      moves = taking a.read a.reads [] (rw s.sink_stays (appends_nothing now.io.taken)) (omega (arith, s.faults_stay));
+      moves = taking a.read a.reads [] (rw s.sink_stays (appends_nothing now.io.taken)) (omega (arith, s.faults_stay)) (omega (arith, s.disk_faults_stay));
       counted = ap (λ (x : TurnsView). x.taken) (counts a.read a.reads);
       within = bounded a.read a.reads;
-      progress = rw (s.history_stays, s.points_stay, append-nil c.written) c.progress;
+      progress = rw (s.history_stays, s.points_stay, s.disk_faults_stay, append-nil c.written) c.progress;
       cause = tt;
       answered_and_written = (prefix a.read a.reads, ([], sym (append-nil (c.written ++ []))));
     }
@@ -299,10 +302,10 @@ module _ (limits : LimitsView) (session : ℕ) (start now after : SessionState) 
 
     nothing_more : Moves start.io after.io (c.read ++ n.read) c.written
     nothing_more = subst (λ (w : List ℕ). Moves start.io after.io (c.read ++ n.read) w) (append-nil c.written)
-        (taking n.read n.reads [] (rw n.taken_stays (appends_nothing now.io.taken)) (omega (arith, n.faults_stay)))
+        (taking n.read n.reads [] (rw n.taken_stays (appends_nothing now.io.taken)) (omega (arith, n.faults_stay)) (omega (arith, n.disk_faults_stay)))
 
-    still : Progress limits session start.history after.history after.points c.requests c.written
-    still = rw (n.history_stays, n.points_stay) c.progress
+    still : Progress limits session start.history after.history after.points c.requests c.written start.io.disk_faults after.io.disk_faults
+    still = rw (n.history_stays, n.points_stay, n.disk_faults_stay) c.progress
 
     ends_so : (end : SessionEnd) → Cause end unasked_stream start.io after.io → AnsweredAndWritten end unasked_stream c.requests c.written c.written → IsConversed limits session start after end
     ends_so end cause answered_and_written = record {

@@ -1,11 +1,11 @@
 -- A session from its greeting to its end.
-use Rattle.std.proofs.Common.{Bool, max, eqb, true, ◌<◌, ◌≡◌, ◌≢◌, ℕ, ◌+◌, ◌≤◌, false, List, [], ◌∷◌, ◌++◌, length, take, Option, Err, refl, ap, ◌∙◌, sym, subst, inl, inr, ◌⊎◌, arith, le_refl}
+use Rattle.std.proofs.Common.{Bool, max, eqb, true, ◌<◌, ◌≡◌, ◌≢◌, ℕ, ◌+◌, ◌^◌, ◌≤◌, false, List, [], ◌∷◌, ◌++◌, length, take, Option, Err, refl, ap, ◌∙◌, sym, subst, inl, inr, ◌⊎◌, arith, le_refl}
 use Rattle.std.specs.List.{fold}
 use Rattle.std.proofs.lemmas.Bool.{eq-eqb, ne_eqb}
 use Rattle.std.proofs.lemmas.List.{append-nil, length-append}
 use Rattle.std.proofs.lemmas.Grind.{fold-append}
 use Rattle.febe_data.specs.LimitsView.{LimitsView}
-use Rattle.febe_data.specs.Plain.{PlainEntry}
+use Rattle.febe_data.specs.Plain.{PlainRequest, PlainEntry}
 use Rattle.febe_wire.specs.Sessions.{greeting}
 use Rattle.febe_feed.specs.FeedView.{with_piece, FeedView, Waits, IsGreeting, later}
 use Rattle.febe_feed.specs.Pieces.{HasGiven}
@@ -14,7 +14,7 @@ use Rattle.febe_feed.proofs.Malformed.{wrong_is_malformed}
 use Rattle.febe_fields.specs.Prefixes.{HasNoSpelledPrefix}
 use Rattle.world_rules.specs.World.{empty_world}
 use Rattle.world_rules.specs.Placed.{AllPlaced}
-use Rattle.world_rules.specs.History.{is_live, live_after, entries_of, restart_entry}
+use Rattle.world_rules.specs.History.{is_live, live_after, entries_of}
 use Rattle.green_session.specs.Taking.{TurnsView, ReadState, read_state, IsTaken, MayRead}
 use Rattle.green_session.specs.declared.take.Taken.{Taken}
 use Rattle.green_session.specs.declared.take.Taken.TheVariants as take_answers
@@ -27,13 +27,14 @@ use Rattle.green_store.specs.declared.step.StepAnswer.TheVariants as answers
 use Rattle.green_top.specs.declared.session_end.SessionEnd.{SessionEnd}
 use Rattle.green_top.specs.declared.session_end.SessionEnd.TheVariants as ends
 use Rattle.green_top.specs.inside.Next.{NextIs}
-use Rattle.green_top.specs.IoState.{IoState, io_state, Moves}
+use Rattle.green_top.specs.IoState.{IoState, io_state, with_disk_faults, Moves}
 use Rattle.green_top.specs.Requests.{IsNotGreeted}
 use Rattle.green_top.specs.Ends.{most_input, Cause, NeverBegan}
 use Rattle.green_top.specs.Transcript.{IsEnding, Transcript}
 use Rattle.green_top.specs.inside.Opening.{Begins}
 use Rattle.green_top.specs.Outcome.{IsOver, Leaves, IsRun}
-use Rattle.green_top.specs.inside.Conversation.{SessionState, session_state, with_history, IsGreeted, IsConversed, IsSession}
+use Rattle.green_top.specs.inside.Conversation.{SessionState, session_state, with_history, IsGreeted, all_read, IsConversed, IsSession}
+use Rattle.green_top.proofs.Rises.{rises_wider}
 use Rattle.green_top.proofs.Streams.{consumes_nothing, appends_nothing, risen_since}
 use Rattle.green_top.proofs.Conversations.{moves_both}
 use Rattle.green_store.proofs.Lives.{live_within}
@@ -41,9 +42,6 @@ use Rattle.green_store.proofs.Places.{placed_push}
 use Rattle.green_top.proofs.Progresses.{IsOwn, own_one, entries_behind, transcript_of}
 
 -- ---- the begin of a session
-
-pub fresh_placed : (h : List PlainEntry) → h ≡ restart_entry ∷ [] → AllPlaced empty_world h
-fresh_placed h e = subst (AllPlaced empty_world) (sym e) (tt, tt)
 
 -- no entry is of a session above the greatest number
 le_greatest : (h : List PlainEntry) (g : ℕ) → g ≤ fold (λ greatest (e : PlainEntry). max greatest e.session) g h
@@ -75,11 +73,11 @@ begins_with before after session placed b =
 -- ---- the end of a session
 
 -- after an End step its entry was added, or the session was not live
-after_end : (session : ℕ) (before after : StoreView) (answer : StepAnswer) → IsStep before (steps.End session) after answer
+after_end : (session : ℕ) (before after : StoreView) (answer : StepAnswer) (rose : Bool) → IsStep before (steps.End session) after answer rose
     → ((is_live before.history session ≡ true) × (after.history ≡ before.history ++ end_entry before.history session ∷ [])) ⊎ ((is_live before.history session ≡ false) × (after.history ≡ before.history))
-after_end session before after answers.Ended s = inl (s.live, ap (λ (v : StoreView). v.history) s.grows)
-after_end session before after answers.NoSession s = inr (s.not_live, ap (λ (v : StoreView). v.history) s.stays)
-after_end session before after other s = absurd s
+after_end session before after answers.Ended rose s = inl (s.live, ap (λ (v : StoreView). v.history) s.grows)
+after_end session before after answers.NoSession rose s = inr (s.not_live, ap (λ (v : StoreView). v.history) s.stays)
+after_end session before after other rose s = absurd s
 
 not_live_behind_end : (session : ℕ) (h : List PlainEntry) → is_live (h ++ end_entry h session ∷ []) session ≡ false
 not_live_behind_end session h = fold-append (live_after session) false h (end_entry h session ∷ []) ∙ rw (eq-eqb session session refl) refl
@@ -88,28 +86,42 @@ placed_ends : (session : ℕ) (own h more after : List PlainEntry) → AllPlaced
 placed_ends session own h more after p (inl e) grows = subst (AllPlaced empty_world) (sym (grows ∙ ap (λ (x : List PlainEntry). h ++ x) e ∙ append-nil h)) p
 placed_ends session own h more after p (inr e) grows = subst (AllPlaced empty_world) (sym (grows ∙ ap (λ (x : List PlainEntry). h ++ x) e.1)) (placed_push empty_world h _ p tt)
 
-module _ (limits : LimitsView) (session : ℕ) (first now : SessionState) (begun : List PlainEntry) (b : Begins session first.history begun) (number : session ≡ greatest_session first.history + 1) (end : SessionEnd)
-    (c : IsConversed limits session (with_history first begun) now end) where
-  is_over : (more after : List PlainEntry) → IsEnding session (entries_of session now.history) more → IsOwn session more → after ≡ now.history ++ more → is_live after session ≡ false → IsOver limits first.history session after now.points c.answered c.output
+-- what the disk counted has no part in why a session ended
+cause_beside : (end : SessionEnd) (read : List ℕ) (before after : IoState) (m n : ℕ) → Cause end read (with_disk_faults before m) after → Cause end read before (with_disk_faults after n)
+cause_beside ends.Quit read before after m n cause = cause
+cause_beside ends.End read before after m n cause = cause
+cause_beside (ends.Malformed at) read before after m n cause = cause
+cause_beside (ends.Truncated at) read before after m n cause = cause
+cause_beside ends.ReadFault read before after m n cause = cause
+cause_beside ends.WriteFault read before after m n cause = cause
+cause_beside ends.Memory read before after m n cause = cause
+cause_beside ends.Budget read before after m n cause = cause
+cause_beside ends.NoNumber read before after m n cause = cause
+
+module _ (limits : LimitsView) (session : ℕ) (first now : SessionState) (begun : List PlainEntry) (begun_faults last_faults : ℕ) (earlier : first.io.disk_faults ≤ begun_faults) (later_still : now.io.disk_faults ≤ last_faults)
+    (b : Begins session first.history begun) (number : session ≡ greatest_session first.history + 1) (has_number : session < 2 ^ 64) (end : SessionEnd) (c : IsConversed limits session (with_history first begun begun_faults) now end) where
+  is_over : (more after : List PlainEntry) → IsEnding session (entries_of session now.history) more → IsOwn session more → after ≡ now.history ++ more → is_live after session ≡ false → IsOver limits first.history session after now.points c.answered c.output first.io.disk_faults last_faults
   is_over more after ending own e over = record {
-    history_is = e ∙ entries_behind limits session first.history begun now.history b now.points c.answered c.output c.progress more own ∙ ap (λ (x : List PlainEntry). first.history ++ entries_of session x) (sym e);
+    history_is = e ∙ entries_behind limits session first.history begun now.history b now.points c.answered c.output begun_faults now.io.disk_faults c.progress more own ∙ ap (λ (x : List PlainEntry). first.history ++ entries_of session x) (sym e);
     over = over;
     placed = placed_ends session (entries_of session now.history) now.history more after c.progress.placed ending e;
-    transcript = subst (λ (x : List PlainEntry). Transcript limits session x c.answered now.points c.output) (sym e) (transcript_of limits session first.history begun now.history b now.points c.answered c.output c.progress more ending own);
+    transcript = subst (λ (x : List PlainEntry). Transcript limits session x c.answered now.points c.output first.io.disk_faults last_faults) (sym e)
+        (transcript_of limits session first.history begun now.history b now.points c.answered c.output begun_faults now.io.disk_faults c.progress more ending own first.io.disk_faults last_faults earlier later_still);
   }
 
   ended_session : (more after : List PlainEntry) → IsEnding session (entries_of session now.history) more → IsOwn session more → after ≡ now.history ++ more → is_live after session ≡ false
-      → IsSession limits first (with_history now after) end
+      → IsSession limits first (with_history now after last_faults) end
   ended_session more after ending own e over = record {
     read = c.read;
     written = c.written;
-    moves = c.moves;
+    moves = record { consumed = c.moves.consumed; appended = c.moves.appended; source_never_falls = c.moves.source_never_falls; sink_never_falls = c.moves.sink_never_falls; disk_never_falls = omega (arith, earlier, c.moves.disk_never_falls, later_still) };
     counted = c.counted;
     within = c.within;
-    cause = c.cause;
+    cause = cause_beside end (all_read first c.read) first.io now.io begun_faults last_faults c.cause;
     leaves = inr (record {
       session = session;
       number_is = number;
+      has_number = has_number;
       answered = c.answered;
       output = c.output;
       over = is_over more after ending own e over;
@@ -121,12 +133,12 @@ module _ (limits : LimitsView) (session : ℕ) (first now : SessionState) (begun
   own_live : is_live now.history session ≡ true → is_live (entries_of session now.history) session ≡ true
   own_live live =
       let own : List PlainEntry = entries_of session now.history in
-      let e : now.history ≡ first.history ++ own = sym (append-nil now.history) ∙ entries_behind limits session first.history begun now.history b now.points c.answered c.output c.progress [] refl ∙ ap (λ (x : List PlainEntry). first.history ++ entries_of session x) (append-nil now.history) in
+      let e : now.history ≡ first.history ++ own = sym (append-nil now.history) ∙ entries_behind limits session first.history begun now.history b now.points c.answered c.output begun_faults now.io.disk_faults c.progress [] refl ∙ ap (λ (x : List PlainEntry). first.history ++ entries_of session x) (append-nil now.history) in
       let parts : is_live (first.history ++ own) session ≡ fold (live_after session) (is_live first.history session) own = fold-append (live_after session) false first.history own in
       sym (ap (λ (x : List PlainEntry). is_live x session) e ∙ parts ∙ ap (λ (x : Bool). fold (live_after session) x own) b.not_live) ∙ live
 
-  pub session_ends : (before after : StoreView) (answer : StepAnswer) → before.history ≡ now.history → IsStep before (steps.End session) after answer → IsSession limits first (with_history now after.history) end
-  session_ends before after answer is step = elim (after_end session before after answer step) [
+  pub session_ends : (before after : StoreView) (answer : StepAnswer) (rose : Bool) → before.history ≡ now.history → IsStep before (steps.End session) after answer rose → IsSession limits first (with_history now after.history last_faults) end
+  session_ends before after answer rose is step = elim (after_end session before after answer rose step) [
     | inl e ↦ (let grows : after.history ≡ now.history ++ end_entry now.history session ∷ [] = e.1 ∙ ap (λ (h : List PlainEntry). h ++ end_entry h session ∷ []) is in
         ended_session (end_entry now.history session ∷ []) after.history (inr (own_live (ap (λ (h : List PlainEntry). is_live h session) (sym is) ∙ e.0), refl)) (own_one session (end_entry now.history session) refl) grows
         (ap (λ (h : List PlainEntry). is_live h session) grows ∙ not_live_behind_end session now.history))
@@ -135,22 +147,25 @@ module _ (limits : LimitsView) (session : ℕ) (first now : SessionState) (begun
   ]
 
 -- the same, for a session that was served under limits that are the store's
-pub session_ends_under : (limits own : LimitsView) → own ≡ limits → (session : ℕ) (first now : SessionState) (begun : List PlainEntry) → Begins session first.history begun → session ≡ greatest_session first.history + 1 → (end : SessionEnd)
-    → IsConversed own session (with_history first begun) now end → (before after : StoreView) (answer : StepAnswer) → before.history ≡ now.history → IsStep before (steps.End session) after answer → IsSession limits first (with_history now after.history) end
-session_ends_under limits own same session first now begun b number end c =
-    session_ends limits session first now begun b number end (subst (λ (l : LimitsView). IsConversed l session (with_history first begun) now end) same c)
+pub session_ends_under : (limits own : LimitsView) → own ≡ limits → (session : ℕ) (first now : SessionState) (begun : List PlainEntry) (begun_faults last_faults : ℕ) → first.io.disk_faults ≤ begun_faults → now.io.disk_faults ≤ last_faults
+    → Begins session first.history begun → session ≡ greatest_session first.history + 1 → session < 2 ^ 64 → (end : SessionEnd) → IsConversed own session (with_history first begun begun_faults) now end
+    → (before after : StoreView) (answer : StepAnswer) (rose : Bool) → before.history ≡ now.history → IsStep before (steps.End session) after answer rose → IsSession limits first (with_history now after.history last_faults) end
+session_ends_under limits own same session first now begun begun_faults last_faults earlier later_still b number has_number end c =
+    session_ends limits session first now begun begun_faults last_faults earlier later_still b number has_number end
+    (subst (λ (l : LimitsView). IsConversed l session (with_history first begun begun_faults) now end) same c)
 
--- there was no memory to begin
-pub did_not_begin : (limits : LimitsView) (start after : SessionState) → IsGreeted start → start.points ≡ [] → after ≡ start → IsSession limits start after ends.Memory
-did_not_begin limits start after greeted none stays = rw stays (record {
+-- there was no memory to begin, or no number
+pub did_not_begin : (limits : LimitsView) (end : SessionEnd) (start : SessionState) (history : List PlainEntry) (faults : ℕ) → IsGreeted start → start.points ≡ [] → history ≡ start.history → start.io.disk_faults ≤ faults
+    → NeverBegan start.history end (all_read start []) → Cause end (all_read start []) start.io (with_disk_faults start.io faults) → IsSession limits start (with_history start history faults) end
+did_not_begin limits end start history faults greeted none stays later_still never_began cause = record {
   read = [];
   written = [];
-  moves = record { consumed = consumes_nothing start.io.left; appended = appends_nothing start.io.taken; source_never_falls = le_refl _; sink_never_falls = le_refl _ };
+  moves = record { consumed = consumes_nothing start.io.left; appended = appends_nothing start.io.taken; source_never_falls = le_refl _; sink_never_falls = le_refl _; disk_never_falls = later_still };
   counted = ap (λ (t : TurnsView). t.taken) greeted.turns_are ∙ ap length (sym (append-nil (greeting ++ start.feed.held)));
   within = omega (arith, greeted.within, ap length (append-nil (greeting ++ start.feed.held)));
-  cause = tt;
-  leaves = inl (tt, record { history_is = refl; no_points = none; nothing = refl });
-})
+  cause = cause;
+  leaves = inl (never_began, record { history_is = stays; no_points = none; nothing = refl });
+}
 
 -- ---- the greeting
 
@@ -171,7 +186,7 @@ cause_since ends.Memory read start mid after s k cause = cause
 cause_since ends.Budget read start mid after s k cause = cause
 cause_since ends.NoNumber read start mid after s k cause = cause
 
-module _ (limits : LimitsView) (left left' : Option (List ℕ)) (before after : ℕ) (feed : FeedView) (turns : TurnsView) (taken : Option (List ℕ)) (faults : ℕ) where
+module _ (limits : LimitsView) (left left' : Option (List ℕ)) (before after : ℕ) (feed : FeedView) (turns : TurnsView) (taken : Option (List ℕ)) (faults disk_faults : ℕ) where
   abbrev from : ReadState
   from = read_state left before fresh_feed fresh_turns
 
@@ -179,10 +194,10 @@ module _ (limits : LimitsView) (left left' : Option (List ℕ)) (before after : 
   to = read_state left' after feed turns
 
   abbrev out0 : IoState
-  out0 = io_state left before taken faults
+  out0 = io_state left before taken faults disk_faults
 
   abbrev out1 : IoState
-  out1 = io_state left' after taken faults
+  out1 = io_state left' after taken faults disk_faults
 
   -- what was read is counted, and is no more than the budget allows
   module _ (what : Taken) (t : IsTaken from to what) where
@@ -202,7 +217,7 @@ module _ (limits : LimitsView) (left left' : Option (List ℕ)) (before after : 
     below may = rw counts at may
 
     reads : Moves out0 out1 t.read []
-    reads = record { consumed = t.reads.consumed; appended = appends_nothing taken; source_never_falls = t.reads.never_falls; sink_never_falls = le_refl faults }
+    reads = record { consumed = t.reads.consumed; appended = appends_nothing taken; source_never_falls = t.reads.never_falls; sink_never_falls = le_refl faults; disk_never_falls = le_refl disk_faults }
 
     given : HasGiven t.read [] (with_piece fresh_feed t.read)
     given = record { parts = refl; valid = tt; none = λ e. refl; place = omega arith }
@@ -210,7 +225,7 @@ module _ (limits : LimitsView) (left left' : Option (List ℕ)) (before after : 
     no_greeting : HasNoSpelledPrefix IsGreeting t.read → IsNotGreeted t.read
     no_greeting none rest e = none 3 (omega (arith, ap length e, length-append greeting rest)) (ap (take 3) e)
 
-    pub never : (end : SessionEnd) (h : List PlainEntry) (points : List ℕ) (n : ℕ) → points ≡ [] → n ≡ turns.taken → Cause end t.read out0 out1 → NeverBegan end t.read → IsRun limits h out0 out1 h points n end
+    pub never : (end : SessionEnd) (h : List PlainEntry) (points : List ℕ) (n : ℕ) → points ≡ [] → n ≡ turns.taken → Cause end t.read out0 out1 → NeverBegan h end t.read → IsRun limits h out0 out1 h points n end
     never end h points n none is cause never_began = record {
       read = t.read;
       written = [];
@@ -246,7 +261,7 @@ module _ (limits : LimitsView) (left left' : Option (List ℕ)) (before after : 
           counted = is ∙ s.counted ∙ ap length stream;
           within = omega (arith, s.within, ap length stream);
           cause = cause_since end (t.read ++ s.read) out0 out1 out2 t.reads.never_falls (le_refl faults) (subst (λ (bytes : List ℕ). Cause end bytes out1 out2) stream s.cause);
-          leaves = subst (λ (bytes : List ℕ). Leaves limits h end bytes s.written final points') stream s.leaves;
+          leaves = subst (λ (bytes : List ℕ). Leaves limits h end bytes s.written final points' disk_faults out2.disk_faults) stream s.leaves;
         }
 
   -- ---- it did not
@@ -285,25 +300,72 @@ module _ (limits : LimitsView) (left left' : Option (List ℕ)) (before after : 
 
 -- ---- the same, from what the code begins with
 
-module _ (limits : LimitsView) (left left' : Option (List ℕ)) (before after : ℕ) (feed0 feed : FeedView) (turns0 turns : TurnsView) (taken : Option (List ℕ)) (faults : ℕ) (begins : feed0 ≡ fresh_feed) (counts_from : turns0 ≡ fresh_turns) where
+module _ (limits : LimitsView) (left left' : Option (List ℕ)) (before after : ℕ) (feed0 feed : FeedView) (turns0 turns : TurnsView) (taken : Option (List ℕ)) (faults disk_faults : ℕ) (begins : feed0 ≡ fresh_feed) (counts_from : turns0 ≡ fresh_turns) where
   from_fresh : (what : Taken) → IsTaken (read_state left before feed0 turns0) (read_state left' after feed turns) what → IsTaken (read_state left before fresh_feed fresh_turns) (read_state left' after feed turns) what
   from_fresh what t = rw (begins, counts_from) at t
 
   next_from_fresh : (end : SessionEnd) → NextIs (IsTaken (read_state left before feed0 turns0) (read_state left' after feed turns)) (Err end) → NextIs (IsTaken (read_state left before fresh_feed fresh_turns) (read_state left' after feed turns)) (Err end)
   next_from_fresh end t = subst (λ (f : FeedView). NextIs (IsTaken (read_state left before f fresh_turns) (read_state left' after feed turns)) (Err end)) begins (subst (λ (x : TurnsView). NextIs (IsTaken (read_state left before feed0 x) (read_state left' after feed turns)) (Err end)) counts_from t)
 
-  pub greets : (h : List PlainEntry) (points : List ℕ) → IsTaken (read_state left before feed0 turns0) (read_state left' after feed turns) take_answers.Greeting → IsGreeted (session_state h points feed turns (io_state left' after taken faults))
-  greets h points t = is_greeted limits left left' before after feed turns taken faults (from_fresh take_answers.Greeting t) h points
+  pub greets : (h : List PlainEntry) (points : List ℕ) → IsTaken (read_state left before feed0 turns0) (read_state left' after feed turns) take_answers.Greeting → IsGreeted (session_state h points feed turns (io_state left' after taken faults disk_faults))
+  greets h points t = is_greeted limits left left' before after feed turns taken faults disk_faults (from_fresh take_answers.Greeting t) h points
 
   pub runs : (h final : List PlainEntry) (points points' : List ℕ) (feed' : FeedView) (turns' : TurnsView) (out2 : IoState) (end : SessionEnd) (n : ℕ) → IsTaken (read_state left before feed0 turns0) (read_state left' after feed turns) take_answers.Greeting
-      → IsSession limits (session_state h points feed turns (io_state left' after taken faults)) (session_state final points' feed' turns' out2) end → n ≡ turns'.taken → IsRun limits h (io_state left before taken faults) out2 final points' n end
-  runs h final points points' feed' turns' out2 end n t s is = run_of_session limits left left' before after feed turns taken faults (from_fresh take_answers.Greeting t) h final points points' feed' turns' out2 end n s is
+      → IsSession limits (session_state h points feed turns (io_state left' after taken faults disk_faults)) (session_state final points' feed' turns' out2) end → n ≡ turns'.taken → IsRun limits h (io_state left before taken faults disk_faults) out2 final points' n end
+  runs h final points points' feed' turns' out2 end n t s is = run_of_session limits left left' before after feed turns taken faults disk_faults (from_fresh take_answers.Greeting t) h final points points' feed' turns' out2 end n s is
 
   pub runs_nothing : (h : List PlainEntry) (points : List ℕ) (n : ℕ) (end : SessionEnd) → points ≡ [] → n ≡ turns.taken
-      → NextIs (IsTaken (read_state left before feed0 turns0) (read_state left' after feed turns)) (Err end) → IsRun limits h (io_state left before taken faults) (io_state left' after taken faults) h points n end
-  runs_nothing h points n end none is t = run_of_none limits left left' before after feed turns taken faults h points n end none is (next_from_fresh end t)
+      → NextIs (IsTaken (read_state left before feed0 turns0) (read_state left' after feed turns)) (Err end) → IsRun limits h (io_state left before taken faults disk_faults) (io_state left' after taken faults disk_faults) h points n end
+  runs_nothing h points n end none is t = run_of_none limits left left' before after feed turns taken faults disk_faults h points n end none is (next_from_fresh end t)
 
--- the same history, written otherwise
-pub opened_as : (limits : LimitsView) (h opened : List PlainEntry) (before after : IoState) (history : List PlainEntry) (points : List ℕ) (n : ℕ) (end : SessionEnd) → h ≡ opened
-    → IsRun limits h before after history points n end → IsRun limits opened before after history points n end
-opened_as limits h opened before after history points n end e r = subst (λ (x : List PlainEntry). IsRun limits x before after history points n end) e r
+-- ---- the same, seen from before the store was opened
+
+cause_from : (end : SessionEnd) (read : List ℕ) (before after : IoState) (m : ℕ) → Cause end read (with_disk_faults before m) after → Cause end read before after
+cause_from ends.Quit read before after m cause = cause
+cause_from ends.End read before after m cause = cause
+cause_from (ends.Malformed at) read before after m cause = cause
+cause_from (ends.Truncated at) read before after m cause = cause
+cause_from ends.ReadFault read before after m cause = cause
+cause_from ends.WriteFault read before after m cause = cause
+cause_from ends.Memory read before after m cause = cause
+cause_from ends.Budget read before after m cause = cause
+cause_from ends.NoNumber read before after m cause = cause
+
+transcript_from : (limits : LimitsView) (session : ℕ) (history : List PlainEntry) (requests : List PlainRequest) (points output : List ℕ) (k m n : ℕ) → k ≤ m → Transcript limits session history requests points output m n → Transcript limits session history requests points output k n
+transcript_from limits session history requests points output k m n le t = record {
+  exchanges = t.exchanges;
+  requests_are = t.requests_are;
+  points_are = t.points_are;
+  output_is = t.output_is;
+  each = t.each;
+  rises = rises_wider t.exchanges k m n n le (le_refl n) t.rises;
+  valid_replies = t.valid_replies;
+  rising = t.rising;
+  begun = t.begun;
+  entries = t.entries;
+}
+
+leaves_from : (limits : LimitsView) (opened : List PlainEntry) (end : SessionEnd) (read written : List ℕ) (history : List PlainEntry) (points : List ℕ) (k m n : ℕ) → k ≤ m → Leaves limits opened end read written history points m n → Leaves limits opened end read written history points k n
+leaves_from limits opened end read written history points k m n le (inl never) = inl never
+leaves_from limits opened end read written history points k m n le (inr s) = inr (record {
+  session = s.session;
+  number_is = s.number_is;
+  has_number = s.has_number;
+  answered = s.answered;
+  output = s.output;
+  over = record { history_is = s.over.history_is; over = s.over.over; placed = s.over.placed; transcript = transcript_from limits s.session history s.answered points s.output k m n le s.over.transcript };
+  answered_and_written = s.answered_and_written;
+})
+
+pub run_from : (limits : LimitsView) (opened : List PlainEntry) (before after : IoState) (m : ℕ) (history reported : List PlainEntry) (points : List ℕ) (bytes_read : ℕ) (end : SessionEnd) → before.disk_faults ≤ m → reported ≡ history
+    → IsRun limits opened (with_disk_faults before m) after history points bytes_read end → IsRun limits opened before after reported points bytes_read end
+run_from limits opened before after m history reported points bytes_read end le is r = record {
+  read = r.read;
+  written = r.written;
+  moves = record { consumed = r.moves.consumed; appended = r.moves.appended; source_never_falls = r.moves.source_never_falls; sink_never_falls = r.moves.sink_never_falls; disk_never_falls = omega (arith, le, r.moves.disk_never_falls) };
+  counted = r.counted;
+  within = r.within;
+  cause = cause_from end r.read before after m r.cause;
+  leaves = subst (λ (h : List PlainEntry). Leaves limits opened end r.read r.written h points before.disk_faults after.disk_faults) (sym is)
+      (leaves_from limits opened end r.read r.written history points before.disk_faults m after.disk_faults le r.leaves);
+}

@@ -1,9 +1,14 @@
 pub mod Streams
+pub mod Rises
+pub mod Endurings
 pub mod Progresses
 pub mod Serials
 pub mod Turns
 pub mod WordForms
 pub mod Conversations
 pub mod EndedSessions
+pub mod Readings
+pub mod Batches
 pub mod Complete
 pub mod Rounds
+pub mod Drawn

@@ -1,5 +1,5 @@
 -- A session goes on by one exchange, and ends.
-use Rattle.std.proofs.Common.{◌≡◌, ℕ, ◌+◌, ◌-◌, ◌≤◌, eqb, false, List, [], ◌∷◌, ◌++◌, length, take, All, Option, Some, None, refl, ap, ◌∙◌, sym, subst, inl, inr, ◌⊎◌, arith, append_assoc, le_trans}
+use Rattle.std.proofs.Common.{◌≡◌, ℕ, ◌+◌, ◌-◌, ◌≤◌, eqb, Bool, List, [], ◌∷◌, ◌++◌, length, take, All, Option, Some, None, refl, ap, ◌∙◌, sym, subst, inl, inr, ◌⊎◌, arith, append_assoc, le_trans}
 use Rattle.std.specs.Prelude.{MatchOption, codes}
 use Rattle.std.specs.List.{flat_map, AllByRecursion}
 use Rattle.std.proofs.Math.Seq.{take-length}
@@ -19,11 +19,13 @@ use Rattle.world_rules.specs.Effects.{Effect, effect}
 use Rattle.world_rules.specs.Legal.{IsLegal, IsServed, IsRefused, IsQueryAnswered, IsDone, IsDiskFault, Exchange, TookPlace, wanted_after, entry_after}
 use Rattle.green_store.specs.Sessions.{begin_entry}
 use Rattle.world_rules.specs.Serials.{CountFromOne}
-use Rattle.green_top.specs.Transcript.{output_of, BeginsBefore, IsEnding, HasNoDiskFault, HasValidReply, InTurn, Transcript}
+use Rattle.green_top.specs.Transcript.{output_of, BeginsBefore, IsEnding, HasValidReply, InTurn, Transcript}
 use Rattle.green_top.specs.inside.Opening.{Begins}
 use Rattle.green_top.specs.inside.Progress.{AnswerState, Answers, Progress}
 use Rattle.green_store.proofs.Places.{placed_push, placed_goes_on}
 use Rattle.green_top.proofs.Serials.{own_behind, serials_go_on, serials_end}
+use Rattle.green_store.specs.Durable.{has_risen}
+use Rattle.green_top.proofs.Rises.{rises_not, rises_push, rises_wider}
 use Rattle.green_top.proofs.Turns.{turn_before, turn_push}
 
 abbrev asked : Exchange → PlainRequest
@@ -53,10 +55,6 @@ each_push : (limits : LimitsView) (session : ℕ) (h : List PlainEntry) (es : Li
 each_push limits session h [] e all last = (last, tt)
 each_push limits session h (x ∷ es) e all last = (all.0, each_push limits session h es e all.1 last)
 
-no_faults_push : (es : List Exchange) (e : Exchange) → AllByRecursion HasNoDiskFault es → HasNoDiskFault e → AllByRecursion HasNoDiskFault (es ++ e ∷ [])
-no_faults_push [] e all last = (last, tt)
-no_faults_push (x ∷ es) e all last = (all.0, no_faults_push es e all.1 last)
-
 valid_push : (es : List Exchange) (e : Exchange) → AllByRecursion HasValidReply es → HasValidReply e → AllByRecursion HasValidReply (es ++ e ∷ [])
 valid_push [] e all last = (last, tt)
 valid_push (x ∷ es) e all last = (all.0, valid_push es e all.1 last)
@@ -78,17 +76,17 @@ own_none session added e = subst (IsOwn session) (sym e) refl
 pub own_one : (session : ℕ) (e : PlainEntry) → e.session ≡ session → IsOwn session (e ∷ [])
 own_one session e is = rw (eq-eqb e.session session is) refl
 
-module _ (session : ℕ) (h : List PlainEntry) (request : PlainRequest) (reply : PlainReply) (added : List PlainEntry) where
-  own_served : (made : Option Effect) → MatchOption made (IsQueryAnswered h request reply added) (λ m. IsDone h session m reply added ⊎ IsDiskFault m reply added false) → IsOwn session added
+module _ (session : ℕ) (h : List PlainEntry) (request : PlainRequest) (reply : PlainReply) (added : List PlainEntry) (rose : Bool) where
+  own_served : (made : Option Effect) → MatchOption made (IsQueryAnswered h request reply added) (λ m. IsDone h session m reply added ⊎ IsDiskFault m reply added rose) → IsOwn session added
   own_served None s = own_none session added s.nothing
   own_served (Some m) (inl s) = subst (IsOwn session) (sym s.entry) (own_one session (entry_after h session m) refl)
   own_served (Some m) (inr s) = own_none session added s.nothing
 
-  own_given : (wanted : Option Refusal) → MatchOption wanted (IsServed h session request reply added false) (λ refusal. IsRefused refusal reply added) → IsOwn session added
+  own_given : (wanted : Option Refusal) → MatchOption wanted (IsServed h session request reply added rose) (λ refusal. IsRefused refusal reply added) → IsOwn session added
   own_given None s = own_served (effect (world_of h) session request) s
   own_given (Some refusal) s = own_none session added s.nothing
 
-  own_added : (limits : LimitsView) → IsLegal limits session h request reply added false → IsOwn session added
+  own_added : (limits : LimitsView) → IsLegal limits session h request reply added rose → IsOwn session added
   own_added limits legal = elim legal.given [ inl m ↦ own_none session added m.nothing | inr g ↦ own_given (wanted_after limits h session request) g ]
 
 own_append : (session : ℕ) (xs ys : List PlainEntry) → IsOwn session xs → IsOwn session ys → IsOwn session (xs ++ ys)
@@ -97,24 +95,27 @@ own_append session xs ys p q =
 
 -- ---- one exchange more
 
-module _ (limits : LimitsView) (session : ℕ) (begun h : List PlainEntry) (points : List ℕ) (answered : List PlainRequest) (output : List ℕ) (p : Progress limits session begun h points answered output) where
+module _ (limits : LimitsView) (session : ℕ) (begun h : List PlainEntry) (points : List ℕ) (answered : List PlainRequest) (output : List ℕ) (first now : ℕ) (p : Progress limits session begun h points answered output first now) where
   pub entries_so_far : entries_of session h ≡ begin_entry session ∷ flat_map adds p.exchanges
   entries_so_far =
       ap (entries_of session) p.history_is ∙ filter-append (λ (e : PlainEntry). eqb e.session session) begun (flat_map adds p.exchanges)
       ∙ ap (λ (x : List PlainEntry). x ++ entries_of session (flat_map adds p.exchanges)) p.first ∙ ap (λ (x : List PlainEntry). begin_entry session ∷ x) p.own
 
-  module _ (request : PlainRequest) (o : List ℕ) (before after : AnswerState) (here : before.history ≡ h) (noted : before.points ≡ points) (a : Answers limits session before after request o) where
+  module _ (request : PlainRequest) (o : List ℕ) (before after : AnswerState) (here : before.history ≡ h) (noted : before.points ≡ points) (counted : before.disk_faults ≡ now) (a : Answers limits session before after request o) where
     grows : after.history ≡ h ++ a.step.added
     grows = a.step.grows ∙ ap (λ (x : List PlainEntry). x ++ a.step.added) here
 
-    legal : IsLegal limits session h request a.reply a.step.added false
-    legal = subst (λ (x : List PlainEntry). IsLegal limits session x request a.reply a.step.added false) here a.step.legal
+    abbrev rose : Bool
+    rose = has_risen before.disk_faults after.disk_faults
+
+    legal : IsLegal limits session h request a.reply a.step.added rose
+    legal = subst (λ (x : List PlainEntry). IsLegal limits session x request a.reply a.step.added rose) here a.step.legal
 
     points_are : after.points ≡ points ++ length after.history ∷ []
     points_are = a.points_are ∙ ap (λ (ps : List ℕ). ps ++ length after.history ∷ []) noted
 
     abbrev one : Exchange
-    one = record { request = request; reply = a.reply; point = length after.history; added = a.step.added; rose = false }
+    one = record { request = request; reply = a.reply; point = length after.history; added = a.step.added; rose = rose }
 
     longer : length h ≤ length after.history
     longer = rw grows (omega (arith, length-append h a.step.added))
@@ -129,7 +130,7 @@ module _ (limits : LimitsView) (session : ℕ) (begun h : List PlainEntry) (poin
     all_within = All-weaker (λ point. point ≤ length h) (λ point. point ≤ length after.history) (λ x le. le_trans le longer) points p.within
 
     own : IsOwn session a.step.added
-    own = own_added session h request a.reply a.step.added limits legal
+    own = own_added session h request a.reply a.step.added rose limits legal
 
     abbrev start : List PlainEntry
     start = begin_entry session ∷ []
@@ -143,21 +144,21 @@ module _ (limits : LimitsView) (session : ℕ) (begun h : List PlainEntry) (poin
     above_begun : length begun ≤ length after.history
     above_begun = omega (arith, longer, ap length p.history_is, length-append begun (flat_map adds p.exchanges))
 
-    pub progress_goes_on : Progress limits session begun after.history after.points (answered ++ request ∷ []) (output ++ o)
+    pub progress_goes_on : Progress limits session begun after.history after.points (answered ++ request ∷ []) (output ++ o) first after.disk_faults
     progress_goes_on = record {
       exchanges = p.exchanges ++ one ∷ [];
       requests_are = ap (λ (rs : List PlainRequest). rs ++ request ∷ []) p.requests_are ∙ sym (map_push asked p.exchanges one);
       points_are = points_are ∙ ap (λ (ps : List ℕ). ps ++ length after.history ∷ []) p.points_are ∙ sym (map_push at_point p.exchanges one);
       output_is = ap (λ (x : List ℕ). x ++ o) p.output_is ∙ ap (λ (x : List ℕ). output_of p.exchanges ++ x) a.output_is ∙ ap (λ (x : List ℕ). codes "P0~" ++ x) (sym (flat_map_push says p.exchanges one));
       each = each_push limits session after.history p.exchanges one earlier took_place;
-      no_disk_faults = no_faults_push p.exchanges one p.no_disk_faults refl;
+      rises = rises_push p.exchanges one first before.disk_faults after.disk_faults (rises_wider p.exchanges first first now before.disk_faults (omega arith) (omega (arith, counted)) p.rises) a.never_falls refl;
       valid_replies = valid_push p.exchanges one p.valid_replies a.valid;
       first = p.first;
       history_is = grows ∙ ap (λ (x : List PlainEntry). x ++ a.step.added) p.history_is ∙ append_assoc begun (flat_map adds p.exchanges) a.step.added ∙ ap (λ (x : List PlainEntry). begun ++ x) (sym (flat_map_push adds p.exchanges one));
       own = subst (IsOwn session) (sym (flat_map_push adds p.exchanges one)) (own_append session (flat_map adds p.exchanges) a.step.added p.own own);
-      serials = serials_go_on session h request a.reply a.step.added p.serials limits after.history legal own grows;
+      serials = serials_go_on session h request a.reply a.step.added rose p.serials limits after.history legal own grows;
       in_turn = turn_push session after.history start p.exchanges one turns last;
-      placed = placed_goes_on limits session h request a.reply a.step.added after.history p.placed legal grows;
+      placed = placed_goes_on limits session h request a.reply a.step.added after.history rose p.placed legal grows;
       rising = rw points_are (IsNonDecreasingBy-push (λ n. n) points (length after.history) p.rising (λ d filled. all_within (length points - 1) d (omega arith)));
       within = rw points_are (All-push (λ point. point ≤ length after.history) points (length after.history) all_within (omega arith));
       above = rw points_are (All-push (λ point. length begun ≤ point) points (length after.history) p.above above_begun);
@@ -170,8 +171,8 @@ first_of session opened begun b =
     ap (entries_of session) b.grows ∙ filter-append (λ (e : PlainEntry). eqb e.session session) opened (begin_entry session ∷ [])
     ∙ ap (λ (x : List PlainEntry). x ++ entries_of session (begin_entry session ∷ [])) b.no_entry ∙ own_one session (begin_entry session) refl
 
-pub progress_begins : (limits : LimitsView) (session : ℕ) (opened begun : List PlainEntry) → Begins session opened begun → Progress limits session begun begun [] [] (codes "P0~")
-progress_begins limits session opened begun b =
+pub progress_begins : (limits : LimitsView) (session : ℕ) (opened begun : List PlainEntry) (faults : ℕ) → Begins session opened begun → Progress limits session begun begun [] [] (codes "P0~") faults faults
+progress_begins limits session opened begun faults b =
     let first = first_of session opened begun b in
     record {
       exchanges = [];
@@ -179,7 +180,7 @@ progress_begins limits session opened begun b =
       points_are = refl;
       output_is = refl;
       each = tt;
-      no_disk_faults = tt;
+      rises = rises_not faults faults (omega arith);
       valid_replies = tt;
       first = first;
       history_is = sym (append-nil begun);
@@ -194,7 +195,7 @@ progress_begins limits session opened begun b =
 
 -- ---- the whole
 
-module _ (limits : LimitsView) (session : ℕ) (opened begun h : List PlainEntry) (b : Begins session opened begun) (points : List ℕ) (answered : List PlainRequest) (output : List ℕ) (p : Progress limits session begun h points answered output) where
+module _ (limits : LimitsView) (session : ℕ) (opened begun h : List PlainEntry) (b : Begins session opened begun) (points : List ℕ) (answered : List PlainRequest) (output : List ℕ) (first now : ℕ) (p : Progress limits session begun h points answered output first now) where
   -- the history behind the one that the back end opened with
   parts : (more : List PlainEntry) → h ++ more ≡ opened ++ (begin_entry session ∷ (flat_map adds p.exchanges ++ more))
   parts more =
@@ -213,23 +214,23 @@ module _ (limits : LimitsView) (session : ℕ) (opened begun h : List PlainEntry
   pub entries_behind : (more : List PlainEntry) → IsOwn session more → h ++ more ≡ opened ++ entries_of session (h ++ more)
   entries_behind more own =
       parts more
-      ∙ ap (λ (x : List PlainEntry). opened ++ x) (sym (filter-append (λ (e : PlainEntry). eqb e.session session) h more ∙ ap (λ (x : List PlainEntry). x ++ entries_of session more) (entries_so_far limits session begun h points answered output p) ∙ ap (λ (x : List PlainEntry). (begin_entry session ∷ flat_map adds p.exchanges) ++ x) own))
+      ∙ ap (λ (x : List PlainEntry). opened ++ x) (sym (filter-append (λ (e : PlainEntry). eqb e.session session) h more ∙ ap (λ (x : List PlainEntry). x ++ entries_of session more) (entries_so_far limits session begun h points answered output first now p) ∙ ap (λ (x : List PlainEntry). (begin_entry session ∷ flat_map adds p.exchanges) ++ x) own))
 
-  pub transcript_of : (more : List PlainEntry) → IsEnding session (entries_of session h) more → IsOwn session more → Transcript limits session (h ++ more) answered points output
-  transcript_of more ending own = record {
+  pub transcript_of : (more : List PlainEntry) → IsEnding session (entries_of session h) more → IsOwn session more → (before after : ℕ) → before ≤ first → now ≤ after → Transcript limits session (h ++ more) answered points output before after
+  transcript_of more ending own before after earlier later = record {
     exchanges = p.exchanges;
     requests_are = p.requests_are;
     points_are = p.points_are;
     output_is = p.output_is;
     each = each_before limits session h more p.exchanges p.each;
-    no_disk_faults = p.no_disk_faults;
+    rises = rises_wider p.exchanges before first now after earlier later p.rises;
     valid_replies = p.valid_replies;
     rising = p.rising;
     begun = begins_before more;
     entries = record {
       own = entries_of session h;
       ending = more;
-      own_are = entries_so_far limits session begun h points answered output p;
+      own_are = entries_so_far limits session begun h points answered output first now p;
       is_ending = ending;
       parts = filter-append (λ (e : PlainEntry). eqb e.session session) h more ∙ ap (λ (x : List PlainEntry). entries_of session h ++ x) own;
       serials = serials_end session h more p.serials ending own;

@@ -15,9 +15,10 @@ pub record OnlyReads (before after : SessionState) : Type 0 where
   pub points : after.points ≡ before.points
   pub taken : after.io.taken ≡ before.io.taken
   pub faults : after.io.sink_faults ≡ before.io.sink_faults
+  pub disk_faults : after.io.disk_faults ≡ before.io.disk_faults
 
 not_asked : (before after : SessionState) (answer : Taken) → OnlyReads before after → IsTaken (reading before) (reading after) answer → IsNotAsked before after answer
-not_asked before after answer o t = record { read = t.read; reads = t.reads; comes = t.comes; history_stays = o.history; points_stay = o.points; taken_stays = o.taken; faults_stay = o.faults }
+not_asked before after answer o t = record { read = t.read; reads = t.reads; comes = t.comes; history_stays = o.history; points_stay = o.points; taken_stays = o.taken; faults_stay = o.faults; disk_faults_stay = o.disk_faults }
 
 pub ended : (limits : LimitsView) (session : ℕ) (before after : SessionState) (end : SessionEnd) → OnlyReads before after → NextIs (IsTaken (reading before) (reading after)) (Err end) → IsRound limits session before after (Some end)
 ended limits session before after ends.Quit o t = absurd t

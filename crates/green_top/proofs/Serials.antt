@@ -1,5 +1,5 @@
 -- The serials of a session's entries count on.
-use Rattle.std.proofs.Common.{◌≡◌, ℕ, zero, suc, ◌+◌, eqb, false, List, [], ◌∷◌, ◌++◌, length, Option, Some, None, refl, ap, ◌∙◌, sym, subst, inl, inr, ◌⊎◌, arith}
+use Rattle.std.proofs.Common.{◌≡◌, ℕ, zero, suc, ◌+◌, eqb, Bool, List, [], ◌∷◌, ◌++◌, length, Option, Some, None, refl, ap, ◌∙◌, sym, subst, inl, inr, ◌⊎◌, arith}
 use Rattle.std.specs.Prelude.{MatchOption}
 use Rattle.std.proofs.lemmas.List.{append-nil, map_push, length-append}
 use Rattle.std.proofs.lemmas.List.Elements.{filter-append}
@@ -38,17 +38,17 @@ by_none es added s e = subst (GoOn es) (sym e) (subst CountFromOne (sym (append-
 pub own_behind : (session : ℕ) (h added : List PlainEntry) → entries_of session added ≡ added → entries_of session h ++ added ≡ entries_of session (h ++ added)
 own_behind session h added own = sym (filter-append (λ (e : PlainEntry). eqb e.session session) h added ∙ ap (λ (x : List PlainEntry). entries_of session h ++ x) own)
 
-module _ (session : ℕ) (h : List PlainEntry) (request : PlainRequest) (reply : PlainReply) (added : List PlainEntry) (s : CountFromOne (entries_of session h)) where
-  by_served : (made : Option Effect) → MatchOption made (IsQueryAnswered h request reply added) (λ m. IsDone h session m reply added ⊎ IsDiskFault m reply added false) → GoOn (entries_of session h) added
+module _ (session : ℕ) (h : List PlainEntry) (request : PlainRequest) (reply : PlainReply) (added : List PlainEntry) (rose : Bool) (s : CountFromOne (entries_of session h)) where
+  by_served : (made : Option Effect) → MatchOption made (IsQueryAnswered h request reply added) (λ m. IsDone h session m reply added ⊎ IsDiskFault m reply added rose) → GoOn (entries_of session h) added
   by_served None a = by_none (entries_of session h) added s a.nothing
   by_served (Some m) (inl a) = subst (GoOn (entries_of session h)) (sym a.entry) (push_serial (entries_of session h) _ s refl)
   by_served (Some m) (inr a) = by_none (entries_of session h) added s a.nothing
 
-  by_given : (wanted : Option Refusal) → MatchOption wanted (IsServed h session request reply added false) (λ refusal. IsRefused refusal reply added) → GoOn (entries_of session h) added
+  by_given : (wanted : Option Refusal) → MatchOption wanted (IsServed h session request reply added rose) (λ refusal. IsRefused refusal reply added) → GoOn (entries_of session h) added
   by_given None a = by_served (effect (world_of h) session request) a
   by_given (Some refusal) a = by_none (entries_of session h) added s a.nothing
 
-  pub serials_go_on : (limits : LimitsView) (after : List PlainEntry) → IsLegal limits session h request reply added false → entries_of session added ≡ added → after ≡ h ++ added → CountFromOne (entries_of session after)
+  pub serials_go_on : (limits : LimitsView) (after : List PlainEntry) → IsLegal limits session h request reply added rose → entries_of session added ≡ added → after ≡ h ++ added → CountFromOne (entries_of session after)
   serials_go_on limits after legal own grows =
       let on : GoOn (entries_of session h) added = elim legal.given [ inl m ↦ by_none (entries_of session h) added s m.nothing | inr g ↦ by_given (wanted_after limits h session request) g ] in
       subst CountFromOne (own_behind session h added own ∙ ap (entries_of session) (sym grows)) on

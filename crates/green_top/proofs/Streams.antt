@@ -27,3 +27,6 @@ appends_both (Some as') (Some bs) (Some cs) xs ys p q = q ∙ ap (λ (r : List �
 
 pub risen_since : (a b c : ℕ) → a ≤ b → HasRisen b c → HasRisen a c
 risen_since a b c le h = omega arith
+
+pub risen_until : (a b c : ℕ) → b ≤ c → HasRisen a b → HasRisen a c
+risen_until a b c le h = omega arith

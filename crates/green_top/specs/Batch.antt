@@ -1,12 +1,17 @@
 -- What one call of the top does.
-use Rattle.std.specs.Prelude.{◌≡◌, ◌⊎◌, ℕ, List, [], ◌∷◌}
+use Rattle.std.specs.Prelude.{◌≡◌, ◌≢◌, ◌⊎◌, ℕ, List, [], ◌++◌, length, Option}
 use Rattle.febe_data.specs.LimitsView.{LimitsView}
-use Rattle.febe_data.specs.Plain.{plain_history}
-use Rattle.world_rules.specs.History.{restart_entry}
+use Rattle.febe_data.specs.Plain.{PlainEntry, plain_history}
+use Rattle.green_io.specs.Areas.{Areas}
+use Rattle.green_io.specs.Disk.{WhereTold}
+use Rattle.green_io.specs.Outside.{HasRisen}
+use Rattle.green_store.specs.declared.opening.OpenFault.{OpenFault}
+use Rattle.green_store.specs.declared.opening.OpenFault.TheVariants as faults
+use Rattle.green_store.specs.Opening.{IsOpenedFrom, IsDamagedLog, ReadsAsBefore, opened_with}
 use Rattle.green_top.specs.declared.report.Report.{Report}
 use Rattle.green_top.specs.declared.session_end.SessionEnd.{SessionEnd}
 use Rattle.green_top.specs.declared.session_end.SessionEnd.TheVariants as ends
-use Rattle.green_top.specs.IoState.{IoState}
+use Rattle.green_top.specs.IoState.{IoState, with_disk_faults}
 use Rattle.green_top.specs.Outcome.{IsRun}
 use Rattle.green_top.specs.Words.{AreWords, AreNoWords}
 
@@ -28,31 +33,70 @@ place_of (ends.Malformed at) = at
 place_of (ends.Truncated at) = at
 place_of other = 0
 
--- the words are no form of the program, and the status is 2; or they are, and it is 9: for want of memory
-abbrev pub WhyNothing : List (List ℕ) → ℕ → Type 0
-WhyNothing words status = (AreNoWords words × (status ≡ 2)) ⊎ (((limits : LimitsView) × AreWords words limits) × (status ≡ 9))
+-- the status of a run whose store was not opened, for this fault
+abbrev pub fault_status : OpenFault → ℕ
+fault_status (faults.Damaged at) = 8
+fault_status faults.Disk = 7
+fault_status faults.Memory = 9
 
--- nothing was opened, read or written
-pub record NothingOpened (words : List (List ℕ)) (before after : IoState) (report : Report) (status : ℕ) : Type 0 where
-  pub why : WhyNothing words status
-  pub stays : after ≡ before
+-- the offset in the log that it names, or 0
+abbrev pub fault_place : OpenFault → ℕ
+fault_place (faults.Damaged at) = at
+fault_place other = 0
+
+-- Why a store was not opened on what the areas read when the call began: the log is damaged at the place; or the disk failed;
+-- or there was no memory. Unless the disk failed, the log is left as it was, but that its end gate may be closed.
+abbrev pub FaultCause : OpenFault → Option Areas → Option Areas → IoState → IoState → Type 0
+FaultCause (faults.Damaged at) reads left before after = WhereTold reads (λ areas. IsDamagedLog at areas.log) × ReadsAsBefore reads left
+FaultCause faults.Disk reads left before after = HasRisen before.disk_faults after.disk_faults
+FaultCause faults.Memory reads left before after = ReadsAsBefore reads left
+
+-- the words are no form of the program: the status is 2, and the disk had no fault
+pub record IsUsage (words : List (List ℕ)) (before after : IoState) (place status : ℕ) : Type 0 where
+  pub wrong : AreNoWords words
+  pub status_is : status ≡ 2
+  pub place_is : place ≡ 0
+  pub disk_stays : after.disk_faults ≡ before.disk_faults
+
+-- the words are a form of the program, but the store was not opened: the status and the place tell why
+pub record IsNotOpened (words : List (List ℕ)) (reads left : Option Areas) (before after : IoState) (place status : ℕ) : Type 0 where
+  pub limits : LimitsView
+  pub words_are : AreWords words limits
+  pub fault : OpenFault
+  pub cause : FaultCause fault reads left before after
+  pub status_is : status ≡ fault_status fault
+  pub place_is : place ≡ fault_place fault
+
+-- no session was served, and nothing was read from the source or written to the sink
+pub record NothingOpened (words : List (List ℕ)) (reads left : Option Areas) (before after : IoState) (report : Report) (status : ℕ) : Type 0 where
+  pub why : IsUsage words before after report.place status ⊎ IsNotOpened words reads left before after report.place status
+  pub stays : after ≡ with_disk_faults before after.disk_faults
   pub history_is : report.history.items ≡ []
   pub opened_is : report.opened ≡ 0
   pub no_points : report.points.items ≡ []
   pub counted : report.bytes_read ≡ 0
-  pub no_place : report.place ≡ 0
 
--- a back end opened with one entry, a restart, under the limits of the words, and its session ended so
-pub record Opened (words : List (List ℕ)) (before after : IoState) (report : Report) (status : ℕ) : Type 0 where
+-- A back end opened with the entries of the log as it was read and a restart, under the limits of the words, and its session
+-- ended so.
+pub record Opened (words : List (List ℕ)) (reads : Option Areas) (before after : IoState) (report : Report) (status : ℕ) : Type 0 where
   pub limits : LimitsView
+  pub opened : List PlainEntry
   pub end : SessionEnd
   pub words_are : AreWords words limits
+  pub from : IsOpenedFrom reads opened
   pub status_is : status ≡ status_of end
   pub place_is : report.place ≡ place_of end
-  pub opened_is : report.opened ≡ 1
-  pub run : IsRun limits (restart_entry ∷ []) before after (plain_history report.history.items) report.points.items report.bytes_read end
+  pub opened_is : report.opened ≡ length opened
+  pub run : IsRun limits opened before after (plain_history report.history.items) report.points.items report.bytes_read end
 
--- A call from this source and sink to those left the report and answered the status.
-abbrev pub IsBatch : List (List ℕ) → IoState → IoState → Report → ℕ → Type 0
-IsBatch words before after report status =
-    NothingOpened words before after report status ⊎ Opened words before after report status
+-- A call from this source, sink and disk to those left the report and answered the status. The areas of the disk read this
+-- before, and that after, where it tells that.
+abbrev pub IsBatch : List (List ℕ) → Option Areas → Option Areas → IoState → IoState → Report → ℕ → Type 0
+IsBatch words reads left before after report status =
+    NothingOpened words reads left before after report status ⊎ Opened words reads before after report status
+
+-- The log was not told to be damaged, and no entry of it is lost: the history is these and a restart, and then what came
+-- behind them, unless nothing was opened.
+pub record BeginsWith (entries : List PlainEntry) (report : Report) (status : ℕ) : Type 0 where
+  pub not_damaged : status ≢ 8
+  pub history_is : (plain_history report.history.items ≡ []) ⊎ ((own : List PlainEntry) × (plain_history report.history.items ≡ opened_with entries ++ own))

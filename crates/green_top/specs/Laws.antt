@@ -1,18 +1,26 @@
 -- What follows of a run from what it was given.
-use Rattle.std.specs.Prelude.{◌≡◌, ◌⊎◌, ℕ, ◌<◌, List, length, Option, Some}
-use Rattle.green_io.specs.Outside.{HasRisen}
+use Rattle.std.specs.Prelude.{◌≡◌, ◌⊎◌, ℕ, ◌+◌, ◌^◌, ◌<◌, List, [], length, Option, Some}
 use Rattle.febe_data.specs.LimitsView.{LimitsView}
+use Rattle.febe_data.specs.Plain.{PlainEntry}
 use Rattle.febe_wire.specs.Sessions.{IsInput}
+use Rattle.green_io.specs.Areas.{Areas}
+use Rattle.green_io.specs.Outside.{HasRisen}
+use Rattle.entry_fits.specs.Fits.{AllFit}
+use Rattle.edit_log.specs.Images.{AsRead}
+use Rattle.edit_log.specs.Log.{ReadsAs}
+use Rattle.green_store.specs.Opening.{IsDamagedLog}
+use Rattle.green_store.specs.Sessions.{greatest_session}
 use Rattle.green_top.specs.declared.report.Report.{Report}
-use Rattle.green_top.specs.Batch.{IsBatch}
+use Rattle.green_top.specs.Batch.{IsBatch, NothingOpened}
 use Rattle.green_top.specs.Ends.{most_input}
 use Rattle.green_top.specs.IoState.{IoState}
 use Rattle.green_top.specs.Words.{AreWords}
 
--- neither the source's count of faults rose, nor the sink's
+-- neither the source's count of faults rose, nor the sink's, nor the disk's
 pub record NoFaults (before after : IoState) : Type 0 where
   pub none_read : ¬ HasRisen before.source_faults after.source_faults
   pub none_written : ¬ HasRisen before.sink_faults after.sink_faults
+  pub none_of_disk : ¬ HasRisen before.disk_faults after.disk_faults
 
 -- a source tells that it has a whole session's input left, shorter than the budget
 pub record HasSession (source : Option (List ℕ)) : Type 0 where
@@ -21,9 +29,27 @@ pub record HasSession (source : Option (List ℕ)) : Type 0 where
   pub whole : IsInput input
   pub short : length input < most_input
 
--- With words of a form of the program, a whole session's input and no fault, the status is 0, or 9 for want
--- of memory.
+-- a disk tells what its log reads: entries that fit one after another, with a number left for one more session
+pub record HasLog (reads : Option Areas) : Type 0 where
+  pub entries : List PlainEntry
+  pub read : AsRead reads (ReadsAs entries)
+  pub fit : AllFit [] entries
+  pub number : greatest_session entries + 1 < 2 ^ 64
+
+-- a disk tells what its log reads, and it is damaged, at this place
+abbrev pub HasDamage : Option Areas → Type 0
+HasDamage reads = (at : ℕ) × AsRead reads (IsDamagedLog at)
+
+-- Over a damaged log no session is served: the status is 8, or an earlier cause ended the run, which is the words, the disk or
+-- want of memory; and no history is reported.
+abbrev pub DamageIsTold : Type 0
+DamageIsTold = (words : List (List ℕ)) (reads left : Option Areas) (before after : IoState) (report : Report) (status : ℕ)
+    → HasDamage reads → IsBatch words reads left before after report status
+    → NothingOpened words reads left before after report status
+
+-- With words of a form of the program, a whole session's input, a log that is not damaged, a number left and no fault, the
+-- status is 0, or 9 for want of memory.
 abbrev pub Completeness : Type 0
-Completeness = (words : List (List ℕ)) (limits : LimitsView) (before after : IoState) (report : Report) (status : ℕ)
-    → AreWords words limits → HasSession before.left → NoFaults before after → IsBatch words before after report status
+Completeness = (words : List (List ℕ)) (limits : LimitsView) (reads left : Option Areas) (before after : IoState) (report : Report) (status : ℕ)
+    → AreWords words limits → HasSession before.left → HasLog reads → NoFaults before after → IsBatch words reads left before after report status
     → (status ≡ 0) ⊎ (status ≡ 9)

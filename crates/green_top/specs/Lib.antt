@@ -3,6 +3,7 @@ pub use Rattle.tumbler.specs.Places
 pub use Rattle.tumbler.specs.Span
 pub use Rattle.febe_data.specs.Access
 pub use Rattle.febe_data.specs.FieldValues
+pub use Rattle.febe_data.specs.Generator
 pub use Rattle.febe_data.specs.LimitsView
 pub use Rattle.febe_data.specs.Plain
 pub use Rattle.febe_data.specs.Refusal
@@ -28,14 +29,23 @@ pub use Rattle.world_rules.specs.Legal
 pub use Rattle.world_rules.specs.Placed
 pub use Rattle.world_rules.specs.Serials
 pub use Rattle.world_rules.specs.Laws as WorldLaws
+pub use Rattle.green_io.specs.Areas
+pub use Rattle.green_io.specs.Disk
 pub use Rattle.green_io.specs.Outside
+pub use Rattle.entry_fits.specs.Fits
+pub use Rattle.edit_log.specs.Images
+pub use Rattle.edit_log.specs.Log
 pub use Rattle.green_store.specs.Sessions as StoreSessions
+pub use Rattle.green_store.specs.Durable as StoreDurable
+pub use Rattle.green_store.specs.Opening as StoreOpening
 pub mod Transcript
 pub mod Requests
 pub mod IoState
 pub mod Ends
 pub mod Outcome
 pub mod Words
+pub mod Crash
 pub mod Batch
+pub mod Generated
 pub mod Laws
 pub mod inside

@@ -1,5 +1,5 @@
 -- What one session leaves, by how it ended.
-use Rattle.std.specs.Prelude.{◌≡◌, ◌⊎◌, ℕ, ◌+◌, ◌≤◌, false, List, [], ◌++◌, length}
+use Rattle.std.specs.Prelude.{◌≡◌, ◌⊎◌, ℕ, ◌+◌, ◌^◌, ◌<◌, ◌≤◌, false, List, [], ◌++◌, length}
 use Rattle.febe_data.specs.LimitsView.{LimitsView}
 use Rattle.febe_data.specs.Plain.{PlainRequest, PlainEntry}
 use Rattle.world_rules.specs.World.{empty_world}
@@ -19,29 +19,30 @@ pub record NoSession (opened history : List PlainEntry) (points written : List �
 
 -- a session is over: these requests were answered with this output, and the history is the one that the back end
 -- opened with and the session's entries, which made new documents, and changed them at places that were there
-pub record IsOver (limits : LimitsView) (opened : List PlainEntry) (session : ℕ) (history : List PlainEntry) (points : List ℕ) (answered : List PlainRequest) (output : List ℕ) : Type 0 where
+pub record IsOver (limits : LimitsView) (opened : List PlainEntry) (session : ℕ) (history : List PlainEntry) (points : List ℕ) (answered : List PlainRequest) (output : List ℕ) (faults_before faults_after : ℕ) : Type 0 where
   pub history_is : history ≡ opened ++ entries_of session history
   pub over : is_live history session ≡ false
   pub placed : AllPlaced empty_world history
-  pub transcript : Transcript limits session history answered points output
+  pub transcript : Transcript limits session history answered points output faults_before faults_after
 
 -- The session with the next number began, and ended so: it answered requests that it read, and wrote their output,
 -- or a prefix of it.
-pub record IsEndedSession (limits : LimitsView) (opened : List PlainEntry) (end : SessionEnd) (read written : List ℕ) (history : List PlainEntry) (points : List ℕ) : Type 0 where
+pub record IsEndedSession (limits : LimitsView) (opened : List PlainEntry) (end : SessionEnd) (read written : List ℕ) (history : List PlainEntry) (points : List ℕ) (faults_before faults_after : ℕ) : Type 0 where
   pub session : ℕ
   pub number_is : session ≡ greatest_session opened + 1
+  pub has_number : session < 2 ^ 64
   pub answered : List PlainRequest
   pub output : List ℕ
-  pub over : IsOver limits opened session history points answered output
+  pub over : IsOver limits opened session history points answered output faults_before faults_after
   pub answered_and_written : AnsweredAndWritten end read answered output written
 
 -- no session began, or it was served to its end
-abbrev pub Leaves : LimitsView → List PlainEntry → SessionEnd → List ℕ → List ℕ → List PlainEntry → List ℕ → Type 0
-Leaves limits opened end read written history points =
-    (NeverBegan end read × NoSession opened history points written)
-    ⊎ IsEndedSession limits opened end read written history points
+abbrev pub Leaves : LimitsView → List PlainEntry → SessionEnd → List ℕ → List ℕ → List PlainEntry → List ℕ → ℕ → ℕ → Type 0
+Leaves limits opened end read written history points faults_before faults_after =
+    (NeverBegan opened end read × NoSession opened history points written)
+    ⊎ IsEndedSession limits opened end read written history points faults_before faults_after
 
--- From this source and sink to those left, a back end that opened with this history held one session, which ended
+-- From this source, sink and disk to those left, a back end that opened with this history held one session, which ended
 -- so for its cause, and left this history and these points. The last read asked for at most 4,096 bytes.
 pub record IsRun (limits : LimitsView) (opened : List PlainEntry) (before after : IoState) (history : List PlainEntry) (points : List ℕ) (bytes_read : ℕ) (end : SessionEnd) : Type 0 where
   pub read : List ℕ
@@ -50,4 +51,4 @@ pub record IsRun (limits : LimitsView) (opened : List PlainEntry) (before after 
   pub counted : bytes_read ≡ length read
   pub within : length read ≤ most_input + 4095
   pub cause : Cause end read before after
-  pub leaves : Leaves limits opened end read written history points
+  pub leaves : Leaves limits opened end read written history points before.disk_faults after.disk_faults

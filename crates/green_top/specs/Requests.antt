@@ -11,6 +11,10 @@ use Rattle.febe_wire.specs.Sessions.{greeting, QuitsLast, EndsInQuit}
 abbrev pub IsNotGreeted : List ℕ → Type 0
 IsNotGreeted bytes = (rest : List ℕ) → bytes ≢ greeting ++ rest
 
+-- the greeting is a prefix of the bytes
+abbrev pub IsGreetedFirst : List ℕ → Type 0
+IsGreetedFirst bytes = (rest : List ℕ) × (bytes ≡ greeting ++ rest)
+
 -- the greeting and these valid requests, of which only the last may be quit, are a prefix of the bytes
 pub record HasRequestPrefix (bytes : List ℕ) (requests : List PlainRequest) : Type 0 where
   pub rest : List ℕ

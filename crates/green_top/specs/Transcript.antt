@@ -1,5 +1,5 @@
 -- What a session's requests, replies and points have to do with the history.
-use Rattle.std.specs.Prelude.{⊤, take, false, true, ◌≡◌, ◌⊎◌, ℕ, ◌+◌, ◌≤◌, List, [], ◌∷◌, ◌++◌, length, map, All, codes}
+use Rattle.std.specs.Prelude.{⊤, take, true, ◌≡◌, ◌⊎◌, ℕ, ◌+◌, ◌-◌, ◌^◌, ◌<◌, ◌≤◌, List, [], ◌∷◌, ◌++◌, length, map, filter, All, codes}
 use Rattle.std.specs.List.{flat_map, AllByRecursion}
 use Rattle.std.specs.List.Sorted.{IsNonDecreasing}
 use Rattle.febe_data.specs.LimitsView.{LimitsView}
@@ -19,9 +19,14 @@ IsPrefixOf prefix whole = (rest : List ℕ) × (whole ≡ prefix ++ rest)
 abbrev pub output_of : List Exchange → List ℕ
 output_of exchanges = codes "P0~" ++ flat_map (λ (e : Exchange). spell_reply e.reply) exchanges
 
--- no count of disk faults rose in the exchange, so its reply is no disk fault
-abbrev pub HasNoDiskFault : Exchange → Type 0
-HasNoDiskFault exchange = exchange.rose ≡ false
+-- in how many of these exchanges the count of disk faults rose
+abbrev pub rises_in : List Exchange → ℕ
+rises_in exchanges = length (filter (λ (e : Exchange). e.rose) exchanges)
+
+-- In no more of these exchanges did the count of disk faults rise than it rose by in all. This is not asked where it then
+-- stands at the greatest number, past which it does not count.
+abbrev pub RisesWithin : List Exchange → ℕ → ℕ → Type 0
+RisesWithin exchanges before after = after < 2 ^ 64 - 1 → before + rises_in exchanges ≤ after
 
 -- the reply of an exchange is one that the grammar can spell
 abbrev pub HasValidReply : Exchange → Type 0
@@ -56,15 +61,16 @@ pub record EntriesAre (session : ℕ) (history : List PlainEntry) (exchanges : L
   pub serials : CountFromOne (entries_of session history)
   pub in_turn : InTurn session history (begin_entry session ∷ []) exchanges
 
--- The requests were answered at these points, with this output: each exchange took place in the history, its
--- reply is one that can be spelled, the points never fall, and the session's entries are those of its accepted changes.
-pub record Transcript (limits : LimitsView) (session : ℕ) (history : List PlainEntry) (requests : List PlainRequest) (points output : List ℕ) : Type 0 where
+-- The requests were answered at these points, with this output, while the count of disk faults rose from this to that: each
+-- exchange took place in the history, its reply is one that can be spelled, no more of them met a disk fault than there were,
+-- the points never fall, and the session's entries are those of its accepted changes.
+pub record Transcript (limits : LimitsView) (session : ℕ) (history : List PlainEntry) (requests : List PlainRequest) (points output : List ℕ) (faults_before faults_after : ℕ) : Type 0 where
   pub exchanges : List Exchange
   pub requests_are : requests ≡ map (λ (e : Exchange). e.request) exchanges
   pub points_are : points ≡ map (λ (e : Exchange). e.point) exchanges
   pub output_is : output ≡ output_of exchanges
   pub each : AllByRecursion (TookPlace limits session history) exchanges
-  pub no_disk_faults : AllByRecursion HasNoDiskFault exchanges
+  pub rises : RisesWithin exchanges faults_before faults_after
   pub valid_replies : AllByRecursion HasValidReply exchanges
   pub rising : IsNonDecreasing points
   pub begun : BeginsBefore session history points

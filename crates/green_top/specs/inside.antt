@@ -3,3 +3,4 @@ pub mod Opening
 pub mod Next
 pub mod Progress
 pub mod Conversation
+pub mod Enduring

@@ -1,50 +1,96 @@
 //! One run of the program.
-ghost use Rattle.std.specs.Prelude.{◌≡◌, map, string_bytes};
+ghost use Rattle.std.specs.Prelude.{◌≡◌, ◌≤◌, List, map, string_bytes, IsSome};
+ghost use Rattle.febe_data.specs.Plain.{PlainEntry, plain_history};
+ghost use Rattle.green_io.specs.Areas.{Areas};
+ghost use Rattle.green_io.specs.Disk.{images_now, LeavesOnly, LeavesOthers};
+ghost use Rattle.edit_log.specs.Images.{AsRead};
+ghost use Rattle.edit_log.specs.Log.{IsWhole};
 ghost use Rattle.green_top.specs.IoState.{io_state};
-ghost use Rattle.green_top.specs.Batch.{IsBatch};
+ghost use Rattle.green_top.specs.Batch.{IsBatch, BeginsWith, fault_status, fault_place};
+ghost use Rattle.green_top.specs.Crash.{HoldsRun, HoldsAll};
+ghost use Rattle.green_top.specs.Words.{AreNoWords};
 
 use crate::report::Report;
 use crate::session::serve;
 use crate::words::limits_in;
-use green_io::{Sink, Source};
-use green_store::Store;
+use green_io::{Area, Disk, Sink, Source};
+use green_store::laws::images_are_kept;
+use green_store::{OpenFault, Store};
 use std::alloc::Global;
 
 /// The status of a run whose words are no form of the program.
 const USAGE: u8 = 2;
 
-/// The status of a run that found no memory to begin.
-const NO_MEMORY: u8 = 9;
+/// The status of a run whose store was not opened.
+fn status_of(fault: OpenFault) -> u8
+    ensures { result ≡ fault_status fault }
+{
+    match fault {
+        OpenFault::Disk => 7,
+        OpenFault::Damaged { .. } => 8,
+        OpenFault::Memory => 9,
+    }
+}
 
-/// Runs one session: answers its requests as they come from the source, writes each reply to the sink before it reads
-/// on, and reports the history.
+/// The offset in the log that the fault names, or 0.
+fn place_of(fault: OpenFault) -> u64
+    ensures { result ≡ fault_place fault }
+{
+    match fault {
+        OpenFault::Damaged { at } => at,
+        _ => 0,
+    }
+}
+
+/// Runs one session over the log of a disk: opens it, answers the session's requests as they come from the source, writes each
+/// reply to the sink before it reads on, and reports the history.
 ///
 /// The words are the program's name and a folder, and perhaps `--limits` with the greatest numbers of kept entries and
 /// of content bytes and the number of entries between pages, each in decimal. The number is the status that the program
 /// ends with: 0 where a quit was answered or the input ended between requests, 2 where the words are wrong, 3 where the
-/// input is malformed and 4 where it is cut off, both with the place, 5 and 6 where the source or the sink failed, 9 for
-/// want of memory, and 10 where as many bytes were read as a session may give and another read was needed. Replies to
-/// whole requests in front of what ends a session are written, and a session that began has its end.
-pub fn run_batch<S: Source, K: Sink>(
+/// input is malformed and 4 where it is cut off, both with the place, 5 and 6 where the source or the sink failed, 7 where the
+/// disk failed while the log was opened, 8 where the log is damaged, with the place, 9 for want of memory, 10 where as many
+/// bytes were read as a session may give and another read was needed, and 11 where no session number is left. Replies to
+/// whole requests in front of what ends a session are written, and a session that began has its End.
+///
+/// An edit is in the log before its reply is written. Once opened, a disk that fails ends no run: the edit is refused, and a
+/// crash, or the end of the run, may leave it in the log or not.
+pub fn run_batch<S: Source, K: Sink, D: Disk>(
     alloc: Global,
     words: &[String],
     source: &mut S,
     sink: &mut K,
+    disk: &mut D,
     report: &mut Report,
 ) -> u8
-    ensures batch { IsBatch (map string_bytes words.now)
-        (io_state (S.left source.old) (S.fault_count source.old) (K.taken sink.old) (K.fault_count sink.old))
-        (io_state (S.left source.new) (S.fault_count source.new) (K.taken sink.new) (K.fault_count sink.new)) report.new result }
+    ensures batch { IsBatch (map string_bytes words.now) (D.state disk.old).reads (D.state disk.new).reads
+        (io_state (S.left source.old) (S.fault_count source.old) (K.taken sink.old) (K.fault_count sink.old) (D.fault_count disk.old))
+        (io_state (S.left source.new) (S.fault_count source.new) (K.taken sink.new) (K.fault_count sink.new) (D.fault_count disk.new)) report.new result }
+    ensures untouched { AreNoWords (map string_bytes words.now) → disk.new ≡ disk.old }
+    ensures whole { (entries : List PlainEntry) → AsRead (D.state disk.old).reads (IsWhole entries) → BeginsWith entries report.new result }
+    ensures any_moment { (entries : List PlainEntry) → AsRead (D.state disk.old).reads (IsWhole entries)
+        → LeavesOnly (D.state disk.old) (D.state disk.new) (HoldsRun (map string_bytes words.now) (D.state disk.old).reads entries (plain_history report.new.history.items)) }
+    ensures kept { IsSome (D.state disk.old).reads → 1 ≤ report.new.opened
+        → (image : Areas) → images_now (D.state disk.new) image → HoldsAll (map string_bytes words.now) report.new.opened (plain_history report.new.history.items) (D.fault_count disk.old) (D.fault_count disk.new) image }
+    ensures others { LeavesOthers Area.Log (D.state disk.old) (D.state disk.new) }
+    ensures never_falls { D.fault_count disk.old ≤ D.fault_count disk.new }
 {
     *report = Report::new(alloc);
     let Some(limits) = limits_in(words) else {
         return USAGE;
     };
-    let Ok(mut store) = Store::fresh(alloc, limits) else {
-        return NO_MEMORY;
+    let mut store = match Store::open(alloc, disk, limits) {
+        Ok(store) => store,
+        Err(fault) => {
+            report.place = place_of(fault);
+            return status_of(fault);
+        }
     };
-    let end = serve(alloc, &mut store, source, sink, report);
-    report.opened = 1;
+    let opened = store.history().len() as u64;
+    let end = serve(alloc, &mut store, source, sink, disk, report);
+    // So each image has what the store has.
+    images_are_kept(disk, &store);
+    report.opened = opened;
     report.place = end.place();
     report.history = store.into_history();
     end.status()

@@ -8,11 +8,12 @@ ghost use Rattle.green_top.specs.inside.Next.{NextIs};
 ghost use Rattle.green_top.specs.IoState.{io_state};
 ghost use Rattle.green_top.specs.inside.Progress.{answer_state, HandlesRequest};
 ghost use Rattle.green_top.specs.inside.Conversation.{session_state, IsRound};
+ghost use Rattle.green_top.specs.inside.Enduring.{Endures};
 
 use crate::session_end::SessionEnd;
 use febe_data::{List, Request};
 use febe_feed::Feed;
-use green_io::{Sink, Source};
+use green_io::{Disk, Sink, Source};
 use green_session::{Put, Taken, Turns, put_reply, take_request};
 use green_store::{Step, StepAnswer, Store};
 use std::alloc::Global;
@@ -46,27 +47,29 @@ fn is_quit(request: &Request) -> bool
 
 /// Answers a request of the session, notes its point and writes its reply. Room for the point is taken first, so that no
 /// entry stands without its point.
-fn answer_one<K: Sink>(
+fn answer_one<K: Sink, D: Disk>(
     alloc: Global,
     store: &mut Store,
     session: u64,
     request: Request,
     sink: &mut K,
+    disk: &mut D,
     points: &mut List<u64>,
 ) -> Put
     requires live { is_live store.old.history session ≡ true }
     requires valid { IsRequest (plain_request request) }
     ensures answered { HandlesRequest store.old.limits session
-        (answer_state store.old.history points.old.items (K.taken sink.old) (K.fault_count sink.old))
-        (answer_state store.new.history points.new.items (K.taken sink.new) (K.fault_count sink.new)) (plain_request request) result }
+        (answer_state store.old.history points.old.items (K.taken sink.old) (K.fault_count sink.old) (D.fault_count disk.old))
+        (answer_state store.new.history points.new.items (K.taken sink.new) (K.fault_count sink.new) (D.fault_count disk.new)) (plain_request request) result }
     ensures limits { store.new.limits ≡ store.old.limits }
+    ensures endures { Endures store.old.limits session (D.state disk.old) store.old (D.fault_count disk.old) (D.state disk.new) store.new (D.fault_count disk.new) }
     ensures stays { plain_request request ≢ quit → is_live store.new.history session ≡ true }
 {
     if points.reserve(1).is_err() {
         return Put::Memory;
     }
     let step = Step::Ask { session, request };
-    let StepAnswer::Reply { reply, point } = store.step(alloc, step) else {
+    let StepAnswer::Reply { reply, point } = store.step(alloc, disk, step) else {
         unreachable!();
     };
     points.push_reserved(point);
@@ -74,12 +77,13 @@ fn answer_one<K: Sink>(
 }
 
 /// Takes one request of the session, answers it and writes its reply, or tells what ends the session.
-pub(crate) fn answer_next<S: Source, K: Sink>(
+pub(crate) fn answer_next<S: Source, K: Sink, D: Disk>(
     alloc: Global,
     store: &mut Store,
     session: u64,
     source: &mut S,
     sink: &mut K,
+    disk: &mut D,
     feed: &mut Feed,
     turns: &mut Turns,
     points: &mut List<u64>,
@@ -87,9 +91,10 @@ pub(crate) fn answer_next<S: Source, K: Sink>(
     requires live { is_live store.old.history session ≡ true }
     requires greeted { feed.old.greeted ≡ true }
     ensures round { IsRound store.old.limits session
-        (session_state store.old.history points.old.items feed.old turns.old (io_state (S.left source.old) (S.fault_count source.old) (K.taken sink.old) (K.fault_count sink.old)))
-        (session_state store.new.history points.new.items feed.new turns.new (io_state (S.left source.new) (S.fault_count source.new) (K.taken sink.new) (K.fault_count sink.new))) result }
+        (session_state store.old.history points.old.items feed.old turns.old (io_state (S.left source.old) (S.fault_count source.old) (K.taken sink.old) (K.fault_count sink.old) (D.fault_count disk.old)))
+        (session_state store.new.history points.new.items feed.new turns.new (io_state (S.left source.new) (S.fault_count source.new) (K.taken sink.new) (K.fault_count sink.new) (D.fault_count disk.new))) result }
     ensures limits { store.new.limits ≡ store.old.limits }
+    ensures endures { Endures store.old.limits session (D.state disk.old) store.old (D.fault_count disk.old) (D.state disk.new) store.new (D.fault_count disk.new) }
 {
     let request = match take_next(alloc, source, feed, turns) {
         Ok(Some(request)) => request,
@@ -97,7 +102,7 @@ pub(crate) fn answer_next<S: Source, K: Sink>(
         Err(end) => return Some(end),
     };
     let quits = is_quit(&request);
-    match answer_one(alloc, store, session, request, sink, points) {
+    match answer_one(alloc, store, session, request, sink, disk, points) {
         Put::Done if quits => Some(SessionEnd::Quit),
         Put::Done => None,
         Put::WriteFault => Some(SessionEnd::WriteFault),

@@ -1,7 +1,18 @@
-//! A law of runs, as a function that does nothing and whose contract says it.
-ghost use Rattle.green_top.specs.Laws.{Completeness};
+//! Laws of runs. Each is a function that does nothing, whose contract says the law.
+ghost use Rattle.green_top.specs.Laws.{Completeness, DamageIsTold};
 
-/// A session's whole input is served, or memory runs out.
+use edit_log::laws::one_reading;
+
+/// A session's whole input is served over a log that is not damaged, or memory runs out.
 pub fn completeness()
     ensures { Completeness }
-{}
+{
+    one_reading();
+}
+
+/// Over a damaged log no session is served, and nothing is reported but why.
+pub fn damage_is_told()
+    ensures { DamageIsTold }
+{
+    one_reading();
+}

@@ -3,6 +3,7 @@
 
 mod batch;
 mod exchange;
+mod generating;
 pub mod laws;
 mod report;
 mod session;
@@ -10,6 +11,7 @@ mod session_end;
 mod words;
 
 pub use batch::run_batch;
+pub use generating::generated;
 pub use report::Report;
 pub use session::MOST_INPUT;
 pub use session_end::SessionEnd;

@@ -6,7 +6,7 @@ use std::alloc::Global;
 /// What a run did.
 #[derive(Debug, Drop)]
 pub struct Report {
-    /// The history, from the restart with which the run began.
+    /// The history: the entries of the log as it was read, a restart, and the session's entries.
     pub history: List<Entry>,
     /// How many entries the history had once the run had begun; 0 where it never did.
     pub opened: u64,

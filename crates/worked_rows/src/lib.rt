@@ -6,11 +6,19 @@ mod batch_rows;
 #[cfg(test)]
 mod bounds;
 #[cfg(test)]
+mod crash_rows;
+#[cfg(test)]
+mod disk_rows;
+#[cfg(test)]
 mod entry_rows;
 #[cfg(test)]
 mod faults;
 #[cfg(test)]
 mod flat_tables;
+#[cfg(test)]
+mod folder_rows;
+#[cfg(test)]
+mod generated_rows;
 #[cfg(test)]
 mod history_rows;
 #[cfg(test)]

@@ -5,7 +5,7 @@
 
 use crate::sessions::bytes_of;
 use febe_data::{Change, List};
-use green_fakes::{MemorySink, MemorySource};
+use green_fakes::{MemoryDisk, MemorySink, MemorySource};
 use green_top::{Report, run_batch};
 use std::alloc::{AllocError, Global};
 use std::process::Abort;
@@ -69,6 +69,7 @@ pub(crate) struct Ran {
     pub(crate) status: u8,
     pub(crate) source: MemorySource,
     pub(crate) sink: MemorySink,
+    pub(crate) disk: MemoryDisk,
     pub(crate) report: Report,
 }
 
@@ -79,6 +80,7 @@ impl Drop for Ran {
             status: _,
             source: _,
             sink: _,
+            disk: _,
             report: _,
         } = self;
     }
@@ -122,7 +124,7 @@ impl Ran {
     }
 }
 
-fn strings_of(alloc: Global, words: &[&str]) -> Result<Vec<String>, AllocError> {
+pub(crate) fn strings_of(alloc: Global, words: &[&str]) -> Result<Vec<String>, AllocError> {
     let mut strings = Vec::new(alloc);
     for word in words {
         strings.push(String::from_str(alloc, word)?)?;
@@ -135,26 +137,40 @@ fn run_strings(
     words: &[String],
     mut source: MemorySource,
     mut sink: MemorySink,
+    mut disk: MemoryDisk,
 ) -> Ran {
     let mut report = Report::new(alloc);
-    let status = run_batch(alloc, words, &mut source, &mut sink, &mut report);
+    let status = run_batch(alloc, words, &mut source, &mut sink, &mut disk, &mut report);
     Ran {
         status,
         source,
         sink,
+        disk,
         report,
     }
 }
 
-/// Runs the program with these words.
+/// Runs the program with these words over a disk.
+pub(crate) fn run_over(
+    alloc: Global,
+    words: &[&str],
+    source: MemorySource,
+    sink: MemorySink,
+    disk: MemoryDisk,
+) -> Result<Ran, AllocError> {
+    let strings = strings_of(alloc, words)?;
+    Ok(run_strings(alloc, strings.as_slice(), source, sink, disk))
+}
+
+/// Runs the program with these words over an empty disk.
 pub(crate) fn run(
     alloc: Global,
     words: &[&str],
     source: MemorySource,
     sink: MemorySink,
 ) -> Result<Ran, AllocError> {
-    let strings = strings_of(alloc, words)?;
-    Ok(run_strings(alloc, strings.as_slice(), source, sink))
+    let disk = MemoryDisk::new(alloc, List::new(alloc));
+    run_over(alloc, words, source, sink, disk)
 }
 
 /// So many pieces of one length.

@@ -125,6 +125,22 @@ impl Sessions {
         }
     }
 
+    /// The bytes of the reply to a request of the session.
+    pub(crate) fn answer(
+        &mut self,
+        alloc: Global,
+        session: u64,
+        request: Request,
+    ) -> Result<Text, Memory> {
+        let asked = Asked { session, request };
+        let reply = told(alloc, &self.world, &self.limits, &asked)?;
+        if !reply.as_slice().starts_with(b"?") {
+            self.make(alloc, &asked)?;
+        }
+        self.asked.push(asked)?;
+        Ok(reply)
+    }
+
     /// The bytes of the reply to a request of the session, whose bytes are these. None where they spell no request.
     pub(crate) fn ask(
         &mut self,
@@ -135,13 +151,7 @@ impl Sessions {
         let Some(request) = request_of(alloc, bytes)? else {
             return Ok(None);
         };
-        let asked = Asked { session, request };
-        let reply = told(alloc, &self.world, &self.limits, &asked)?;
-        if !reply.as_slice().starts_with(b"?") {
-            self.make(alloc, &asked)?;
-        }
-        self.asked.push(asked)?;
-        Ok(Some(reply))
+        Ok(Some(self.answer(alloc, session, request)?))
     }
 
     /// Whether another world tells the same of this request.

@@ -2,39 +2,64 @@
 
 use crate::sessions::{bytes_of, request_of};
 use crate::tables::{Row, Step as Line, TWO_WRITERS};
-use febe_data::{Limits, Memory, Request};
+use febe_data::{Limits, List, Memory, Request};
 use febe_reply::write_reply;
+use green_fakes::MemoryDisk;
 use green_store::{Step, StepAnswer, Store};
 use std::alloc::Global;
 use std::process::Abort;
 use std::test::Fail;
 use tumbler::Text;
 
-/// A store with the limits of a back end that names none.
-fn fresh(alloc: Global) -> Result<Store, Fail> {
+/// A store and its disk.
+pub(crate) struct House {
+    store: Store,
+    disk: MemoryDisk,
+}
+
+/// By hand, so that a caller's exits do not look into the fields.
+impl Drop for House {
+    fn drop(self) {
+        let House { store: _, disk: _ } = self;
+    }
+}
+
+/// A store over an empty disk, with the limits of a back end that names none.
+pub(crate) fn fresh(alloc: Global) -> Result<House, Fail> {
     let limits = Limits::new(4_194_304, 1_073_741_824, 256)?;
-    Ok(Store::fresh(alloc, limits)?)
+    let mut disk = MemoryDisk::new(alloc, List::new(alloc));
+    let store = Store::open(alloc, &mut disk, limits)?;
+    Ok(House { store, disk })
 }
 
 /// Begins a session, and gives its number.
-fn begin(alloc: Global, store: &mut Store) -> Option<u64> {
-    match store.step(alloc, Step::Begin) {
+pub(crate) fn begin(alloc: Global, house: &mut House) -> Option<u64> {
+    match house.store.step(alloc, &mut house.disk, Step::Begin) {
         StepAnswer::Begun { session } => Some(session),
         _ => None,
     }
 }
 
 /// The bytes of the reply to a session's request; no bytes where the session is not live.
-fn ask(alloc: Global, store: &mut Store, session: u64, request: Request) -> Result<Text, Memory> {
-    let StepAnswer::Reply { reply, .. } = store.step(alloc, Step::Ask { session, request }) else {
+pub(crate) fn ask(
+    alloc: Global,
+    house: &mut House,
+    session: u64,
+    request: Request,
+) -> Result<Text, Memory> {
+    let step = Step::Ask { session, request };
+    let StepAnswer::Reply { reply, .. } = house.store.step(alloc, &mut house.disk, step) else {
         return Ok(Text::new(alloc));
     };
     write_reply(alloc, &reply)
 }
 
 /// Whether a live session has ended.
-fn end(alloc: Global, store: &mut Store, session: u64) -> bool {
-    match store.step(alloc, Step::End { session }) {
+fn end(alloc: Global, house: &mut House, session: u64) -> bool {
+    match house
+        .store
+        .step(alloc, &mut house.disk, Step::End { session })
+    {
         StepAnswer::Ended => true,
         _ => false,
     }
@@ -44,14 +69,14 @@ fn end(alloc: Global, store: &mut Store, session: u64) -> bool {
 fn check_request(
     rt: &impl Abort,
     alloc: Global,
-    store: &mut Store,
+    house: &mut House,
     session: u64,
     request: &str,
     wanted: &str,
 ) -> Result<(), Fail> {
     let bytes = bytes_of(alloc, request)?;
     let asked = request_of(alloc, bytes.as_slice())?.ok_or("no request")?;
-    let told = ask(alloc, store, session, asked)?;
+    let told = ask(alloc, house, session, asked)?;
     assert_eq!(rt;
         told.as_slice(),
         bytes_of(alloc, wanted)?.as_slice(),
@@ -61,29 +86,29 @@ fn check_request(
 }
 
 /// Makes the line's requests, one after the other.
-fn check_line(rt: &impl Abort, alloc: Global, store: &mut Store, line: &Line) -> Result<(), Fail> {
+fn check_line(rt: &impl Abort, alloc: Global, house: &mut House, line: &Line) -> Result<(), Fail> {
     let (session, requests, replies) = *line;
     let mut wanted = replies.split(' ');
     for request in requests.split(' ') {
         let reply = wanted.next().ok_or("no reply")?;
-        check_request(rt, alloc, store, session, request, reply)?;
+        check_request(rt, alloc, house, session, request, reply)?;
     }
     Ok(())
 }
 
 /// Makes the row's steps on a store of two sessions.
-fn play(rt: &impl Abort, alloc: Global, store: &mut Store, row: Row) -> Result<(), Fail> {
-    assert_eq!(rt; begin(alloc, store), Some(1));
-    assert_eq!(rt; begin(alloc, store), Some(2));
+fn play(rt: &impl Abort, alloc: Global, house: &mut House, row: Row) -> Result<(), Fail> {
+    assert_eq!(rt; begin(alloc, house), Some(1));
+    assert_eq!(rt; begin(alloc, house), Some(2));
     for line in row {
-        check_line(rt, alloc, store, line)?;
+        check_line(rt, alloc, house, line)?;
     }
     Ok(())
 }
 
 fn check_row(rt: &impl Abort, alloc: Global, row: Row) -> Result<(), Fail> {
-    let mut store = fresh(alloc)?;
-    play(rt, alloc, &mut store, row)
+    let mut house = fresh(alloc)?;
+    play(rt, alloc, &mut house, row)
 }
 
 #[test]
@@ -182,22 +207,22 @@ const TURNS: &[Turn] = &[
 ];
 
 /// Makes one turn.
-fn check_turn(rt: &impl Abort, alloc: Global, store: &mut Store, turn: &Turn) -> Result<(), Fail> {
+fn check_turn(rt: &impl Abort, alloc: Global, house: &mut House, turn: &Turn) -> Result<(), Fail> {
     let (session, asked, wanted) = *turn;
     if asked == "begin" {
-        assert_eq!(rt; begin(alloc, store), Some(session));
+        assert_eq!(rt; begin(alloc, house), Some(session));
         return Ok(());
     }
     if asked == "end" {
-        assert!(rt; end(alloc, store, session), "at {session}");
+        assert!(rt; end(alloc, house, session), "at {session}");
         return Ok(());
     }
-    check_request(rt, alloc, store, session, asked, wanted)
+    check_request(rt, alloc, house, session, asked, wanted)
 }
 
-fn check_turns(rt: &impl Abort, alloc: Global, store: &mut Store) -> Result<(), Fail> {
+fn check_turns(rt: &impl Abort, alloc: Global, house: &mut House) -> Result<(), Fail> {
     for turn in TURNS {
-        check_turn(rt, alloc, store, turn)?;
+        check_turn(rt, alloc, house, turn)?;
     }
     Ok(())
 }
@@ -206,8 +231,8 @@ fn check_turns(rt: &impl Abort, alloc: Global, store: &mut Store) -> Result<(), 
 fn three_sessions_take_turns(rt: HostRuntime) -> Result<(), Fail> {
     let alloc = rt.alloc();
     assert_eq!(rt; TURNS.len(), 60);
-    let mut store = fresh(alloc)?;
-    check_turns(&rt, alloc, &mut store)?;
-    assert_eq!(rt; store.history().len(), 31);
+    let mut house = fresh(alloc)?;
+    check_turns(&rt, alloc, &mut house)?;
+    assert_eq!(rt; house.store.history().len(), 31);
     Ok(())
 }

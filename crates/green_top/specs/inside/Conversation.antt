@@ -14,14 +14,14 @@ use Rattle.green_session.specs.declared.put.Put.{Put}
 use Rattle.green_session.specs.declared.put.Put.TheVariants as put_results
 use Rattle.green_top.specs.declared.session_end.SessionEnd.{SessionEnd}
 use Rattle.green_top.specs.declared.session_end.SessionEnd.TheVariants as ends
-use Rattle.green_top.specs.IoState.{IoState, Moves}
+use Rattle.green_top.specs.IoState.{IoState, with_disk_faults, Moves}
 use Rattle.green_top.specs.Outcome.{Leaves}
 use Rattle.green_top.specs.Ends.{most_input, Cause, AnsweredAndWritten}
 use Rattle.green_top.specs.inside.Opening.{Begins}
 use Rattle.green_top.specs.inside.Progress.{AnswerState, answer_state, HandlesRequest, Progress}
 
 -- the state of a session: the history, the points of its replies, what was read and not yet answered, and
--- the source and the sink
+-- the source, the sink and the disk
 pub record SessionState : Type 0 where
   pub history : List PlainEntry
   pub points : List ℕ
@@ -32,16 +32,16 @@ pub record SessionState : Type 0 where
 abbrev pub session_state : List PlainEntry → List ℕ → FeedView → TurnsView → IoState → SessionState
 session_state history points feed turns io = record { history = history; points = points; feed = feed; turns = turns; io = io }
 
--- the same with another history
-abbrev pub with_history : SessionState → List PlainEntry → SessionState
-with_history s history = session_state history s.points s.feed s.turns s.io
+-- the same with another history, and another count of disk faults
+abbrev pub with_history : SessionState → List PlainEntry → ℕ → SessionState
+with_history s history disk_faults = session_state history s.points s.feed s.turns (with_disk_faults s.io disk_faults)
 
 -- the part of it that reading changes, and that answering changes
 abbrev pub reading : SessionState → ReadState
 reading s = read_state s.io.left s.io.source_faults s.feed s.turns
 
 abbrev pub answering : SessionState → AnswerState
-answering s = answer_state s.history s.points s.io.taken s.io.sink_faults
+answering s = answer_state s.history s.points s.io.taken s.io.sink_faults s.io.disk_faults
 
 -- a request came, was answered, and this came of its reply
 pub record IsAsked (limits : LimitsView) (session : ℕ) (before after : SessionState) (request : PlainRequest) (put : Put) : Type 0 where
@@ -59,6 +59,7 @@ pub record IsNotAsked (before after : SessionState) (taken : Taken) : Type 0 whe
   pub points_stay : after.points ≡ before.points
   pub taken_stays : after.io.taken ≡ before.io.taken
   pub faults_stay : after.io.sink_faults ≡ before.io.sink_faults
+  pub disk_faults_stay : after.io.disk_faults ≡ before.io.disk_faults
 
 -- what came of taking one request and answering it: the session goes on, or ends
 abbrev pub IsRound : LimitsView → ℕ → SessionState → SessionState → Option SessionEnd → Type 0
@@ -102,7 +103,7 @@ pub record IsConversing (limits : LimitsView) (session : ℕ) (start now : Sessi
   pub no_quits : NoQuits requests
   pub turns_are : now.turns ≡ record { limit = most_input; taken = length (all_read start read) }
   pub within : length (all_read start read) ≤ most_input + 4095
-  pub progress : Progress limits session start.history now.history now.points requests written
+  pub progress : Progress limits session start.history now.history now.points requests written start.io.disk_faults now.io.disk_faults
   pub live : is_live now.history session ≡ true
 
 -- from its begin on the session's requests were answered, up to this end
@@ -114,7 +115,7 @@ pub record IsConversed (limits : LimitsView) (session : ℕ) (start after : Sess
   pub moves : Moves start.io after.io read written
   pub counted : after.turns.taken ≡ length (all_read start read)
   pub within : length (all_read start read) ≤ most_input + 4095
-  pub progress : Progress limits session start.history after.history after.points answered output
+  pub progress : Progress limits session start.history after.history after.points answered output start.io.disk_faults after.io.disk_faults
   pub cause : Cause end (all_read start read) start.io after.io
   pub answered_and_written : AnsweredAndWritten end (all_read start read) answered output written
 
@@ -126,4 +127,4 @@ pub record IsSession (limits : LimitsView) (start after : SessionState) (end : S
   pub counted : after.turns.taken ≡ length (all_read start read)
   pub within : length (all_read start read) ≤ most_input + 4095
   pub cause : Cause end (all_read start read) start.io after.io
-  pub leaves : Leaves limits start.history end (all_read start read) written after.history after.points
+  pub leaves : Leaves limits start.history end (all_read start read) written after.history after.points start.io.disk_faults after.io.disk_faults

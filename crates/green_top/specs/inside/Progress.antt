@@ -1,5 +1,5 @@
 -- What answering requests does to a session.
-use Rattle.std.specs.Prelude.{◌≡◌, ◌⊎◌, ℕ, ◌≤◌, false, List, [], ◌∷◌, ◌++◌, length, map, All, Option}
+use Rattle.std.specs.Prelude.{◌≡◌, ◌⊎◌, ℕ, ◌≤◌, List, [], ◌∷◌, ◌++◌, length, map, All, Option}
 use Rattle.std.specs.List.{flat_map, AllByRecursion}
 use Rattle.std.specs.List.Sorted.{IsNonDecreasing}
 use Rattle.febe_data.specs.LimitsView.{LimitsView}
@@ -11,30 +11,33 @@ use Rattle.world_rules.specs.World.{empty_world}
 use Rattle.world_rules.specs.Placed.{AllPlaced}
 use Rattle.world_rules.specs.Legal.{Exchange, TookPlace}
 use Rattle.green_store.specs.Sessions.{begin_entry}
+use Rattle.green_store.specs.Durable.{has_risen}
 use Rattle.green_store.specs.Steps.{Steps}
 use Rattle.green_session.specs.declared.put.Put.{Put}
 use Rattle.green_session.specs.declared.put.Put.TheVariants.{Memory}
 use Rattle.green_session.specs.Putting.{IsPut}
 use Rattle.world_rules.specs.Serials.{CountFromOne}
-use Rattle.green_top.specs.Transcript.{output_of, HasNoDiskFault, HasValidReply, InTurn}
+use Rattle.green_top.specs.Transcript.{output_of, RisesWithin, HasValidReply, InTurn}
 
 -- what the answer to a request changes: the history, the points, what the sink took, where it tells that, and its
--- count of faults
+-- count of faults, and the disk's
 pub record AnswerState : Type 0 where
   pub history : List PlainEntry
   pub points : List ℕ
   pub taken : Option (List ℕ)
   pub faults : ℕ
+  pub disk_faults : ℕ
 
-abbrev pub answer_state : List PlainEntry → List ℕ → Option (List ℕ) → ℕ → AnswerState
-answer_state history points taken faults = record { history = history; points = points; taken = taken; faults = faults }
+abbrev pub answer_state : List PlainEntry → List ℕ → Option (List ℕ) → ℕ → ℕ → AnswerState
+answer_state history points taken faults disk_faults = record { history = history; points = points; taken = taken; faults = faults; disk_faults = disk_faults }
 
--- One request was answered by a legal step from the history before it to the one after it: its point is the
--- length of that, and the output is its reply, which the grammar can spell.
+-- One request was answered by a legal step from the history before it to the one after it, in which the count of disk faults
+-- rose or not: its point is the length of that, and the output is its reply, which the grammar can spell.
 pub record Answers (limits : LimitsView) (session : ℕ) (before after : AnswerState) (request : PlainRequest) (output : List ℕ) : Type 0 where
   pub reply : PlainReply
   pub valid : IsReply reply
-  pub step : Steps limits session before.history request reply after.history false
+  pub step : Steps limits session before.history request reply after.history (has_risen before.disk_faults after.disk_faults)
+  pub never_falls : before.disk_faults ≤ after.disk_faults
   pub points_are : after.points ≡ before.points ++ length after.history ∷ []
   pub output_is : output ≡ spell_reply reply
 
@@ -51,19 +54,20 @@ pub record IsOutOfMemory (before after : AnswerState) (result : Put) : Type 0 wh
   pub points_stay : after.points ≡ before.points
   pub sink_stays : after.taken ≡ before.taken
   pub faults_stay : after.faults ≡ before.faults
+  pub disk_faults_stay : after.disk_faults ≡ before.disk_faults
 
 abbrev pub HandlesRequest : LimitsView → ℕ → AnswerState → AnswerState → PlainRequest → Put → Type 0
 HandlesRequest limits session before after request result = AnswersAndWrites limits session before after request result ⊎ IsOutOfMemory before after result
 
--- The session so far: the requests answered, with their points and the output. The history is the one with which
--- the session had begun, and what the exchanges added.
-pub record Progress (limits : LimitsView) (session : ℕ) (begun history : List PlainEntry) (points : List ℕ) (answered : List PlainRequest) (output : List ℕ) : Type 0 where
+-- The session so far: the requests answered, with their points and the output, while the count of disk faults rose from this
+-- to that. The history is the one with which the session had begun, and what the exchanges added.
+pub record Progress (limits : LimitsView) (session : ℕ) (begun history : List PlainEntry) (points : List ℕ) (answered : List PlainRequest) (output : List ℕ) (faults_before faults_after : ℕ) : Type 0 where
   pub exchanges : List Exchange
   pub requests_are : answered ≡ map (λ (e : Exchange). e.request) exchanges
   pub points_are : points ≡ map (λ (e : Exchange). e.point) exchanges
   pub output_is : output ≡ output_of exchanges
   pub each : AllByRecursion (TookPlace limits session history) exchanges
-  pub no_disk_faults : AllByRecursion HasNoDiskFault exchanges
+  pub rises : RisesWithin exchanges faults_before faults_after
   pub valid_replies : AllByRecursion HasValidReply exchanges
   pub first : entries_of session begun ≡ begin_entry session ∷ []
   pub history_is : history ≡ begun ++ flat_map (λ (e : Exchange). e.added) exchanges

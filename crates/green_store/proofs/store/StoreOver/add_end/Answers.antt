@@ -1,6 +1,6 @@
 use Rattle.std.proofs.Common.{◌≡◌, ◌+◌, ◌≤◌, ◌^◌, ◌<◌, ◌∙◌, true, List, [], ◌∷◌, ◌++◌, ap, arith}
 use Rattle.febe_data.specs.Plain.{PlainEntry, plain_history, ended}
-use Rattle.world_rules.specs.FlatView.{entries_in, after_entry, view_of}
+use Rattle.world_rules.specs.FlatView.{entries_in, view_of}
 use Rattle.world_rules.specs.History.{is_live}
 use Rattle.green_store.specs.Sessions.{end_entry}
 use Rattle.green_store.specs.StoreView.{StoreView, with_one}
@@ -29,7 +29,7 @@ invariant_of-self g c =
     let same = entry_is (plain_history items) c.args.session c.entries_of.result ended (c.entries_of.ensures view stood) in
     let after = stands_after (g.W.Lookups.stands c.apply.new.self) view _ end same (done c.apply.result _ (c.apply.ensures.in_place view stood tt room) (c.apply.ensures.ok view stood)) in
     let history : plain_history c.push_reserved.new.self.items ≡ plain_history items ++ end ∷ [] = history_is items c.push_reserved.new.self.items _ end c.push_reserved.ensures.items same in
-    same_store _ _ _ _ _ _ _ _ history c.push_reserved.ensures.spare c.remove.ensures (over _ _ _ (g.W.Lookups.stands c.apply.new.self) _ _ c.args.session c.self.invariant live after)
+    same_store _ _ _ c.push_reserved.new.self.spare _ _ _ _ history c.push_reserved.ensures.spare c.remove.ensures (over _ _ _ (g.W.Lookups.stands c.apply.new.self) _ _ c.args.session c.self.invariant live after)
 
 pub returns : goal.returns
 returns g c =
@@ -38,5 +38,5 @@ returns g c =
     let end = end_entry (plain_history items) c.args.session in
     let same = entry_is (plain_history items) c.args.session c.entries_of.result ended (c.entries_of.ensures view c.self.invariant.world_stands) in
     let history : plain_history c.push_reserved.new.self.items ≡ plain_history items ++ end ∷ [] = history_is items c.push_reserved.new.self.items _ end c.push_reserved.ensures.items same in
-    ap (λ (h : List PlainEntry). let v : StoreView = record { history = h; limits = c.self.inside.limits } in v) history
+    ap (λ (h : List PlainEntry). let v : StoreView = record { history = h; limits = c.self.inside.limits; log = c.self.inside.log } in v) history
     ∙ ap (λ (v : StoreView). with_one v (end_entry v.history c.args.session)) c.self.view_is

@@ -1,0 +1,35 @@
+-- Begins and ends of sessions keep no entry, and leave the log alone.
+use Rattle.std.proofs.Common.{◌≡◌, ℕ, Bool, false, ap, refl, ◌∙◌}
+use Rattle.febe_data.specs.Plain.{PlainEntry}
+use Rattle.world_rules.specs.History.{kept, is_counted}
+use Rattle.green_store.specs.declared.step.Step.TheVariants as steps
+use Rattle.green_store.specs.declared.step.StepAnswer.{StepAnswer}
+use Rattle.green_store.specs.declared.step.StepAnswer.TheVariants as answers
+use Rattle.green_store.specs.IsStep.{IsStep}
+use Rattle.green_store.specs.Sessions.{begin_entry, end_entry}
+use Rattle.green_store.specs.StoreView.{StoreView, with_one}
+use Rattle.green_store.proofs.Regulars.{kept_other}
+
+pub record IsQuiet (before after : StoreView) : Type 0 where
+  pub none_kept : kept after.history ≡ kept before.history
+  pub same_log : after.log ≡ before.log
+
+with_other : (before after : StoreView) (entry : PlainEntry) → is_counted entry.change ≡ false → after ≡ with_one before entry → IsQuiet before after
+with_other before after entry other grows = record {
+  none_kept = ap (λ (v : StoreView). kept v.history) grows ∙ kept_other before.history entry other;
+  same_log = ap (λ (v : StoreView). v.log) grows;
+}
+
+as_before : (before after : StoreView) → after ≡ before → IsQuiet before after
+as_before before after stays = record { none_kept = ap (λ (v : StoreView). kept v.history) stays; same_log = ap (λ (v : StoreView). v.log) stays }
+
+pub begin_is_quiet : (before after : StoreView) (answer : StepAnswer) (rose : Bool) → IsStep before steps.Begin after answer rose → IsQuiet before after
+begin_is_quiet before after (answers.Begun session) rose step = with_other before after (begin_entry session) refl step.grows
+begin_is_quiet before after answers.NoNumber rose step = as_before before after step.stays
+begin_is_quiet before after answers.Memory rose step = as_before before after step.stays
+begin_is_quiet before after other rose step = absurd step
+
+pub end_is_quiet : (before after : StoreView) (session : ℕ) (answer : StepAnswer) (rose : Bool) → IsStep before (steps.End session) after answer rose → IsQuiet before after
+end_is_quiet before after session answers.Ended rose step = with_other before after (end_entry before.history session) refl step.grows
+end_is_quiet before after session answers.NoSession rose step = as_before before after step.stays
+end_is_quiet before after session other rose step = absurd step

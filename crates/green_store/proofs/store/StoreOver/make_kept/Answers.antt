@@ -1,0 +1,106 @@
+use Rattle.std.proofs.Common.{◌≡◌, ◌≤◌, ◌<◌, ◌+◌, ◌⊎◌, ◌∙◌, inl, true, [], ◌∷◌, ◌++◌, Option, ap, refl, sym, subst, length, rules, arith}
+use Rattle.febe_data.specs.Plain.{PlainEntry, plain_history, plain_change, plain_reply, refused}
+use Rattle.febe_data.specs.declared.refusal.Refusal.TheVariants.{Disk}
+use Rattle.green_io.specs.Disk.{LeavesOnly}
+use Rattle.world_rules.specs.FlatView.{view_of}
+use Rattle.world_rules.specs.History.{is_live, kept}
+use Rattle.world_rules.specs.Legal.{entry_after}
+use Rattle.world_rules.specs.PlainEffect.{plain_effect}
+use Rattle.edit_log.specs.Images.{IsAppendable}
+use Rattle.green_store.specs.Durable.{Keeps, HoldsWith, IsThat}
+use Rattle.green_store.specs.inside.{MayBeKept, KeepsEdit}
+use Rattle.green_store.specs.StoreView.{StoreView}
+use Rattle.green_store.proofs.Edits.{appendable, has_one_more, stays_pending}
+use Rattle.green_store.proofs.Regulars.{kept_leaves, regular_changed, entries_counted}
+use Rattle.green_store.proofs.Stores.{entry_is, history_is, stands_after, same_store, gone_on, has_serial}
+use Rattle.green_store.proofs.store.StoreOver.make_kept.Given as given
+use Rattle.green_store.proofs.store.StoreOver.make_kept.Goals as goal
+use Rattle.green_store.proofs.store.StoreOver.make_kept.Goals.{After-keep, After-push_reserved}
+
+may_here : (g : given.Over) (c : After-keep g) → MayBeKept (plain_history c.self.inside.history.items) c.args.session (plain_effect c.args.made)
+may_here g c = subst (λ (v : StoreView). MayBeKept v.history c.args.session (plain_effect c.args.made)) (sym c.self.view_is) c.requires.may
+
+serial_fits : (g : given.Over) (c : After-keep g) → c.entries_of.result + 1 < 18446744073709551616
+serial_fits g c =
+    let items = c.self.inside.history.items in
+    let enough : 1 ≤ c.reserve.new.self.spare = search rules in
+    omega (arith, has_serial items c.reserve.new.self.spare c.args.session enough (omega (arith, ap length c.reserve.ensures.items)), c.entries_of.ensures (view_of (plain_history items)) c.self.invariant.world_stands)
+
+ready : (g : given.Over) (c : After-keep g)
+    → IsAppendable (kept (plain_history c.self.inside.history.items)) (entry_after (plain_history c.self.inside.history.items) c.args.session (plain_effect c.args.made)) c.in_ok-record.record.items
+ready g c =
+    let h = plain_history c.self.inside.history.items in
+    appendable h c.args.session c.entries_of.result (plain_effect c.args.made) c.in_ok-record.record.items (may_here g c) c.self.invariant.entries (omega arith) (serial_fits g c)
+    (c.entries_of.ensures (view_of h) c.self.invariant.world_stands) c.in_ok-record.ensures
+
+any_moment : (g : given.Over) (c : After-keep g) (pending : Option PlainEntry) → Keeps (g.D.Disk.state c.args.disk.now) c.args.self.now pending
+    → LeavesOnly (g.D.Disk.state c.args.disk.now) (g.D.Disk.state c.keep.new.disk) (HoldsWith (kept c.args.self.now.history) (λ other. IsThat pending other ⊎ (other ≡ entry_after c.args.self.now.history c.args.session (plain_effect c.args.made))))
+any_moment g c =
+    let h = plain_history c.self.inside.history.items in
+    subst (λ (v : StoreView). (pending : Option PlainEntry) → Keeps (g.D.Disk.state c.args.disk.now) v pending → LeavesOnly (g.D.Disk.state c.args.disk.now) (g.D.Disk.state c.keep.new.disk) (HoldsWith (kept v.history) (λ other. IsThat pending other ⊎ (other ≡ entry_after v.history c.args.session (plain_effect c.args.made)))))
+    c.self.view_is (λ pending has. c.keep.ensures.any_moment (kept h) pending (entry_after h c.args.session (plain_effect c.args.made)) (ready g c) has)
+
+pub returns-in_default-clause-any_moment : goal.returns-in_default-clause-any_moment
+returns-in_default-clause-any_moment g c = any_moment g (goal.at.returns-in_default-clause-any_moment g c).After-keep
+
+pub returns-clause-any_moment : goal.returns-clause-any_moment
+returns-clause-any_moment g c = any_moment g (goal.at.returns-clause-any_moment g c).After-keep
+
+-- ---- where the disk failed
+
+pub returns-in_default-clause-keeps : goal.returns-in_default-clause-keeps
+returns-in_default-clause-keeps g c =
+    let d = g.D.Disk.state c.args.disk.now in
+    let e = g.D.Disk.state c.keep.new.disk in
+    let h = plain_history c.self.inside.history.items in
+    let after : StoreView = record { history = plain_history c.reserve.new.self.items; limits = c.self.inside.limits; log = c.keep.new.log } in
+    subst (λ (v : StoreView). (pending : Option PlainEntry) → Keeps d v pending → KeepsEdit v pending (entry_after v.history c.args.session (plain_effect c.args.made)) after (refused Disk) e)
+    c.self.view_is
+    (λ pending has. stays_pending (record { history = h; limits = c.self.inside.limits; log = c.self.inside.log }) after e pending (entry_after h c.args.session (plain_effect c.args.made)) (refused Disk) (ap plain_history c.reserve.ensures.items) refl
+    (c.in_default.ensures.pending (kept h) pending (entry_after h c.args.session (plain_effect c.args.made)) (ready g (goal.at.returns-in_default-clause-keeps g c).After-keep) has))
+
+-- ---- where it did not
+
+history_grows : (g : given.Over) (c : After-push_reserved g) → plain_history c.push_reserved.new.self.items ≡ plain_history c.self.inside.history.items ++ entry_after (plain_history c.self.inside.history.items) c.args.session (plain_effect c.args.made) ∷ []
+history_grows g c =
+    let items = c.self.inside.history.items in
+    let same = entry_is (plain_history items) c.args.session c.entries_of.result (plain_change c.args.made.change) (c.entries_of.ensures (view_of (plain_history items)) c.self.invariant.world_stands) in
+    let grows = rw c.reserve.ensures.items at c.push_reserved.ensures.items in
+    history_is items c.push_reserved.new.self.items _ (entry_after (plain_history items) c.args.session (plain_effect c.args.made)) grows same
+
+pub invariant_of-self-2 : goal.invariant_of-self-2
+invariant_of-self-2 g c =
+    let items = c.self.inside.history.items in
+    let h = plain_history items in
+    let entry = entry_after h c.args.session (plain_effect c.args.made) in
+    let at_keep = (goal.at.invariant_of-self-2 g c).After-keep in
+    let may = may_here g at_keep in
+    let live : is_live h c.args.session ≡ true = ap (λ (v : StoreView). is_live v.history c.args.session) c.self.view_is ∙ c.requires.live in
+    let same = entry_is h c.args.session c.entries_of.result (plain_change c.args.made.change) (c.entries_of.ensures (view_of h) c.self.invariant.world_stands) in
+    let after = stands_after (g.W.Lookups.stands c.apply_with_undo.new.self) (view_of h) _ entry same (c.in_ok-undo.ensures.ok (view_of h) c.self.invariant.world_stands) in
+    let room : length c.self.inside.live.items ≤ c.push_reserved.new.self.spare = search rules in
+    let leaves = kept_leaves (plain_change c.args.made.change) may.counted in
+    same_store _ _ _ _ _ _ _ _ (history_grows g (goal.at.invariant_of-self-2 g c).After-push_reserved) refl refl
+    (gone_on h _ c.push_reserved.new.self.spare _ (g.W.Lookups.stands c.apply_with_undo.new.self) _ _ entry c.self.invariant live leaves after room
+    (regular_changed h c.args.session (plain_effect c.args.made) leaves may.placed c.self.invariant.regular)
+    (entries_counted h entry may.counted (ready g at_keep).next c.self.invariant.entries))
+
+pub returns-clause-outcome : goal.returns-clause-outcome
+returns-clause-outcome g c =
+    let pushed = plain_history c.push_reserved.new.self.items in
+    let grows : pushed ≡ c.args.self.now.history ++ entry_after c.args.self.now.history c.args.session (plain_effect c.args.made) ∷ [] =
+    history_grows g (goal.at.returns-clause-outcome g c).After-push_reserved ∙ ap (λ (v : StoreView). v.history ++ entry_after v.history c.args.session (plain_effect c.args.made) ∷ []) c.self.view_is in
+    inl (record { reply_is = refl; grows = grows })
+
+pub returns-clause-keeps : goal.returns-clause-keeps
+returns-clause-keeps g c =
+    let d = g.D.Disk.state c.args.disk.now in
+    let e = g.D.Disk.state c.keep.new.disk in
+    let h = plain_history c.self.inside.history.items in
+    let entry = entry_after h c.args.session (plain_effect c.args.made) in
+    let at_keep = (goal.at.returns-clause-keeps g c).After-keep in
+    let after : StoreView = record { history = plain_history c.push_reserved.new.self.items; limits = c.self.inside.limits; log = c.keep.new.log } in
+    subst (λ (v : StoreView). (pending : Option PlainEntry) → Keeps d v pending → KeepsEdit v pending (entry_after v.history c.args.session (plain_effect c.args.made)) after (plain_reply c.args.made.reply) e)
+    c.self.view_is
+    (λ pending has. inl (has_one_more e c.keep.new.log h (plain_history c.push_reserved.new.self.items) entry (may_here g at_keep).counted (history_grows g (goal.at.returns-clause-keeps g c).After-push_reserved)
+    (c.in-Ok.ensures.done (kept h) pending entry (ready g at_keep) has)))

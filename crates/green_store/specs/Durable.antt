@@ -1,0 +1,90 @@
+-- What a disk has of a store's history, before, while and after a step.
+use Rattle.std.specs.Prelude.{◌≡◌, ◌⊎◌, ℕ, ◌+◌, ◌-◌, ◌^◌, min, nat_le, Bool, List, [], ◌∷◌, ◌++◌, Option, None, Some, IsTrue}
+use Rattle.febe_data.specs.declared.refusal.Refusal.TheVariants.{Disk}
+use Rattle.febe_data.specs.LimitsView.{LimitsView}
+use Rattle.febe_data.specs.Plain.{PlainRequest, plain_request, PlainReply, plain_reply, refused, PlainEntry}
+use Rattle.green_io.specs.Areas.{Areas}
+use Rattle.green_io.specs.Disk.{DiskState}
+use Rattle.world_rules.specs.Apply.{world_of}
+use Rattle.world_rules.specs.History.{kept, is_counted}
+use Rattle.world_rules.specs.Effects.{Effect, effect}
+use Rattle.world_rules.specs.Legal.{wanted_after, entry_after}
+use Rattle.edit_log.specs.Images.{IsOpen, IsPending, IsMendable}
+use Rattle.edit_log.specs.Log.{IsWhole}
+use Rattle.edit_log.specs.LogView.{LogView}
+use Rattle.green_store.specs.declared.step.Step.{Step}
+use Rattle.green_store.specs.declared.step.Step.TheVariants as steps
+use Rattle.green_store.specs.declared.step.StepAnswer.{StepAnswer}
+use Rattle.green_store.specs.declared.step.StepAnswer.TheVariants as answers
+use Rattle.green_store.specs.StoreView.{StoreView}
+
+-- whether a count is greater afterwards than before, or at the greatest number
+abbrev pub has_risen : ℕ → ℕ → Bool
+has_risen before after = nat_le (min (before + 1) (2 ^ 64 - 1)) after
+
+-- The log over this disk has these entries, and no edit is pending; or this one is, behind them.
+abbrev pub LogHas : DiskState → LogView → List PlainEntry → Option PlainEntry → Type 0
+LogHas disk log entries None = IsOpen disk log entries
+LogHas disk log entries (Some entry) = IsMendable entries entry × IsPending disk log entries entry
+
+-- The disk has the store's kept entries, with this edit pending behind them, if one is.
+abbrev pub Keeps : DiskState → StoreView → Option PlainEntry → Type 0
+Keeps disk store pending = LogHas disk store.log (kept store.history) pending
+
+-- the entry of a change that is logged, which a session's request makes after this history, and which nothing refuses
+pub record IsEdit (limits : LimitsView) (history : List PlainEntry) (session : ℕ) (request : PlainRequest) (entry : PlainEntry) : Type 0 where
+  pub allowed : wanted_after limits history session request ≡ None
+  pub made : Effect
+  pub effect_is : effect (world_of history) session request ≡ Some made
+  pub counted : IsTrue (is_counted made.change)
+  pub entry_is : entry ≡ entry_after history session made
+
+-- the entry is the edit of this step
+abbrev pub IsEditOf : StoreView → Step → PlainEntry → Type 0
+IsEditOf before (steps.Ask session request) entry = IsEdit before.limits before.history session (plain_request request) entry
+IsEditOf before other entry = ⊥
+
+-- the entry is the one that is pending
+abbrev pub IsThat : Option PlainEntry → PlainEntry → Type 0
+IsThat None entry = ⊥
+IsThat (Some pending) entry = entry ≡ pending
+
+-- a whole log with these entries, or with one more, of which this holds
+abbrev pub HoldsWith : List PlainEntry → (PlainEntry → Type 0) → Areas → Type 0
+HoldsWith entries MayCome image = IsWhole entries image.log ⊎ ((entry : PlainEntry) × MayCome entry × IsWhole (entries ++ entry ∷ []) image.log)
+
+-- While a request is answered a crash leaves a whole log with the entries that were kept before it, or with one more: the
+-- edit that was pending, or the request's own.
+abbrev pub HoldsRequest : StoreView → Option PlainEntry → ℕ → PlainRequest → Areas → Type 0
+HoldsRequest before pending session request image =
+    HoldsWith (kept before.history) (λ entry. IsThat pending entry ⊎ IsEdit before.limits before.history session request entry) image
+
+-- so it is while a step runs
+abbrev pub HoldsStep : StoreView → Option PlainEntry → Step → Areas → Type 0
+HoldsStep before pending step image = HoldsWith (kept before.history) (λ entry. IsThat pending entry ⊎ IsEditOf before step entry) image
+
+-- no kept entry was added, and an edit is pending, of which this holds
+pub record StaysPending (before after : StoreView) (disk : DiskState) (MayStay : PlainEntry → Type 0) : Type 0 where
+  pub entry : PlainEntry
+  pub which : MayStay entry
+  pub none_kept : kept after.history ≡ kept before.history
+  pub keeps : Keeps disk after (Some entry)
+
+-- After a request the disk has the kept entries of the history as it is then, and no edit is pending: so an accepted edit is
+-- on the disk whatever comes. Or no entry was kept, and an edit is pending: the one that was before, or the request's own,
+-- which was refused since the disk failed.
+abbrev pub KeepsRequest : StoreView → Option PlainEntry → ℕ → PlainRequest → StoreView → PlainReply → DiskState → Type 0
+KeepsRequest before pending session request after reply disk =
+    Keeps disk after None
+    ⊎ StaysPending before after disk (λ entry. IsThat pending entry ⊎ (IsEdit before.limits before.history session request entry × (reply ≡ refused Disk)))
+
+-- the answer is that the disk failed
+abbrev pub IsRefusedForDisk : StepAnswer → Type 0
+IsRefusedForDisk (answers.Reply reply point) = plain_reply reply ≡ refused Disk
+IsRefusedForDisk other = ⊥
+
+-- so it is after a step
+abbrev pub KeepsStep : StoreView → Option PlainEntry → Step → StoreView → StepAnswer → DiskState → Type 0
+KeepsStep before pending step after answer disk =
+    Keeps disk after None
+    ⊎ StaysPending before after disk (λ entry. IsThat pending entry ⊎ (IsEditOf before step entry × IsRefusedForDisk answer))

@@ -1,0 +1,64 @@
+-- What only private functions cite.
+use Rattle.std.specs.Prelude.{◌≡◌, ◌⊎◌, ℕ, ◌<◌, Bool, true, List, ◌∷◌, [], ◌++◌, length, Option, None, Some, IsTrue}
+use Rattle.tumbler.specs.Places.{IsTumbler}
+use Rattle.febe_data.specs.declared.refusal.Refusal.TheVariants.{Disk}
+use Rattle.febe_data.specs.Plain.{PlainChange, document_created, version_made, copy_opened, text_inserted, specs_copied, link_made, PlainReply, refused, PlainEntry}
+use Rattle.entry_codec.specs.Bodies.{IsU32, IsLogged}
+use Rattle.green_io.specs.Disk.{DiskState}
+use Rattle.world_rules.specs.Apply.{world_of}
+use Rattle.world_rules.specs.History.{kept, is_counted}
+use Rattle.world_rules.specs.Effects.{Effect}
+use Rattle.world_rules.specs.Legal.{entry_after}
+use Rattle.world_rules.specs.Placed.{IsPlaced}
+use Rattle.entry_fits.specs.Fits.{Fits}
+use Rattle.edit_log.specs.Log.{most_entries}
+use Rattle.edit_log.specs.LogView.{LogView}
+use Rattle.green_store.specs.Durable.{Keeps, StaysPending, IsThat, LogHas}
+use Rattle.green_store.specs.StoreView.{StoreView}
+
+-- one edit is pending behind these entries, of which this holds
+pub record PendsOneOf (disk : DiskState) (log : LogView) (entries : List PlainEntry) (MayPend : PlainEntry → Type 0) : Type 0 where
+  pub entry : PlainEntry
+  pub which : MayPend entry
+  pub has : LogHas disk log entries (Some entry)
+
+-- what the types of a kept change's fields say of them, where a request does not say it
+abbrev pub IsTyped : PlainChange → Type 0
+IsTyped (document_created document) = IsTumbler document
+IsTyped (version_made source document) = IsTumbler document
+IsTyped (copy_opened source document) = IsTumbler document
+IsTyped (text_inserted document at first text) = IsU32 at × IsU32 first
+IsTyped (specs_copied document at specs) = IsU32 at
+IsTyped (link_made home number place from to three) = IsU32 number × IsU32 place
+IsTyped other = Unit {0}
+
+-- After this history the session's change may be kept: it is placed, there is a body for it, and its entry fits as the next
+-- one of a log that has room.
+pub record MayBeKept (history : List PlainEntry) (session : ℕ) (made : Effect) : Type 0 where
+  pub counted : is_counted made.change ≡ true
+  pub placed : IsPlaced (world_of history) made.change
+  pub logged : IsLogged made.change
+  pub fits : Fits (kept history) (entry_after history session made)
+  pub room : length (kept history) < most_entries
+
+-- the change is made: its reply is given, and its entry is added
+pub record IsKept (before : List PlainEntry) (session : ℕ) (made : Effect) (reply : PlainReply) (after : List PlainEntry) : Type 0 where
+  pub reply_is : reply ≡ made.reply
+  pub grows : after ≡ before ++ entry_after before session made ∷ []
+
+-- the disk failed meanwhile, and nothing is added
+pub record IsTakenBack (before : List PlainEntry) (reply : PlainReply) (after : List PlainEntry) (rose : Bool) : Type 0 where
+  pub failed : IsTrue rose
+  pub reply_is : reply ≡ refused Disk
+  pub stays : after ≡ before
+
+-- one or the other
+abbrev pub IsKeptOrTakenBack : List PlainEntry → ℕ → Effect → PlainReply → List PlainEntry → Bool → Type 0
+IsKeptOrTakenBack before session made reply after rose = IsKept before session made reply after ⊎ IsTakenBack before reply after rose
+
+-- The disk has the kept entries as they are then. Or none was kept, and an edit is pending: the one that was before, or this
+-- one, which was refused since the disk failed.
+abbrev pub KeepsEdit : StoreView → Option PlainEntry → PlainEntry → StoreView → PlainReply → DiskState → Type 0
+KeepsEdit before pending entry after reply disk =
+    Keeps disk after None
+    ⊎ StaysPending before after disk (λ other. IsThat pending other ⊎ ((other ≡ entry) × (reply ≡ refused Disk)))

@@ -1,0 +1,122 @@
+-- A run from the opening of its store to its return.
+use Rattle.std.proofs.Common.{◌≡◌, ◌≢◌, ℕ, ◌+◌, ◌≤◌, List, [], ◌++◌, length, take, Option, None, Some, Err, ap, ◌∙◌, refl, sym, subst, inl, inr, arith, le_refl}
+use Rattle.std.specs.Prelude.{IsSome}
+use Rattle.std.proofs.lemmas.List.{length-map, take-append-le}
+use Rattle.std.proofs.Math.Seq.{take-length}
+use Rattle.febe_data.specs.LimitsView.{LimitsView}
+use Rattle.febe_data.specs.Plain.{PlainEntry, plain_history, plain_entry}
+use Rattle.febe_data.specs.declared.entry.Entry.{Entry}
+use Rattle.green_io.specs.Areas.{Areas}
+use Rattle.green_io.specs.Disk.{DiskState, LeavesOnly, WhereTold, images_now}
+use Rattle.green_io.specs.Outside.{HasRisen}
+use Rattle.green_io.proofs.Crash.{after, weaker}
+use Rattle.edit_log.specs.Images.{AsRead, HoldsAsRead}
+use Rattle.edit_log.specs.Log.{IsWhole}
+use Rattle.world_rules.specs.History.{kept}
+use Rattle.green_store.specs.declared.opening.OpenFault.{OpenFault}
+use Rattle.green_store.specs.declared.opening.OpenFault.TheVariants as faults
+use Rattle.green_store.specs.Durable.{Keeps, HoldsWith, IsThat}
+use Rattle.green_store.specs.Opening.{opened_with, OpensAs, IsDamagedLog, OnDamagedLog, OnDiskFailed, UnlessDiskFailed, ReadsAsBefore}
+use Rattle.green_store.specs.Sessions.{greatest_session}
+use Rattle.green_store.specs.StoreView.{StoreView}
+use Rattle.green_top.specs.declared.report.Report.{Report}
+use Rattle.green_top.specs.declared.session_end.SessionEnd.{SessionEnd}
+use Rattle.green_top.specs.declared.session_end.SessionEnd.TheVariants as ends
+use Rattle.green_top.specs.Batch.{BeginsWith, fault_status, status_of, FaultCause}
+use Rattle.green_top.specs.Crash.{HoldsFront, HoldsRun, HoldsAll, WasMade}
+use Rattle.green_top.specs.IoState.{IoState}
+use Rattle.green_top.specs.Words.{AreWords}
+use Rattle.green_top.specs.inside.Enduring.{StandsOn, Endures}
+use Rattle.green_top.proofs.Endurings.{was_made}
+
+-- ---- how much was opened
+
+pub counts_all : (items : List Entry) (history : List PlainEntry) → plain_history items ≡ history → length items ≡ length history
+counts_all items history is = sym (length-map items plain_entry) ∙ ap length is
+
+-- ---- a log that is whole
+
+fault_not_damaged : (fault : OpenFault) (entries : List PlainEntry) → OpensAs (Err fault) entries → fault_status fault ≢ 8
+fault_not_damaged (faults.Damaged at) entries opens is = absurd opens
+fault_not_damaged faults.Disk entries opens is = absurd (omega (arith, is))
+fault_not_damaged faults.Memory entries opens is = absurd (omega (arith, is))
+
+end_not_damaged : (end : SessionEnd) → status_of end ≢ 8
+end_not_damaged ends.Quit is = absurd (omega (arith, is))
+end_not_damaged ends.End is = absurd (omega (arith, is))
+end_not_damaged (ends.Malformed at) is = absurd (omega (arith, is))
+end_not_damaged (ends.Truncated at) is = absurd (omega (arith, is))
+end_not_damaged ends.ReadFault is = absurd (omega (arith, is))
+end_not_damaged ends.WriteFault is = absurd (omega (arith, is))
+end_not_damaged ends.Memory is = absurd (omega (arith, is))
+end_not_damaged ends.Budget is = absurd (omega (arith, is))
+end_not_damaged ends.NoNumber is = absurd (omega (arith, is))
+
+pub not_opened_begins : (fault : OpenFault) (entries : List PlainEntry) (report : Report) (status : ℕ) → OpensAs (Err fault) entries → status ≡ fault_status fault → report.history.items ≡ [] → BeginsWith entries report status
+not_opened_begins fault entries report status opens is none = record { not_damaged = λ e. fault_not_damaged fault entries opens (sym is ∙ e); history_is = inl (ap plain_history none) }
+
+pub opened_begins : (end : SessionEnd) (entries first last : List PlainEntry) (report : Report) (status : ℕ) → first ≡ opened_with entries → (added : List PlainEntry) × (last ≡ first ++ added)
+    → status ≡ status_of end → plain_history report.history.items ≡ last → BeginsWith entries report status
+opened_begins end entries first last report status opens grows is reported = record {
+  not_damaged = λ e. end_not_damaged end (sym is ∙ e);
+  history_is = inr (grows.0, reported ∙ grows.1 ∙ ap (λ (h : List PlainEntry). h ++ grows.0) opens);
+}
+
+-- ---- crashes
+
+told : (reads : Option Areas) (fact : List ℕ → Type 0) → AsRead reads fact → IsSome reads
+told None fact read = absurd read
+told (Some areas) fact read = refl
+
+run_holds : (words : List (List ℕ)) (limits : LimitsView) (reads : Option Areas) (entries first last reported : List PlainEntry) (image : Areas) → AreWords words limits → first ≡ opened_with entries → reported ≡ last
+    → HoldsFront limits (greatest_session first + 1) (length first) last image → HoldsRun words reads entries reported image
+run_holds words limits reads entries first last reported image are opens is holds =
+    inr (
+      limits,
+      are,
+      subst (λ (h : List PlainEntry). HoldsFront limits (greatest_session (opened_with entries) + 1) (length (opened_with entries)) h image) (sym is)
+          (subst (λ (h : List PlainEntry). HoldsFront limits (greatest_session h + 1) (length h) last image) opens holds),
+    )
+
+-- a store that has opened has no edit pending
+just_opened : (limits : LimitsView) (session first : ℕ) (disk : DiskState) (store : StoreView) (now : ℕ) → first ≤ now → Keeps disk store None → StandsOn limits session (length store.history) first disk store now
+just_opened limits session first disk store now rises keeps = record { pending = None; keeps = keeps; made = tt; since = rises }
+
+pub not_opened_moment : (words : List (List ℕ)) (reads : Option Areas) (entries reported : List PlainEntry) (old new : DiskState) → LeavesOnly old new (HoldsAsRead entries reads) → LeavesOnly old new (HoldsRun words reads entries reported)
+not_opened_moment words reads entries reported old new leaves = weaker old new (HoldsAsRead entries reads) (HoldsRun words reads entries reported) leaves (λ image holds. inl holds)
+
+module _ (words : List (List ℕ)) (limits : LimitsView) (are : AreWords words limits) (old opened new : DiskState) (first last : StoreView) (k m n : ℕ) (rises : k ≤ m)
+    (keeps : IsSome old.reads → Keeps opened first None) (endures : Endures limits (greatest_session first.history + 1) opened first m new last n)
+    (reported : List PlainEntry) (is : reported ≡ last.history) where
+  pub opened_moment : (entries : List PlainEntry) → AsRead old.reads (λ log. IsWhole entries log) → first.history ≡ opened_with entries → LeavesOnly old opened (HoldsAsRead entries old.reads)
+      → LeavesOnly old new (HoldsRun words old.reads entries reported)
+  opened_moment entries whole opens leaves =
+      after old opened new (HoldsAsRead entries old.reads) (HoldsFront limits (greatest_session first.history + 1) (length first.history) last.history) (HoldsRun words old.reads entries reported) leaves
+      (endures.any_moment (length first.history) k (le_refl _) (just_opened limits _ k opened first m rises (keeps (told old.reads _ whole))))
+      (λ image holds. inl holds) (λ image holds. run_holds words limits old.reads entries first.history last.history reported image are opens is holds)
+
+  taken : (count : ℕ) → count ≡ length first.history → take count reported ≡ first.history
+  taken count all =
+      let grown = endures.grows in
+      ap (λ (x : ℕ). take x reported) all ∙ ap (take (length first.history)) (is ∙ grown.1) ∙ take-append-le (length first.history) first.history grown.0 (omega arith) ∙ take-length first.history
+
+  pub opened_kept : (count : ℕ) → count ≡ length first.history → IsSome old.reads
+      → ((pending : Option PlainEntry) → Keeps new last pending → (image : Areas) → images_now new image → HoldsWith (kept last.history) (IsThat pending) image) → (image : Areas) → images_now new image → HoldsAll words count reported k n image
+  opened_kept count all told law image now =
+      let stands = endures.stands (length first.history) k (le_refl _) (just_opened limits _ k opened first m rises (keeps told)) in
+      subst (λ (h : List PlainEntry). HoldsAll words count h k n image) (sym is) (all_hold stands (law stands.pending stands.keeps image now))
+    where
+      all_hold : (s : StandsOn limits (greatest_session first.history + 1) (length first.history) k new last n) → HoldsWith (kept last.history) (IsThat s.pending) image → HoldsAll words count last.history k n image
+      all_hold s (inl whole) = inl whole
+      all_hold s (inr (entry, that, whole)) =
+          let made = was_made limits (greatest_session first.history + 1) (length first.history) last.history k n s.pending entry s.made that in
+          let session : greatest_session first.history + 1 ≡ greatest_session (take count last.history) + 1 = ap (λ (h : List PlainEntry). greatest_session h + 1) (sym (taken count all) ∙ ap (take count) is) in
+          inr (entry, (limits, are, subst (λ (x : ℕ). WasMade limits x count last.history k n entry) session (subst (λ (x : ℕ). WasMade limits (greatest_session first.history + 1) x last.history k n entry) (sym all) made)), whole)
+
+-- ---- a store that was not opened
+
+pub why_not : (fault : OpenFault) (reads left : Option Areas) (before after : IoState) → OnDamagedLog {T = StoreView} (Err fault) (λ at. WhereTold reads (λ areas. IsDamagedLog at areas.log)) → UnlessDiskFailed {T = StoreView} (Err fault) (ReadsAsBefore reads left)
+    → OnDiskFailed {T = StoreView} (Err fault) (HasRisen before.disk_faults after.disk_faults) → FaultCause fault reads left before after
+why_not (faults.Damaged at) reads left before after damaged stays failed = (damaged, stays)
+why_not faults.Disk reads left before after damaged stays failed = failed
+why_not faults.Memory reads left before after damaged stays failed = stays
