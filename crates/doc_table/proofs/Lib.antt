@@ -3,3 +3,4 @@ pub mod Ordered
 pub mod Counted
 pub mod Accounts
 pub mod Changed
+pub mod RootsSet

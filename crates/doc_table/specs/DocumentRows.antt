@@ -51,6 +51,12 @@ module _ {R : Type 0} where
   abbrev pub with_root : List (DocumentRow R) → List ℕ → R → List (DocumentRow R)
   with_root rows document root = map (λ (row : DocumentRow R). if is_of document row then record row { root = root } else row) rows
 
+  -- the k-th document gets the k-th root; those behind the last root stay
+  abbrev pub with_roots : List R → List (DocumentRow R) → List (DocumentRow R)
+  with_roots [] rows = rows
+  with_roots (root ∷ roots) [] = []
+  with_roots (root ∷ roots) (row ∷ rows) = record row { root = root } ∷ with_roots roots rows
+
   abbrev pub with_content : List (DocumentRow R) → List ℕ → ℕ → List (DocumentRow R)
   with_content rows document bytes = map (λ (row : DocumentRow R). if is_of document row then record row { content = bytes } else row) rows
 

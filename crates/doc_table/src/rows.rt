@@ -1,7 +1,7 @@
 //! The rows of the table, and where a document stands among them.
-ghost use Rattle.std.specs.Prelude.{◌≡◌, IfSome, IfNone, false};
+ghost use Rattle.std.specs.Prelude.{◌≡◌, length, IfSome, IfNone, false};
 ghost use Rattle.std.specs.List.{prefix_len};
-ghost use Rattle.doc_table.specs.DocumentRows.{documents_in, has_in};
+ghost use Rattle.doc_table.specs.DocumentRows.{documents_in, has_in, with_roots};
 ghost use Rattle.doc_table.specs.inside.Kept.{unboxed, IsAscending, is_before, IsAt};
 
 use tumbler::Tumbler;
@@ -37,4 +37,15 @@ pub(crate) fn find<R>(rows: &[Box<DocumentRow<R>>], document: &Tumbler) -> Optio
         return None;
     }
     Some(at)
+}
+
+/// Gives each row another root: the k-th row the k-th one.
+pub(crate) fn set_roots<R: Copy>(rows: &mut Vec<Box<DocumentRow<R>>>, roots: &[R])
+    requires { length roots.now ≡ length rows.old.items }
+    ensures { unboxed rows.new.items ≡ with_roots roots.now (unboxed rows.old.items) }
+{
+    for (k, root) in roots.iter().enumerate() {
+        let row = &mut rows[k];
+        row.root = *root;
+    }
 }

@@ -1,12 +1,15 @@
 //! The table of documents.
-ghost use Rattle.std.specs.Prelude.{◌≡◌, ℕ, ◌+◌, ◌<◌, List, [], ◌∷◌, ◌++◌, length, slice_get, count_by, OnOk, OnErr, IsTrue, false};
-ghost use Rattle.std.specs.Option.{option_copied};
+ghost use Rattle.std.specs.Prelude.{◌≡◌, ℕ, ◌+◌, ◌<◌, ◌≤◌, List, [], ◌∷◌, ◌++◌, length, slice_get, count_by, OnOk, OnErr, IsTrue, false};
+ghost use Rattle.std.specs.Option.{option_map, option_copied};
+ghost use Rattle.std.specs.Ordering.{nat_cmp};
+ghost use Rattle.std.specs.Cmp.Lexicographic.{slice_cmp};
+ghost use Rattle.std.specs.List.Sorted.{IsStrictlySortedBy};
 ghost use Rattle.tumbler.specs.Address.{IsAccount, IsDocument};
 ghost use Rattle.world_rules.specs.World.{is_child_of};
-ghost use Rattle.doc_table.specs.DocumentRows.{most_documents, documents_in, has_in, root_in, content_in, added, removed, with_root, with_content, next_document_in, version_address_in};
+ghost use Rattle.doc_table.specs.DocumentRows.{most_documents, documents_in, has_in, root_in, content_in, added, removed, with_root, with_roots, with_content, next_document_in, version_address_in};
 
 use crate::counts::{count_down, count_of, count_up};
-use crate::rows::{DocumentRow, find, place};
+use crate::rows::{DocumentRow, find, place, set_roots};
 use crate::siblings::{first_sibling, is_of_account};
 use febe_data::bounds::MOST_DOCUMENT_PLACES;
 use std::alloc::Global;
@@ -91,6 +94,31 @@ impl<R: Copy> DocTable<R> {
         }
     }
 
+    /// How many documents there are. It takes no memory.
+    pub fn len(&self) -> usize
+        ensures value { result ≡ length self.now }
+        ensures few { result ≤ most_documents }
+    {
+        self.rows.len()
+    }
+
+    /// The root of the `k`-th document in ascending order, counted from 0. It takes no memory.
+    pub fn root_at(&self, k: usize) -> Option<R>
+        ensures { result ≡ option_map (λ (row : DocumentRow R). row.root) (slice_get self.now k) }
+    {
+        match self.rows.as_slice().get(k) {
+            Some(row) => Some(row.root),
+            None => None,
+        }
+    }
+
+    /// The documents ascend, each once. It takes no memory.
+    pub fn in_order(&self)
+        ensures { IsStrictlySortedBy (slice_cmp nat_cmp) (documents_in self.now) }
+    {
+        let _rows = self.rows.as_slice();
+    }
+
     /// Puts a document in, with no byte of content yet.
     pub fn add(&mut self, alloc: Global, document: &Tumbler, root: R) -> Result<(), Memory>
         requires absent { has_in self.old document.now ≡ false }
@@ -137,6 +165,14 @@ impl<R: Copy> DocTable<R> {
         };
         let row = &mut self.rows[at];
         row.root = root;
+    }
+
+    /// Gives each document another root: the k-th document the k-th one. It takes no memory.
+    pub fn set_roots(&mut self, roots: &[R])
+        requires { length roots.now ≡ length self.old }
+        ensures { self.new ≡ with_roots roots.now self.old }
+    {
+        set_roots(&mut self.rows, roots);
     }
 
     /// Sets how many bytes of content the document has.

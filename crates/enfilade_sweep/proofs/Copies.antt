@@ -19,7 +19,7 @@ use Rattle.enfilade_sweep.specs.Marks.{is_marked, rank, AreCopied, IsClosed, Are
 use Rattle.enfilade_sweep.proofs.Naming.{IsNatural, SaidThere, rows_natural, origins_natural, summary_natural, renamed_alike}
 use Rattle.enfilade_sweep.proofs.Ranks.{rank_yes, rank_no, rank_less}
 
-named_all : {L : Type 0} (n : ℕ) (node : Shape L) → NamesBelow n node → All (λ (branch : Branch). branch.node.0 < n) (branches_of node)
+pub named_all : {L : Type 0} (n : ℕ) (node : Shape L) → NamesBelow n node → All (λ (branch : Branch). branch.node.0 < n) (branches_of node)
 named_all n (Rows rows) h = λ k d lt. absurd (omega (arith, lt))
 named_all n (Branches branches) h = h
 

@@ -4,3 +4,4 @@ pub mod Naming
 pub mod Ranks
 pub mod Copies
 pub mod Whole
+pub mod Held

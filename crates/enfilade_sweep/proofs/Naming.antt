@@ -1,7 +1,8 @@
 -- What is said of nodes is said of them under other numbers too.
-use Rattle.std.proofs.Common.{◌≡◌, ◌∙◌, ℕ, List, [], ◌∷◌, ◌++◌, map, get_or, fold, ap, refl}
-use Rattle.std.specs.Prelude.{All}
-use Rattle.std.specs.List.{flat_map}
+use Rattle.std.proofs.Common.{◌≡◌, ◌∙◌, ℕ, ◌+◌, ◌-◌, ◌==◌, ◌||◌, if◌then◌else◌, List, [], ◌∷◌, ◌++◌, length, map, get_or, fold, ap, refl}
+use Rattle.std.specs.Prelude.{All, nat_lt, sum_by}
+use Rattle.std.specs.List.{flat_map, list_any}
+use Rattle.std.proofs.lemmas.List.{length-map}
 use Rattle.std.proofs.lemmas.List.Elements.{All-head, All-tail}
 use Rattle.tumbler.specs.Places.{sum}
 use Rattle.enfilade_core.specs.declared.tree.Row.{Row}
@@ -10,6 +11,8 @@ use Rattle.enfilade_core.specs.declared.summary.Summary.{Summary}
 use Rattle.enfilade_core.specs.Rows.{Shape, Rows, Branches, moved, branch_rows, rows_in}
 use Rattle.enfilade_core.specs.Axes.{Widths, Axis}
 use Rattle.enfilade_core.specs.Right.{branch_origins, origins_in}
+use Rattle.enfilade_core.specs.declared.standing.Standing.{Standing}
+use Rattle.enfilade_core.specs.Standing.{no_standing, standings_below, standing_in, node_debt, split_above, most_children, lone_child_debt, has_merge, root_debt, has_lone_child}
 use Rattle.enfilade_core.specs.Summary.{summary_in, branch_summary, summary_moved, summary_joined, no_summary, raised}
 use Rattle.enfilade_sweep.specs.Sweep.{branches_of, renamed_branch, renamed}
 
@@ -63,6 +66,41 @@ summary_natural w = record { same = by w }
     by w place there here (Branches branches) h =
         ap (λ (ss : List Summary). raised (fold summary_joined no_summary ss))
         (map-renamed (branch_summary there) (branch_summary here) place (SaidThere place no_summary there here) (λ branch said. ap (λ (s : Summary). summary_moved branch.first branch.second s) said) branches h)
+
+-- what stands under branches with other numbers
+below_natural : (place : ℕ → ℕ) (there here : List Standing) (branches : List Branch) → All (SaidThere place no_standing there here) branches → standings_below there (map (renamed_branch place) branches) ≡ standings_below here branches
+below_natural place there here branches h =
+    map-renamed (λ branch. get_or there branch.node.0 no_standing) (λ branch. get_or here branch.node.0 no_standing) place (SaidThere place no_standing there here) (λ branch said. said) branches h
+
+-- an inner node that is not the root, and the debt of a root, by what stands under the branches
+abbrev standing_over : ℕ → List Standing → Standing
+standing_over children below = record {
+  children = children;
+  debt = node_debt children + sum_by (λ s. s.debt) below;
+  allows = nat_lt split_above children || list_any (λ s. s.allows) below || has_merge below;
+}
+
+abbrev debt_over : ℕ → List Standing → ℕ
+debt_over children below = (children - most_children) + (if children == 1 then lone_child_debt else 0) + sum_by (λ s. s.debt) below
+
+pub standing_natural : {L : Type 0} → IsNatural (standing_in {L = L}) no_standing
+standing_natural = record { same = by }
+  where
+    by : {L : Type 0} (place : ℕ → ℕ) (there here : List Standing) (node : Shape L) → All (SaidThere place no_standing there here) (branches_of node) → standing_in there (renamed place node) ≡ standing_in here node
+    by place there here (Rows rows) h = refl
+    by place there here (Branches branches) h =
+        ap (λ (n : ℕ). standing_over n (standings_below there (map (renamed_branch place) branches))) (length-map branches (renamed_branch place))
+        ∙ ap (standing_over (length branches)) (below_natural place there here branches h)
+
+pub debt_natural : {L : Type 0} (place : ℕ → ℕ) (there here : List Standing) (node : Shape L) → All (SaidThere place no_standing there here) (branches_of node) → root_debt there (renamed place node) ≡ root_debt here node
+debt_natural place there here (Rows rows) h = refl
+debt_natural place there here (Branches branches) h =
+    ap (λ (n : ℕ). debt_over n (standings_below there (map (renamed_branch place) branches))) (length-map branches (renamed_branch place))
+    ∙ ap (debt_over (length branches)) (below_natural place there here branches h)
+
+pub lone_natural : {L : Type 0} (place : ℕ → ℕ) (node : Shape L) → has_lone_child (renamed place node) ≡ has_lone_child node
+lone_natural place (Rows rows) = refl
+lone_natural place (Branches branches) = ap (λ (n : ℕ). n == 1) (length-map branches (renamed_branch place))
 
 -- other numbers that agree on the branches of a node
 pub renamed_alike : {L : Type 0} (f g : ℕ → ℕ) (node : Shape L) → All (λ (branch : Branch). f branch.node.0 ≡ g branch.node.0) (branches_of node) → renamed f node ≡ renamed g node

@@ -1,19 +1,23 @@
 -- The copies of all marked nodes are the sweep.
-use Rattle.std.proofs.Common.{◌≡◌, ◌∙◌, ℕ, ◌<◌, Bool, true, List, [], ◌∷◌, length, map, get_or, ap, refl, arith}
+use Rattle.std.proofs.Common.{◌≡◌, ◌∙◌, ℕ, ◌+◌, ◌<◌, ◌||◌, Bool, true, List, [], ◌∷◌, length, map, get_or, ap, refl, arith}
 use Rattle.std.specs.Prelude.{All}
 use Rattle.std.specs.List.{Contains}
 use Rattle.std.proofs.lemmas.List.{get_or-map, length-map}
 use Rattle.std.proofs.lemmas.List.Elements.{All-head, All-tail, Contains-get_or}
 use Rattle.enfilade_core.specs.declared.tree.Node.{Node}
-use Rattle.enfilade_core.specs.Rows.{Shape, rows_of, rows_in}
+use Rattle.enfilade_core.specs.declared.standing.Standing.{Standing}
+use Rattle.enfilade_core.specs.declared.summary.Summary.{Summary}
+use Rattle.enfilade_core.specs.Rows.{Shape, node_at, rows_of, rows_in}
 use Rattle.enfilade_core.specs.Axes.{Widths}
 use Rattle.enfilade_core.specs.Right.{AreRight}
-use Rattle.enfilade_core.proofs.Locals.{rows_local}
-use Rattle.enfilade_sweep.specs.Sweep.{Reached, is_root, hangs, numbers, IsSwept}
+use Rattle.enfilade_core.specs.Summary.{summary_in, no_summary, depth_of}
+use Rattle.enfilade_core.specs.Standing.{no_standing, standings, standing_in, standing_of, root_debt, has_lone_child, tree_debt, tree_allows}
+use Rattle.enfilade_core.proofs.Locals.{rows_local, summary_local, standing_local}
+use Rattle.enfilade_sweep.specs.Sweep.{Reached, is_root, hangs, branches_of, numbers, IsSwept}
 use Rattle.enfilade_sweep.specs.Marks.{is_marked, rank, AreMarked, AreCopied, IsClosed, AreRanks}
-use Rattle.enfilade_sweep.proofs.Naming.{rows_natural}
+use Rattle.enfilade_sweep.proofs.Naming.{SaidThere, rows_natural, summary_natural, standing_natural, debt_natural, lone_natural}
 use Rattle.enfilade_sweep.proofs.Ranks.{marked_within, rank_once, rank_only}
-use Rattle.enfilade_sweep.proofs.Copies.{inside, agree}
+use Rattle.enfilade_sweep.proofs.Copies.{under_marked, inside, agree}
 
 map-alike : {X : Type 0} (f g : ℕ → X) (ks : List ℕ) → All (λ k. f k ≡ g k) ks → map f ks ≡ map g ks
 map-alike f g [] h = refl
@@ -66,6 +70,31 @@ module _ {L : Type 0} (w : Widths L) (old new : List (Shape L)) (roots : List �
       ∙ map-alike (λ k. rows_of new (rank marks k)) (rows_of old) roots
       (λ i d lt. let here = roots_marked i d lt in
       agree w marks old new (length old) right_old right_new closed copied (omega arith) rows_in [] rows_local rows_natural (get_or roots i d) (within (get_or roots i d) here) here)
+
+  -- what is so of each root's node is so of it at its place
+  same_each : {X : Type 0} (f g : ℕ → X) → ((k : ℕ) → k < length old → is_marked marks k ≡ true → f (rank marks k) ≡ g k) → (new_roots : List ℕ) → new_roots ≡ map (λ k. get_or ranks k 0) roots → map f new_roots ≡ map g roots
+  same_each f g same new_roots is =
+      ap (map f) (is ∙ placed) ∙ map-map (rank marks) f roots
+      ∙ map-alike (λ k. f (rank marks k)) g roots (λ i d lt. let here = roots_marked i d lt in same (get_or roots i d) (within (get_or roots i d) here) here)
+
+  stood_there : (k : ℕ) → k < length old → is_marked marks k ≡ true → All (SaidThere (rank marks) no_standing (standings new) (standings old)) (branches_of (node_at old k))
+  stood_there k lt here i b inside_it =
+      let c = under_marked w marks old k right_old closed lt here i b inside_it in
+      let m = (get_or (branches_of (node_at old k)) i b).node.0 in
+      agree w marks old new (length old) right_old right_new closed copied (omega arith) standing_in no_standing standing_local standing_natural m (omega (arith, c.0, lt)) c.1
+
+  pub same_debts : (new_roots : List ℕ) → new_roots ≡ map (λ k. get_or ranks k 0) roots → map (tree_debt new) new_roots ≡ map (tree_debt old) roots
+  same_debts = same_each (tree_debt new) (tree_debt old) (λ k lt here.
+      ap (root_debt (standings new)) (copied.same k lt here) ∙ debt_natural (rank marks) (standings new) (standings old) (node_at old k) (stood_there k lt here))
+
+  pub same_allowed : (new_roots : List ℕ) → new_roots ≡ map (λ k. get_or ranks k 0) roots → map (tree_allows new) new_roots ≡ map (tree_allows old) roots
+  same_allowed = same_each (tree_allows new) (tree_allows old) (λ k lt here.
+      ap (λ (s : Standing). s.allows || has_lone_child (node_at new (rank marks k))) (agree w marks old new (length old) right_old right_new closed copied (omega arith) standing_in no_standing standing_local standing_natural k lt here)
+      ∙ ap (λ (b : Bool). (standing_of old k).allows || b) (ap has_lone_child (copied.same k lt here) ∙ lone_natural (rank marks) (node_at old k)))
+
+  pub same_depths : (new_roots : List ℕ) → new_roots ≡ map (λ k. get_or ranks k 0) roots → map (depth_of w new) new_roots ≡ map (depth_of w old) roots
+  same_depths = same_each (depth_of w new) (depth_of w old) (λ k lt here.
+      ap (λ (s : Summary). s.height + 1) (agree w marks old new (length old) right_old right_new closed copied (omega arith) (summary_in w) no_summary (summary_local w) (summary_natural w) k lt here))
 
 -- of the roots as nodes
 pub roots_there : (nodes : List Node) (marks : List Bool) (ranks : List ℕ) (n : ℕ) → ((k : ℕ) → Contains (numbers nodes) k → is_marked marks k ≡ true) → ((k : ℕ) → is_marked marks k ≡ true → get_or ranks k 0 < n) → All (λ (root : Node). get_or ranks root.0 0 < n) nodes

@@ -1,3 +1,4 @@
 pub use Rattle.enfilade_core.specs.Rows
 pub mod Sweep
+pub mod Laws
 pub mod Marks

@@ -1,6 +1,6 @@
 -- What a sweep of an arena leaves: the nodes that are reached from its roots, each once.
-use Rattle.std.specs.Prelude.{◌≡◌, ℕ, ◌<◌, List, [], length, map}
-use Rattle.std.specs.List.{Contains}
+use Rattle.std.specs.Prelude.{◌≡◌, ℕ, ◌<◌, ◌==◌, ◌||◌, not, Bool, List, [], length, map}
+use Rattle.std.specs.List.{Contains, list_any, range_with_len}
 use Rattle.enfilade_core.specs.declared.tree.Node.{Node}
 use Rattle.enfilade_core.specs.declared.tree.Branch.{Branch}
 use Rattle.enfilade_core.specs.Rows.{Shape, Rows, Branches, node_at}
@@ -21,6 +21,18 @@ under node = map (λ (branch : Branch). branch.node.0) (branches_of node)
 pub data Reached {L : Type 0} (nodes : List (Shape L)) (roots : List ℕ) : ℕ → Type 0 where
   is_root : {k : ℕ} → Contains roots k → Reached nodes roots k
   hangs : {j k : ℕ} → Reached nodes roots j → Contains (under (node_at nodes j)) k → Reached nodes roots k
+
+-- each node is
+abbrev pub AllReached : {L : Type 0} → List (Shape L) → List ℕ → Type 0
+AllReached nodes roots = (k : ℕ) → k < length nodes → Reached nodes roots k
+
+-- whether the node is one of the roots, or hangs under a node
+abbrev pub is_held : {L : Type 0} → List (Shape L) → List ℕ → ℕ → Bool
+is_held nodes roots k = list_any (λ root. root == k) roots || list_any (λ node. list_any (λ j. j == k) (under node)) nodes
+
+-- Whether all nodes are. What hangs under a node has a lesser number, so each node is reached from the roots then.
+abbrev pub are_held : {L : Type 0} → List (Shape L) → List ℕ → Bool
+are_held nodes roots = not (list_any (λ k. not (is_held nodes roots k)) (range_with_len 0 (length nodes)))
 
 -- a branch, and what hangs under a node, where nodes have other numbers
 abbrev pub renamed_branch : (ℕ → ℕ) → Branch → Branch

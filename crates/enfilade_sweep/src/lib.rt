@@ -2,6 +2,7 @@
 #![tactic(auto)]
 
 mod copying;
+pub mod laws;
 mod marks;
 mod swept;
 #[cfg(test)]

@@ -1,7 +1,9 @@
 //! The sweep.
-ghost use Rattle.std.specs.Prelude.{◌≡◌, ℕ, ◌<◌, length, map, All, IfOk};
+ghost use Rattle.std.specs.Prelude.{◌≡◌, ℕ, ◌<◌, true, length, map, All, IfOk};
 ghost use Rattle.enfilade_core.specs.Rows.{rows_of};
-ghost use Rattle.enfilade_sweep.specs.Sweep.{numbers, IsSwept};
+ghost use Rattle.enfilade_core.specs.Standing.{tree_debt, tree_allows};
+ghost use Rattle.enfilade_core.specs.Summary.{depth_of};
+ghost use Rattle.enfilade_sweep.specs.Sweep.{numbers, IsSwept, AllReached, are_held};
 
 use crate::copying::{copied, renamed_roots};
 use crate::marks::{ranks, reached};
@@ -17,6 +19,11 @@ pub fn sweep<P: Plane>(old: &Arena<P>, roots: &List<Node>) -> Result<(Arena<P>, 
     requires { All (λ root. root.0 < length old.now) roots.now.items }
     ensures swept { IfOk result (λ made. IsSwept old.now (numbers roots.now.items) made.0 (numbers made.1.items)) }
     ensures rows { IfOk result (λ made. map (rows_of made.0) (numbers made.1.items) ≡ map (rows_of old.now) (numbers roots.now.items)) }
+    ensures debts { IfOk result (λ made. map (tree_debt made.0) (numbers made.1.items) ≡ map (tree_debt old.now) (numbers roots.now.items)) }
+    ensures allowed { IfOk result (λ made. map (tree_allows made.0) (numbers made.1.items) ≡ map (tree_allows old.now) (numbers roots.now.items)) }
+    ensures depths { IfOk result (λ made. map (depth_of P.widths made.0) (numbers made.1.items) ≡ map (depth_of P.widths old.now) (numbers roots.now.items)) }
+    ensures reached { IfOk result (λ made. AllReached made.0 (numbers made.1.items)) }
+    ensures held { IfOk result (λ made. are_held made.0 (numbers made.1.items) ≡ true) }
 {
     let marks = reached(old, roots.as_slice())?;
     let ranks = ranks(old.allocator(), marks.as_slice())?;

@@ -1,9 +1,11 @@
 //! The tree of contents.
-ghost use Rattle.std.specs.Prelude.{◌≡◌, ℕ, ◌+◌, ◌<◌, ◌≤◌, ◌++◌, [], length, take, IfOk, OnOk, OnErr};
+ghost use Rattle.std.specs.Prelude.{◌≡◌, ℕ, ◌+◌, ◌<◌, ◌≤◌, ◌++◌, [], length, take, not, false, IsOk, IfOk, OnOk, OnErr};
 ghost use Rattle.tumbler.specs.Places.{place_bound};
 ghost use Rattle.tumbler.specs.Span.{SpanFits};
 ghost use Rattle.enfilade_core.specs.Rows.{rows_of};
 ghost use Rattle.enfilade_core.specs.Exchange.{Grows};
+ghost use Rattle.enfilade_core.specs.Standing.{tree_debt, tree_allows};
+ghost use Rattle.enfilade_balance.specs.Steps.{root_after, is_idle};
 ghost use Rattle.granfilade.specs.Content.{laid, content, tree_rows, laid_out, bytes_in};
 ghost use Rattle.granfilade.specs.Steps.{last_of};
 ghost use Rattle.granfilade.specs.Puts.{IsNext, IsContent, put_in};
@@ -11,6 +13,7 @@ ghost use Rattle.granfilade.specs.Puts.{IsNext, IsContent, put_in};
 use crate::leaves::leaves;
 use crate::lengthened::last_lengthened;
 use crate::parts::append_parts;
+use enfilade_balance::{Balance, balance_step};
 use enfilade_core::{Arena, ContentPlane, Gap, Node, TreeMark};
 use enfilade_search::overlapping;
 use std::alloc::Global;
@@ -49,6 +52,14 @@ impl Granfilade {
         Ok(Granfilade { arena, root })
     }
 
+    /// The tree of this root in an arena. It takes no memory.
+    pub fn from_parts(arena: Arena<ContentPlane>, root: Node) -> Granfilade
+        requires { root.0 < length arena }
+        ensures value { result ≡ record { nodes = arena; root = root.0 } }
+    {
+        Granfilade { arena, root }
+    }
+
     /// Puts bytes in, the first one at `start` and each other at the address after the one in front of it.
     ///
     /// A row of the tree has at most 1,024 of them. Where the last row in front ends at `start` and has room, it
@@ -77,6 +88,28 @@ impl Granfilade {
         let made = self.arena.exchange(self.root, &gap, &rows)?;
         self.root = made.root;
         Ok(())
+    }
+
+    /// Makes one step of the balancer, if one is allowed, and goes on with its root.
+    ///
+    /// The rows stay. Where memory is refused all is as before. Where no step is allowed it takes no memory.
+    pub fn balance(&mut self) -> Result<Balance, Memory>
+        ensures rows { tree_rows self.new ≡ tree_rows self.old }
+        ensures grows { Grows self.old.nodes self.new.nodes }
+        ensures root { IfOk result (λ made. self.new.root ≡ (root_after (record { 0 = self.old.root }) made).0) }
+        ensures lowers { IfOk result (λ made. is_idle made ≡ false → tree_debt self.new.nodes self.new.root + 1 ≤ tree_debt self.old.nodes self.old.root) }
+        ensures idle { IfOk result (λ made. is_idle made ≡ not (tree_allows self.old.nodes self.old.root)) }
+        ensures succeeds { tree_allows self.old.nodes self.old.root ≡ false → IsOk result }
+        ensures same { tree_allows self.old.nodes self.old.root ≡ false → self.new ≡ self.old }
+        ensures refused { OnErr result (self.new ≡ self.old) }
+    {
+        let mark = self.arena.mark();
+        let Ok(made) = balance_step(&mut self.arena, self.root) else {
+            self.arena.truncate(mark);
+            return Err(Memory);
+        };
+        self.root = root_after(self.root, made);
+        Ok(made)
     }
 
     /// The arena and the tree's root, lent.
@@ -125,5 +158,15 @@ impl Granfilade {
         let _places = span.start.places();
         let rows = overlapping(&self.arena, self.root, span)?;
         append_parts(rows.as_slice(), span, into)
+    }
+}
+
+/// The root of a tree after a step.
+fn root_after(root: Node, made: Balance) -> Node
+    ensures { result ≡ root_after root made }
+{
+    match made {
+        Balance::Split(made) | Balance::Merged(made) | Balance::Dropped(made) => made,
+        Balance::Idle => root,
     }
 }

@@ -8,6 +8,7 @@ ghost use Rattle.granfilade.specs.Content.{content, laid_row, laid_out};
 
 use crate::Granfilade;
 use crate::parts::so_far_on;
+use enfilade_balance::{Balance, debt};
 use enfilade_core::{Row, TreeMark};
 use std::alloc::Global;
 use std::process::Abort;
@@ -150,5 +151,28 @@ fn bytes_one_by_one_make_long_rows(rt: HostRuntime) -> Result<(), Fail> {
         put(&rt, alloc, &mut contents, k + 1, b"x");
     }
     has_leaves(&rt, &contents, 2);
+    Ok(())
+}
+
+fn owed(contents: &Granfilade) -> u64 {
+    let (arena, root) = contents.parts();
+    debt(arena, root)
+}
+
+#[test]
+fn seventeen_rows_are_split(rt: HostRuntime) -> Result<(), Fail> {
+    let alloc = rt.alloc();
+    let mut contents = Granfilade::new(alloc)?;
+    for k in 1..18u32 {
+        put(&rt, alloc, &mut contents, 2 * k, b"x");
+    }
+    assert!(rt; owed(&contents) == 5);
+    let Balance::Split(_root) = contents.balance()? else {
+        panic!(rt; "not a split");
+    };
+    assert!(rt; owed(&contents) == 0);
+    assert!(rt; contents.balance()? == Balance::Idle);
+    has_leaves(&rt, &contents, 17);
+    assert!(rt; read(&rt, alloc, &contents, 1, 34).len() == 17);
     Ok(())
 }

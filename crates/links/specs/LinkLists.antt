@@ -56,6 +56,10 @@ runs_at end link = if end == 1 then link.from else if end == 2 then link.to else
 abbrev pub index_at : ℕ → LinkLists → IndexTree
 index_at end lists = if end == 1 then lists.from else if end == 2 then lists.to else lists.three
 
+-- another index in that one's place
+abbrev pub with_index : ℕ → IndexTree → LinkLists → LinkLists
+with_index end index lists = if end == 1 then record lists { from = index } else if end == 2 then record lists { to = index } else record lists { three = index }
+
 abbrev pub spans_at : ℕ → LinkRow → List Span
 spans_at end link = map run_span (runs_at end link)
 

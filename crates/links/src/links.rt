@@ -1,12 +1,14 @@
 //! The table of links and its calls.
-ghost use Rattle.std.specs.Prelude.{◌≡◌, ◌<◌, ◌≤◌, ◌⊎◌, List as ListOf, [], length, slice_get, All, IfOk, OnOk, OnErr, IfSome, false};
+ghost use Rattle.std.specs.Prelude.{◌≡◌, ◌<◌, ◌≤◌, ◌⊎◌, List as ListOf, [], length, slice_get, All, IsOk, IfOk, OnOk, OnErr, IfSome, ◌+◌, not, false};
 ghost use Rattle.std.specs.Option.{option_map, option_copied};
 ghost use Rattle.std.specs.Ordering.{nat_cmp};
 ghost use Rattle.std.specs.Cmp.Lexicographic.{slice_cmp};
 ghost use Rattle.std.specs.List.Sorted.{IsStrictlySortedBy};
 ghost use Rattle.tumbler.specs.Span.{SpanFits};
+ghost use Rattle.enfilade_core.specs.Standing.{tree_debt, tree_allows};
+ghost use Rattle.enfilade_balance.specs.Steps.{root_after, is_idle};
 ghost use Rattle.spanfilade.specs.Index.{rows_in_index, at_mark};
-ghost use Rattle.links.specs.LinkLists.{LinkLists, most_links, plain_link, IsLink, HoldsRuns, index_at, ids_in, has_in, link_in, count_of_home_in, added, removed, marks_of, at_marks, AllGrow};
+ghost use Rattle.links.specs.LinkLists.{LinkLists, most_links, plain_link, IsLink, HoldsRuns, index_at, with_index, ids_in, has_in, link_in, count_of_home_in, added, removed, marks_of, at_marks, AllGrow};
 ghost use Rattle.links.specs.Finding.{found_in, spans_met, EndsFit};
 ghost use Rattle.links.specs.inside.Joined.{EndsJoined};
 ghost use Rattle.links.specs.inside.Kept.{Hold};
@@ -18,6 +20,7 @@ use crate::runs::run_spans;
 use crate::spans::spans_in_order;
 use crate::table::Table;
 use crate::wanted::joined_ends;
+use enfilade_balance::Balance;
 use enfilade_search::overlapping;
 use spanfilade::Spanfilade;
 use std::alloc::Global;
@@ -234,6 +237,43 @@ impl Links {
         let (arena, root) = self.index(end).parts();
         let rows = overlapping(arena, root, meeting)?;
         spans_in_order(alloc, rows.as_slice())
+    }
+
+    /// Makes one step of the balancer in the index of end 1, 2 or 3, if one is allowed.
+    ///
+    /// Each index keeps its rows. Where memory is refused all is as before. Where no step is allowed it takes no memory.
+    pub fn balance(&mut self, end: u32) -> Result<Balance, Memory>
+        requires end { (end ≡ 1) ⊎ (end ≡ 2) ⊎ (end ≡ 3) }
+        ensures links { self.new.links ≡ self.old.links }
+        ensures from { rows_in_index self.new.from ≡ rows_in_index self.old.from }
+        ensures to { rows_in_index self.new.to ≡ rows_in_index self.old.to }
+        ensures three { rows_in_index self.new.three ≡ rows_in_index self.old.three }
+        ensures others { self.new ≡ with_index end (index_at end self.new) self.old }
+        ensures grows { AllGrow self.old self.new }
+        ensures root { IfOk result (λ made. (index_at end self.new).root ≡ root_after (index_at end self.old).root made) }
+        ensures lowers { IfOk result (λ made. is_idle made ≡ false → tree_debt (index_at end self.new).nodes (index_at end self.new).root.0 + 1 ≤ tree_debt (index_at end self.old).nodes (index_at end self.old).root.0) }
+        ensures idle { IfOk result (λ made. is_idle made ≡ not (tree_allows (index_at end self.old).nodes (index_at end self.old).root.0)) }
+        ensures succeeds { tree_allows (index_at end self.old).nodes (index_at end self.old).root.0 ≡ false → IsOk result }
+        ensures same { tree_allows (index_at end self.old).nodes (index_at end self.old).root.0 ≡ false → self.new ≡ self.old }
+        ensures refused { OnErr result (self.new ≡ self.old) }
+    {
+        match end {
+            1 => self.from.balance(),
+            2 => self.to.balance(),
+            _ => self.three.balance(),
+        }
+    }
+
+    /// Puts other indexes with the same rows in the places of the three. It takes no memory.
+    pub fn set_indexes(&mut self, from: Spanfilade, to: Spanfilade, three: Spanfilade)
+        requires from { rows_in_index from ≡ rows_in_index self.old.from }
+        requires to { rows_in_index to ≡ rows_in_index self.old.to }
+        requires three { rows_in_index three ≡ rows_in_index self.old.three }
+        ensures value { self.new ≡ record { links = self.old.links; from = from; to = to; three = three } }
+    {
+        self.from = from;
+        self.to = to;
+        self.three = three;
     }
 
     /// What `back` goes back to. It takes no memory.

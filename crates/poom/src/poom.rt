@@ -1,11 +1,14 @@
 //! The trees of all documents.
-ghost use Rattle.std.specs.Prelude.{◌≡◌, ◌+◌, ◌≤◌, ◌++◌, [], ◌∷◌, length, take, IfOk, OnOk, OnErr};
+ghost use Rattle.std.specs.Prelude.{◌≡◌, ◌+◌, ◌<◌, ◌≤◌, ◌++◌, [], ◌∷◌, length, take, not, false, IsOk, IfOk, OnOk, OnErr};
 ghost use Rattle.enfilade_core.specs.Rows.{Rows, rows_of};
 ghost use Rattle.enfilade_core.specs.Edits.{KeepsRows};
 ghost use Rattle.enfilade_core.specs.Exchange.{Grows};
+ghost use Rattle.enfilade_core.specs.Standing.{tree_debt, tree_allows};
+ghost use Rattle.enfilade_balance.specs.Steps.{root_after, is_idle};
 ghost use Rattle.poom.specs.declared.part.Part.TheVariants.{Text, Links};
 ghost use Rattle.poom.specs.Laid.{IsRoot, texts, links};
 
+use enfilade_balance::{Balance, balance_step};
 use enfilade_core::{Arena, Node, TextPlane};
 use std::alloc::Global;
 use std::marker::Model;
@@ -41,6 +44,14 @@ impl Poom {
         }
     }
 
+    /// The trees of an arena. It takes no memory.
+    pub fn from_arena(arena: Arena<TextPlane>) -> Poom
+        ensures { result ≡ arena }
+    {
+        let alloc = arena.allocator();
+        Poom { arena, alloc }
+    }
+
     /// A new document of no text and no links.
     #[tactic(auto, using(crate::proofs::Roots::roots))]
     pub fn empty(&mut self) -> Result<Node, Memory>
@@ -52,6 +63,31 @@ impl Poom {
     {
         let root = self.arena.empty()?;
         Ok(root)
+    }
+
+    /// Makes one step of the balancer in a document's tree, if one is allowed.
+    ///
+    /// The root after it is the document's with the same rows. Other documents keep their trees. Where memory is refused
+    /// all is as before. Where no step is allowed it takes no memory.
+    pub fn balance(&mut self, root: Node) -> Result<Balance, Memory>
+        requires { root.0 < length self.old }
+        ensures kept { KeepsRows self.old self.new }
+        ensures grows { Grows self.old self.new }
+        ensures below { IfOk result (λ made. (root_after root made).0 < length self.new) }
+        ensures rows { IfOk result (λ made. rows_of self.new (root_after root made).0 ≡ rows_of self.old root.0) }
+        ensures document { IsRoot self.old root.0 → IfOk result (λ made. IsRoot self.new (root_after root made).0) }
+        ensures lowers { IfOk result (λ made. is_idle made ≡ false → tree_debt self.new (root_after root made).0 + 1 ≤ tree_debt self.old root.0) }
+        ensures idle { IfOk result (λ made. is_idle made ≡ not (tree_allows self.old root.0)) }
+        ensures succeeds { tree_allows self.old root.0 ≡ false → IsOk result }
+        ensures same { tree_allows self.old root.0 ≡ false → self.new ≡ self.old }
+        ensures refused { OnErr result (self.new ≡ self.old) }
+    {
+        let mark = self.arena.mark();
+        let Ok(made) = balance_step(&mut self.arena, root) else {
+            self.arena.truncate(mark);
+            return Err(Memory);
+        };
+        Ok(made)
     }
 
     /// What `back` goes back to. It takes no memory.

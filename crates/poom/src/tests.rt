@@ -5,8 +5,11 @@ ghost use Rattle.tumbler.specs.Span.{SpanFits};
 ghost use Rattle.poom.specs.Edited.{IsContentRun, run_addresses};
 
 use crate::Poom;
+use enfilade_balance::{Balance, debt};
+use enfilade_core::{Arena, Node, TextPlane};
 use febe_data::Run;
 use std::alloc::Global;
+use std::process::Abort;
 use std::test::Fail;
 use tumbler::{List, Memory, Span, Tumbler};
 
@@ -131,8 +134,41 @@ fn shows_repeats_each_in_its_place(rt: HostRuntime) -> Result<(), Fail> {
     Ok(())
 }
 
+/// A root that is there.
+fn held(rt: &impl Abort, poom: &Poom, root: Node) -> Node
+    ensures { result.0 < length poom.now }
+{
+    poom.arena()
+        .at_number(Arena::<TextPlane>::number(root))
+        .expect(rt, "a root that is there")
+}
+
+fn owed(rt: &impl Abort, poom: &Poom, root: Node) -> u64 {
+    debt(poom.arena(), held(rt, poom, root))
+}
+
+fn step(rt: &impl Abort, poom: &mut Poom, root: Node) -> Balance {
+    let root = held(rt, poom, root);
+    poom.balance(root).expect(rt, "memory")
+}
+
+/// Asserts that two documents have the same rows.
+fn are_alike(rt: &impl Abort, poom: &Poom, root: Node, other: Node) {
+    let rows = poom.arena().rows(held(rt, poom, root)).expect(rt, "memory");
+    let others = poom
+        .arena()
+        .rows(held(rt, poom, other))
+        .expect(rt, "memory");
+    assert!(rt; rows.len() == others.len());
+    for (row, other) in rows.as_slice().iter().zip(others.as_slice()) {
+        assert!(rt; row.first == other.first);
+        assert!(rt; row.second == other.second);
+        assert!(rt; row.leaf == other.leaf);
+    }
+}
+
 #[test]
-fn keeps_a_run_for_each_byte_put_in_front(rt: HostRuntime) -> Result<(), Fail> {
+fn a_run_for_each_byte_put_in_front_is_split(rt: HostRuntime) -> Result<(), Fail> {
     let alloc = rt.alloc();
     let home = document(alloc)?;
     let mut poom = Poom::new(alloc);
@@ -146,6 +182,15 @@ fn keeps_a_run_for_each_byte_put_in_front(rt: HostRuntime) -> Result<(), Fail> {
     assert!(rt; depth == 1);
     let leaves = poom.arena().leaves(root);
     assert!(rt; leaves == 17);
+    let version = poom.version(root);
+    assert!(rt; owed(&rt, &poom, root) == 5);
+    let Balance::Split(made) = step(&rt, &mut poom, root) else {
+        panic!(rt; "not a split");
+    };
+    assert!(rt; owed(&rt, &poom, made) == 0);
+    assert!(rt; step(&rt, &mut poom, made) == Balance::Idle);
+    are_alike(&rt, &poom, version, made);
+    assert!(rt; owed(&rt, &poom, version) == 5);
     Ok(())
 }
 

@@ -1,9 +1,11 @@
 //! The index.
-ghost use Rattle.std.specs.Prelude.{◌≡◌, ◌<◌, ◌≤◌, [], ◌∷◌, ◌++◌, length, All, IfOk, IfSome, IfNone, OnOk, OnErr};
+ghost use Rattle.std.specs.Prelude.{◌≡◌, ◌<◌, ◌≤◌, ◌+◌, [], ◌∷◌, ◌++◌, length, not, false, All, IsOk, IfOk, IfSome, IfNone, OnOk, OnErr};
 ghost use Rattle.std.specs.List.Sorted.{IsPermutation};
 ghost use Rattle.tumbler.specs.Span.{SpanFits};
 ghost use Rattle.enfilade_core.specs.Rows.{rows_of};
 ghost use Rattle.enfilade_core.specs.Exchange.{Grows};
+ghost use Rattle.enfilade_core.specs.Standing.{tree_debt, tree_allows};
+ghost use Rattle.enfilade_balance.specs.Steps.{root_after, is_idle};
 ghost use Rattle.enfilade_core.specs.Axes.{IsRightRow, InOrder};
 ghost use Rattle.enfilade_core.specs.Planes.{key_widths};
 ghost use Rattle.spanfilade.specs.Index.{IndexTree, rows_in_index, row_of, rows_for, with_span, IsCovered, mark_of, at_mark};
@@ -13,6 +15,7 @@ use crate::groups::put_all;
 use crate::joining::{by_start, joined};
 use crate::keys::{listed, take_keys};
 use crate::lengthening::{longer_row, put_longer};
+use enfilade_balance::{Balance, balance_step};
 use enfilade_core::{Arena, KeyPlane, Node, Row, TreeMark};
 use enfilade_search::{overlapping, overlapping_up_to};
 use std::alloc::Global;
@@ -50,6 +53,14 @@ impl Spanfilade {
         let mut arena = Arena::new(alloc);
         let root = arena.empty()?;
         Ok(Spanfilade { arena, root })
+    }
+
+    /// The index of this root in an arena. It takes no memory.
+    pub fn from_parts(arena: Arena<KeyPlane>, root: Node) -> Spanfilade
+        requires { root.0 < length arena }
+        ensures value { result ≡ record { nodes = arena; root = root } }
+    {
+        Spanfilade { arena, root }
     }
 
     /// Adds a span for a key, in front of the spans that start where it does.
@@ -153,6 +164,28 @@ impl Spanfilade {
         Ok(Some(keys))
     }
 
+    /// Makes one step of the balancer, if one is allowed, and goes on with its root.
+    ///
+    /// The rows stay. Where memory is refused all is as before. Where no step is allowed it takes no memory.
+    pub fn balance(&mut self) -> Result<Balance, Memory>
+        ensures rows { rows_in_index self.new ≡ rows_in_index self.old }
+        ensures grows { Grows self.old.nodes self.new.nodes }
+        ensures root { IfOk result (λ made. self.new.root ≡ root_after self.old.root made) }
+        ensures lowers { IfOk result (λ made. is_idle made ≡ false → tree_debt self.new.nodes self.new.root.0 + 1 ≤ tree_debt self.old.nodes self.old.root.0) }
+        ensures idle { IfOk result (λ made. is_idle made ≡ not (tree_allows self.old.nodes self.old.root.0)) }
+        ensures succeeds { tree_allows self.old.nodes self.old.root.0 ≡ false → IsOk result }
+        ensures same { tree_allows self.old.nodes self.old.root.0 ≡ false → self.new ≡ self.old }
+        ensures refused { OnErr result (self.new ≡ self.old) }
+    {
+        let mark = self.arena.mark();
+        let Ok(made) = balance_step(&mut self.arena, self.root) else {
+            self.arena.truncate(mark);
+            return Err(Memory);
+        };
+        self.root = root_after(self.root, made);
+        Ok(made)
+    }
+
     /// What `back` goes back to. It takes no memory.
     pub fn mark(&self) -> TreeMark
         ensures mark { result ≡ mark_of self.now }
@@ -210,4 +243,14 @@ fn one_row(alloc: Global, span: &Span, key: &Tumbler) -> Result<List<Row<Tumbler
     let mut rows = List::new(alloc);
     rows.push(row_of(span, key))?;
     Ok(rows)
+}
+
+/// The root of a tree after a step.
+fn root_after(root: Node, made: Balance) -> Node
+    ensures { result ≡ root_after root made }
+{
+    match made {
+        Balance::Split(made) | Balance::Merged(made) | Balance::Dropped(made) => made,
+        Balance::Idle => root,
+    }
 }

@@ -3,7 +3,8 @@ use Rattle.std.specs.Prelude.{All}
 use Rattle.enfilade_core.specs.declared.tree.Node.{Node}
 use Rattle.enfilade_sweep.specs.Sweep.{numbers}
 use Rattle.enfilade_sweep.specs.Marks.{AreMarked, AreRanks, AreCopied}
-use Rattle.enfilade_sweep.proofs.Whole.{is_swept, same_rows, root_there, roots_there}
+use Rattle.enfilade_sweep.proofs.Held.{all_reached, all_held}
+use Rattle.enfilade_sweep.proofs.Whole.{is_swept, same_rows, same_debts, same_allowed, same_depths, root_there, roots_there}
 use Rattle.enfilade_sweep.proofs.swept.sweep.Goals as goal
 
 pub renamed_roots-requires-clause-there : goal.renamed_roots-requires-clause-there
@@ -33,3 +34,36 @@ returns-clause-rows g c =
     let copied = subst (λ (ms : List Bool). AreCopied ms old c.in_ok-new.new (length old)) c.as_slice-3.ensures.value c.in_ok-new.ensures in
     same_rows g.P.Plane.widths old c.in_ok-new.new (numbers c.args.roots.now.items) c.in_ok-marks.marks.items c.in_ok-ranks.ranks.items c.nodes_are_right.ensures c.nodes_are_right-2.ensures marked exact copied (numbers c.in_ok-roots.roots.items)
     (c.in_ok-roots.ensures ∙ ap (λ (rs : List ℕ). map (λ k. get_or rs k 0) (numbers c.as_slice-6.result.now)) c.as_slice-5.ensures.value ∙ ap (λ (rs : List Node). map (λ k. get_or c.in_ok-ranks.ranks.items k 0) (numbers rs)) c.as_slice-6.ensures)
+
+pub returns-clause-debts : goal.returns-clause-debts
+returns-clause-debts g c =
+    let old = c.args.old.now in
+    let marked = subst (λ (rs : List Node). AreMarked old (numbers rs) c.in_ok-marks.marks.items 0) c.as_slice.ensures c.in_ok-marks.ensures in
+    let exact = subst (λ (ms : List Bool). AreRanks ms c.in_ok-ranks.ranks.items) c.as_slice-2.ensures.value c.in_ok-ranks.ensures in
+    let copied = subst (λ (ms : List Bool). AreCopied ms old c.in_ok-new.new (length old)) c.as_slice-3.ensures.value c.in_ok-new.ensures in
+    same_debts g.P.Plane.widths old c.in_ok-new.new (numbers c.args.roots.now.items) c.in_ok-marks.marks.items c.in_ok-ranks.ranks.items c.nodes_are_right.ensures c.nodes_are_right-2.ensures marked exact copied (numbers c.in_ok-roots.roots.items)
+    (c.in_ok-roots.ensures ∙ ap (λ (rs : List ℕ). map (λ k. get_or rs k 0) (numbers c.as_slice-6.result.now)) c.as_slice-5.ensures.value ∙ ap (λ (rs : List Node). map (λ k. get_or c.in_ok-ranks.ranks.items k 0) (numbers rs)) c.as_slice-6.ensures)
+
+pub returns-clause-allowed : goal.returns-clause-allowed
+returns-clause-allowed g c =
+    let old = c.args.old.now in
+    let marked = subst (λ (rs : List Node). AreMarked old (numbers rs) c.in_ok-marks.marks.items 0) c.as_slice.ensures c.in_ok-marks.ensures in
+    let exact = subst (λ (ms : List Bool). AreRanks ms c.in_ok-ranks.ranks.items) c.as_slice-2.ensures.value c.in_ok-ranks.ensures in
+    let copied = subst (λ (ms : List Bool). AreCopied ms old c.in_ok-new.new (length old)) c.as_slice-3.ensures.value c.in_ok-new.ensures in
+    same_allowed g.P.Plane.widths old c.in_ok-new.new (numbers c.args.roots.now.items) c.in_ok-marks.marks.items c.in_ok-ranks.ranks.items c.nodes_are_right.ensures c.nodes_are_right-2.ensures marked exact copied (numbers c.in_ok-roots.roots.items)
+    (c.in_ok-roots.ensures ∙ ap (λ (rs : List ℕ). map (λ k. get_or rs k 0) (numbers c.as_slice-6.result.now)) c.as_slice-5.ensures.value ∙ ap (λ (rs : List Node). map (λ k. get_or c.in_ok-ranks.ranks.items k 0) (numbers rs)) c.as_slice-6.ensures)
+
+pub returns-clause-depths : goal.returns-clause-depths
+returns-clause-depths g c =
+    let old = c.args.old.now in
+    let marked = subst (λ (rs : List Node). AreMarked old (numbers rs) c.in_ok-marks.marks.items 0) c.as_slice.ensures c.in_ok-marks.ensures in
+    let exact = subst (λ (ms : List Bool). AreRanks ms c.in_ok-ranks.ranks.items) c.as_slice-2.ensures.value c.in_ok-ranks.ensures in
+    let copied = subst (λ (ms : List Bool). AreCopied ms old c.in_ok-new.new (length old)) c.as_slice-3.ensures.value c.in_ok-new.ensures in
+    same_depths g.P.Plane.widths old c.in_ok-new.new (numbers c.args.roots.now.items) c.in_ok-marks.marks.items c.in_ok-ranks.ranks.items c.nodes_are_right.ensures c.nodes_are_right-2.ensures marked exact copied (numbers c.in_ok-roots.roots.items)
+    (c.in_ok-roots.ensures ∙ ap (λ (rs : List ℕ). map (λ k. get_or rs k 0) (numbers c.as_slice-6.result.now)) c.as_slice-5.ensures.value ∙ ap (λ (rs : List Node). map (λ k. get_or c.in_ok-ranks.ranks.items k 0) (numbers rs)) c.as_slice-6.ensures)
+
+pub returns-clause-reached : goal.returns-clause-reached
+returns-clause-reached g c = all_reached c.args.old.now (numbers c.args.roots.now.items) c.in_ok-new.new (numbers c.in_ok-roots.roots.items) (returns-clause-swept g c)
+
+pub returns-clause-held : goal.returns-clause-held
+returns-clause-held g c = all_held c.in_ok-new.new (numbers c.in_ok-roots.roots.items) (all_reached c.args.old.now (numbers c.args.roots.now.items) c.in_ok-new.new (numbers c.in_ok-roots.roots.items) (returns-clause-swept g c))

@@ -1,0 +1,8 @@
+use Rattle.std.proofs.Common.{List, ◌∙◌, ap}
+use Rattle.doc_table.specs.declared.rows.DocumentRow.{DocumentRow}
+use Rattle.doc_table.specs.DocumentRows.{with_roots}
+use Rattle.doc_table.proofs.RootsSet.{roots_hold}
+use Rattle.doc_table.proofs.table.DocTable.set_roots.Goals as goal
+
+pub invariant_of-self : goal.invariant_of-self
+invariant_of-self g c = roots_hold c.self.inside.rows.items c.set_roots.new.rows.items c.args.roots.now c.self.inside.counts c.set_roots.ensures c.self.invariant
