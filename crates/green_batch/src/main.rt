@@ -16,7 +16,9 @@ const NO_MEMORY: u8 = 9;
 /// Tells on standard error why a run ended; one that went well says nothing.
 fn tell(rt: &impl Eprint, status: u8, place: u64) -> io::Result<()> {
     match status {
-        2 => eprintln!(rt; "green_batch: usage: green_batch FOLDER [--limits ENTRIES TEXT FLUSH]"),
+        2 => eprintln!(rt;
+            "green_batch: usage: green_batch FOLDER [--limits ENTRIES TEXT FLUSH or --generate START]"
+        ),
         3 => eprintln!(rt; "green_batch: malformed at {place}"),
         4 => eprintln!(rt; "green_batch: truncated at {place}"),
         5 => eprintln!(rt; "green_batch: read fault"),

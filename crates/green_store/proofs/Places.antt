@@ -57,6 +57,9 @@ module _ (before after : StoreView) (placed : AllPlaced empty_world before.histo
   as_before : after ≡ before → AllPlaced empty_world after.history
   as_before stays = rw stays placed
 
+  still : after.history ≡ before.history → AllPlaced empty_world after.history
+  still same = rw same placed
+
   replied : (session : ℕ) (request : PlainRequest) (reply : PlainReply) (point : ℕ) (rose : Bool) → IsReplied before session request reply point after rose → AllPlaced empty_world after.history
   replied session request reply point rose r = elim r.given [
     | inl g ↦ placed_goes_on before.limits session before.history request reply g.1.added after.history rose placed g.1.legal g.1.grows
@@ -71,4 +74,8 @@ steps_stay_placed before after (steps.Ask session request) (answers.Reply reply 
 steps_stay_placed before after (steps.Ask session request) answers.NoSession rose placed step = as_before before after placed step.stays
 steps_stay_placed before after (steps.End session) answers.Ended rose placed step = with_entry before after placed (end_entry before.history session) tt step.grows
 steps_stay_placed before after (steps.End session) answers.NoSession rose placed step = as_before before after placed step.stays
+steps_stay_placed before after steps.Background answers.Balanced rose placed step = still before after placed step.still.history
+steps_stay_placed before after steps.Background answers.Swept rose placed step = still before after placed step.still.history
+steps_stay_placed before after steps.Background answers.Idle rose placed step = as_before before after placed step.stays
+steps_stay_placed before after steps.Background answers.Memory rose placed step = as_before before after placed step.stays
 steps_stay_placed before after other answer rose placed step = absurd step

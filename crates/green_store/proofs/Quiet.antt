@@ -1,4 +1,4 @@
--- Begins and ends of sessions keep no entry, and leave the log alone.
+-- Begins and ends of sessions and background steps keep no entry, and leave the log alone.
 use Rattle.std.proofs.Common.{◌≡◌, ℕ, Bool, false, ap, refl, ◌∙◌}
 use Rattle.febe_data.specs.Plain.{PlainEntry}
 use Rattle.world_rules.specs.History.{kept, is_counted}
@@ -7,7 +7,7 @@ use Rattle.green_store.specs.declared.step.StepAnswer.{StepAnswer}
 use Rattle.green_store.specs.declared.step.StepAnswer.TheVariants as answers
 use Rattle.green_store.specs.IsStep.{IsStep}
 use Rattle.green_store.specs.Sessions.{begin_entry, end_entry}
-use Rattle.green_store.specs.StoreView.{StoreView, with_one}
+use Rattle.green_store.specs.StoreView.{StoreView, with_one, StandsStill}
 use Rattle.green_store.proofs.Regulars.{kept_other}
 
 pub record IsQuiet (before after : StoreView) : Type 0 where
@@ -33,3 +33,13 @@ pub end_is_quiet : (before after : StoreView) (session : ℕ) (answer : StepAnsw
 end_is_quiet before after session answers.Ended rose step = with_other before after (end_entry before.history session) refl step.grows
 end_is_quiet before after session answers.NoSession rose step = as_before before after step.stays
 end_is_quiet before after session other rose step = absurd step
+
+standing : (before after : StoreView) → StandsStill before after → IsQuiet before after
+standing before after still = record { none_kept = ap kept still.history; same_log = still.log }
+
+pub background_is_quiet : (before after : StoreView) (answer : StepAnswer) (rose : Bool) → IsStep before steps.Background after answer rose → IsQuiet before after
+background_is_quiet before after answers.Balanced rose step = standing before after step.still
+background_is_quiet before after answers.Swept rose step = standing before after step.still
+background_is_quiet before after answers.Idle rose step = as_before before after step.stays
+background_is_quiet before after answers.Memory rose step = as_before before after step.stays
+background_is_quiet before after other rose step = absurd step

@@ -46,6 +46,9 @@ module _ (before after : StoreView) (count : SerialsCount before.history) where
   as_before : after ≡ before → SerialsCount after.history
   as_before stays = rw stays count
 
+  still : after.history ≡ before.history → SerialsCount after.history
+  still same = rw same count
+
   replied : (session : ℕ) (request : PlainRequest) (reply : PlainReply) (point : ℕ) (rose : Bool) → IsReplied before session request reply point after rose → SerialsCount after.history
   replied session request reply point rose r = elim r.given [
     | inl g ↦ subst SerialsCount (sym g.1.grows) (legal_steps_count before.limits session before.history request reply g.1.added rose g.1.legal count)
@@ -60,4 +63,8 @@ steps_count before after (steps.Ask session request) (answers.Reply reply point)
 steps_count before after (steps.Ask session request) answers.NoSession rose count step = as_before before after count step.stays
 steps_count before after (steps.End session) answers.Ended rose count step = with_entry before after count (end_entry before.history session) (ends_next before.history session) step.grows
 steps_count before after (steps.End session) answers.NoSession rose count step = as_before before after count step.stays
+steps_count before after steps.Background answers.Balanced rose count step = still before after count step.still.history
+steps_count before after steps.Background answers.Swept rose count step = still before after count step.still.history
+steps_count before after steps.Background answers.Idle rose count step = as_before before after count step.stays
+steps_count before after steps.Background answers.Memory rose count step = as_before before after count step.stays
 steps_count before after other answer rose count step = absurd step

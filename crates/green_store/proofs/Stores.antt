@@ -10,6 +10,10 @@ use Rattle.world_rules.specs.InPlace.{HasRoom}
 use Rattle.world_rules.proofs.Folded.{counts_entries}
 use Rattle.entry_fits.specs.Laws.{IsRegular}
 use Rattle.edit_log.specs.Images.{AreEntries}
+use Rattle.edit_log.specs.LogView.{LogView}
+use Rattle.febe_data.specs.LimitsView.{LimitsView}
+use Rattle.tree_world.specs.Condition.{Condition}
+use Rattle.green_store.specs.StoreView.{StoreView, with_one}
 use Rattle.green_store.specs.IsStore.{IsStore}
 use Rattle.green_store.specs.LeavesLive.{LeavesLive}
 use Rattle.green_store.specs.Sessions.{greatest_session, begin_entry, end_entry}
@@ -89,3 +93,12 @@ stands_after stands view e plain is after = subst (λ (x : PlainEntry). stands (
 pub same_store : (h h' : List PlainEntry) (room room' : ℕ) (stands : FlatView → Type 0) (live live' : List ℕ) (greatest : ℕ) → h' ≡ h → room' ≡ room → live' ≡ live
     → IsStore h room stands live greatest → IsStore h' room' stands live' greatest
 same_store h h' room room' stands live live' greatest eh er el store = rw (eh, er, el) store
+
+-- what contracts see of a store with one entry more, whose trees are in the same condition
+pub one_more : (h h' : List PlainEntry) (limits : LimitsView) (log : LogView) (trees trees' : Condition) (base : ℕ) (before : StoreView) (e : PlainEntry) → h' ≡ h ++ e ∷ [] → trees' ≡ trees
+    → (let v : StoreView = record { history = h; limits = limits; log = log; trees = trees; base = base } in v) ≡ before
+    → (let v : StoreView = record { history = h'; limits = limits; log = log; trees = trees'; base = base } in v) ≡ with_one before e
+one_more h h' limits log trees trees' base before e grows same is =
+    ap (λ (es : List PlainEntry). let v : StoreView = record { history = es; limits = limits; log = log; trees = trees'; base = base } in v) grows
+    ∙ ap (λ (c : Condition). let v : StoreView = record { history = h ++ e ∷ []; limits = limits; log = log; trees = c; base = base } in v) same
+    ∙ ap (λ (v : StoreView). with_one v e) is

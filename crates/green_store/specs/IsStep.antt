@@ -1,5 +1,5 @@
 -- What each step does to a store, and what it is answered.
-use Rattle.std.specs.Prelude.{◌≡◌, ◌⊎◌, ℕ, ◌+◌, ◌<◌, ◌^◌, Bool, IsTrue, false, length}
+use Rattle.std.specs.Prelude.{◌≡◌, ◌⊎◌, ℕ, ◌+◌, ◌*◌, ◌<◌, ◌≤◌, ◌^◌, Bool, IsTrue, true, false, length}
 use Rattle.febe_data.specs.declared.refusal.Refusal.TheVariants.{Memory}
 use Rattle.febe_data.specs.Plain.{PlainRequest, plain_request, PlainReply, plain_reply, refused}
 use Rattle.febe_data.specs.Validity.{IsRequest, IsReply}
@@ -10,7 +10,7 @@ use Rattle.green_store.specs.declared.step.StepAnswer.{StepAnswer}
 use Rattle.green_store.specs.declared.step.StepAnswer.TheVariants as answers
 use Rattle.green_store.specs.Sessions.{greatest_session, begin_entry, end_entry}
 use Rattle.green_store.specs.Steps.{Steps}
-use Rattle.green_store.specs.StoreView.{StoreView, with_one}
+use Rattle.green_store.specs.StoreView.{StoreView, with_one, StandsStill}
 
 -- there is a number above those of all sessions so far
 abbrev pub HasNumber : StoreView → Type 0
@@ -63,6 +63,42 @@ pub record HasEnded (before : StoreView) (session : ℕ) (after : StoreView) : T
   pub live : IsTrue (is_live before.history session)
   pub grows : after ≡ with_one before (end_entry before.history session)
 
+-- ---- background steps
+
+-- what is put right first: a tree allows a step of the balancer
+abbrev pub MayBalance : StoreView → Type 0
+MayBalance before = before.trees.allows ≡ true
+
+-- and then: none does, and the arenas hold over twice as many nodes as after the last sweep, and 1,024 more
+pub record MaySweep (before : StoreView) : Type 0 where
+  pub balanced : before.trees.allows ≡ false
+  pub many : 2 * before.base + 1024 < before.trees.nodes
+
+-- one step was made in a tree, and all trees together owe less
+pub record IsBalanced (before after : StoreView) : Type 0 where
+  pub may : MayBalance before
+  pub lowers : after.trees.debt + 1 ≤ before.trees.debt
+  pub base_stays : after.base ≡ before.base
+  pub still : StandsStill before after
+
+-- the arenas hold no node that no tree's root reaches
+pub record IsSwept (before after : StoreView) : Type 0 where
+  pub may : MaySweep before
+  pub reached : after.trees.reached ≡ true
+  pub base_is : after.base ≡ after.trees.nodes
+  pub still : StandsStill before after
+
+-- nothing is to be put right, and nothing changed
+pub record IsIdle (before after : StoreView) : Type 0 where
+  pub balanced : before.trees.allows ≡ false
+  pub few : before.trees.nodes ≤ 2 * before.base + 1024
+  pub stays : after ≡ before
+
+-- something is to be put right, but there was no memory for it, and nothing changed
+pub record IsPutOff (before after : StoreView) : Type 0 where
+  pub may : MayBalance before ⊎ MaySweep before
+  pub stays : after ≡ before
+
 -- A step, from the store before it to the one after it, its answer, and whether the count of disk faults rose meanwhile. What is
 -- not listed never happens.
 abbrev pub IsStep : StoreView → Step → StoreView → StepAnswer → Bool → Type 0
@@ -73,4 +109,18 @@ IsStep before (steps.Ask session request) after (answers.Reply reply point) rose
 IsStep before (steps.Ask session request) after answers.NoSession rose = IsNotLive before session after
 IsStep before (steps.End session) after answers.Ended rose = HasEnded before session after
 IsStep before (steps.End session) after answers.NoSession rose = IsNotLive before session after
+IsStep before steps.Background after answers.Balanced rose = IsBalanced before after
+IsStep before steps.Background after answers.Swept rose = IsSwept before after
+IsStep before steps.Background after answers.Idle rose = IsIdle before after
+IsStep before steps.Background after answers.Memory rose = IsPutOff before after
 IsStep before step after answer rose = ⊥
+
+-- this holds unless a session makes a request
+abbrev pub UnlessAsked : Step → Type 0 → Type 0
+UnlessAsked (steps.Ask session request) fact = Unit {0}
+UnlessAsked other fact = fact
+
+-- this holds unless a step has let go of nodes
+abbrev pub UnlessSwept : StepAnswer → Type 0 → Type 0
+UnlessSwept answers.Swept fact = Unit {0}
+UnlessSwept other fact = fact

@@ -13,6 +13,7 @@ pub use Rattle.entry_fits.specs.Laws as EntryLaws
 pub use Rattle.edit_log.specs.Images
 pub use Rattle.edit_log.specs.Log
 pub use Rattle.edit_log.specs.LogView
+pub use Rattle.tree_world.specs.Condition
 pub mod Sessions
 pub mod Steps
 pub mod StoreView

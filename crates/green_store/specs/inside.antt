@@ -1,5 +1,5 @@
 -- What only private functions cite.
-use Rattle.std.specs.Prelude.{◌≡◌, ◌⊎◌, ℕ, ◌<◌, Bool, true, List, ◌∷◌, [], ◌++◌, length, Option, None, Some, IsTrue}
+use Rattle.std.specs.Prelude.{◌≡◌, ◌⊎◌, ℕ, ◌+◌, ◌*◌, ◌<◌, ◌≤◌, Bool, true, false, List, ◌∷◌, [], ◌++◌, length, Option, None, Some, IsTrue}
 use Rattle.tumbler.specs.Places.{IsTumbler}
 use Rattle.febe_data.specs.declared.refusal.Refusal.TheVariants.{Disk}
 use Rattle.febe_data.specs.Plain.{PlainChange, document_created, version_made, copy_opened, text_inserted, specs_copied, link_made, PlainReply, refused, PlainEntry}
@@ -13,6 +13,9 @@ use Rattle.world_rules.specs.Placed.{IsPlaced}
 use Rattle.entry_fits.specs.Fits.{Fits}
 use Rattle.edit_log.specs.Log.{most_entries}
 use Rattle.edit_log.specs.LogView.{LogView}
+use Rattle.tree_world.specs.Condition.{Condition}
+use Rattle.green_store.specs.declared.tending.Tended.{Tended}
+use Rattle.green_store.specs.declared.tending.Tended.TheVariants as tended
 use Rattle.green_store.specs.Durable.{Keeps, StaysPending, IsThat, LogHas}
 use Rattle.green_store.specs.StoreView.{StoreView}
 
@@ -62,3 +65,14 @@ abbrev pub KeepsEdit : StoreView → Option PlainEntry → PlainEntry → StoreV
 KeepsEdit before pending entry after reply disk =
     Keeps disk after None
     ⊎ StaysPending before after disk (λ other. IsThat pending other ⊎ ((other ≡ entry) × (reply ≡ refused Disk)))
+
+-- One small step has put this right in the trees, which are in one condition before it and in the other after it; and so many
+-- nodes they had after the last sweep, before the step and after it.
+abbrev pub IsTended : Condition → ℕ → Tended → Condition → ℕ → Type 0
+IsTended old base tended.Balanced new after = (old.allows ≡ true) × (new.debt + 1 ≤ old.debt) × (after ≡ base)
+IsTended old base tended.Swept new after = (old.allows ≡ false) × (2 * base + 1024 < old.nodes) × (new.reached ≡ true) × (after ≡ new.nodes)
+IsTended old base tended.Idle new after = (old.allows ≡ false) × (old.nodes ≤ 2 * base + 1024) × (new ≡ old) × (after ≡ base)
+
+-- something is to be put right, but there was no memory for it, and nothing changed
+abbrev pub IsPutOffFor : Condition → ℕ → Condition → ℕ → Type 0
+IsPutOffFor old base new after = ((old.allows ≡ true) ⊎ ((old.allows ≡ false) × (2 * base + 1024 < old.nodes))) × (new ≡ old) × (after ≡ base)

@@ -8,6 +8,9 @@ mod opening;
 mod opening_tests;
 mod step;
 mod store;
+mod tending;
+#[cfg(test)]
+mod tending_tests;
 #[cfg(test)]
 mod tests;
 

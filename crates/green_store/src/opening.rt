@@ -15,6 +15,7 @@ ghost use Rattle.green_store.specs.Replayed.{IsReplayed};
 ghost use Rattle.green_store.specs.Sessions.{greatest_session};
 
 use crate::store::{Store, StoreOver};
+use crate::tending::tend;
 use edit_log::laws::one_reading;
 use edit_log::{EditLog, LogFault};
 use entry_codec::encode;
@@ -25,8 +26,7 @@ use febe_data::{Change, Entry, Limits, List, Memory};
 use green_io::{Area, Disk};
 use std::alloc::Global;
 use thiserror::Error;
-use tree_world::{TreeWorld, Undoes};
-use world_rules::Applies;
+use tree_world::{Tends, TreeWorld};
 
 /// Why a store was not opened. Its text is the one that a program prints.
 #[derive(Clone, Copy, Debug, PartialEq, Eq, Error)]
@@ -87,8 +87,8 @@ fn gate_behind(alloc: Global, entries: &[Entry]) -> Result<u64, Memory>
 }
 
 /// Builds the world of the entries, each of which is tested to fit after those before it. It gives the number of entries in
-/// front of the first that does not, where one does not.
-fn replay<W: Applies>(
+/// front of the first that does not, where one does not. The trees are put right by one small step behind each entry.
+fn replay<W: Tends>(
     alloc: Global,
     world: &mut W,
     entries: &[Entry],
@@ -99,12 +99,14 @@ fn replay<W: Applies>(
     // So the entries in front of each one fit.
     one_more_fits();
     let mut serials = Serials::new(alloc);
+    let mut base = world.nodes();
     for (count, entry) in entries.iter().enumerate() {
         if !fits(world, alloc, serials.greatest(entry.session), entry)? {
             return Ok(Some(count));
         }
         world.apply(alloc, entry)?;
         serials.add(entry)?;
+        tend(alloc, world, &mut base)?;
     }
     Ok(None)
 }
@@ -120,7 +122,7 @@ fn greatest_session(entries: &[Entry]) -> u64
     greatest
 }
 
-impl<W: Undoes + Drop> StoreOver<W> {
+impl<W: Tends + Drop> StoreOver<W> {
     /// Opens a store over a disk, as [`Store::open`] does, with this world, which no entry has changed yet.
     pub fn open_over<D: Disk>(
         alloc: Global,
@@ -131,6 +133,7 @@ impl<W: Undoes + Drop> StoreOver<W> {
         requires { W.stands world nothing_yet }
         ensures history { IfOk result (λ store. IsOpenedFrom (D.state disk.old).reads store.history) }
         ensures limits { IfOk result (λ store. store.limits ≡ limits) }
+        ensures base { IfOk result (λ store. store.base ≡ store.trees.nodes) }
         ensures keeps { IfOk result (λ store. IsSome (D.state disk.old).reads → Keeps (D.state disk.new) store None) }
         ensures damaged { OnDamagedLog result (λ at. WhereTold (D.state disk.old).reads (λ areas. IsDamagedLog at areas.log)) }
         ensures left { UnlessDiskFailed result (ReadsAsBefore (D.state disk.old).reads (D.state disk.new).reads) }
@@ -162,6 +165,7 @@ impl<W: Undoes + Drop> StoreOver<W> {
         ensures fit { IfOk result (λ store. AllFit [] (plain_history entries.items)) }
         ensures limits { IfOk result (λ store. store.limits ≡ limits) }
         ensures log { IfOk result (λ store. store.log ≡ log) }
+        ensures base { IfOk result (λ store. store.base ≡ store.trees.nodes) }
         ensures damaged { OnDamagedLog result (λ at. (front : _) × IsUnfitBehind front (plain_history entries.items) × (at ≡ length (gated front))) }
         ensures no_disk { OnDiskFailed result ⊥ }
     {
@@ -179,6 +183,7 @@ impl<W: Undoes + Drop> StoreOver<W> {
             change: Change::Restart,
         };
         world.apply(alloc, &restart)?;
+        let base = world.nodes();
         let mut history = entries;
         history.push(restart)?;
         Ok(StoreOver {
@@ -188,6 +193,7 @@ impl<W: Undoes + Drop> StoreOver<W> {
             greatest,
             limits,
             log,
+            base,
         })
     }
 }
@@ -196,12 +202,14 @@ impl StoreOver<TreeWorld> {
     /// Opens the store over a disk: reads the log, builds the world of its entries in one pass, each tested to fit after those
     /// before it, and restarts. No session is live then.
     ///
-    /// A log of n bytes is read once. Home and journal are left alone. Where the log is damaged its place is that of the first
+    /// A log of n bytes is read once, and behind each entry the trees are put right by one small step, so that they are in good
+    /// shape however many edits there are. Home and journal are left alone. Where the log is damaged its place is that of the first
     /// gate with no entry behind it, or one too many, anywhere; and only where there is none, of the first whose entry does not
     /// fit. Limits that are below what the log has do not matter here: edits are then refused as full.
     pub fn open<D: Disk>(alloc: Global, disk: &mut D, limits: Limits) -> Result<Store, OpenFault>
         ensures history { IfOk result (λ store. IsOpenedFrom (D.state disk.old).reads store.history) }
         ensures limits { IfOk result (λ store. store.limits ≡ limits) }
+        ensures base { IfOk result (λ store. store.base ≡ store.trees.nodes) }
         ensures keeps { IfOk result (λ store. IsSome (D.state disk.old).reads → Keeps (D.state disk.new) store None) }
         ensures damaged { OnDamagedLog result (λ at. WhereTold (D.state disk.old).reads (λ areas. IsDamagedLog at areas.log)) }
         ensures left { UnlessDiskFailed result (ReadsAsBefore (D.state disk.old).reads (D.state disk.new).reads) }

@@ -11,6 +11,9 @@ pub enum Step {
     Ask { session: u64, request: Request },
     /// A session ends without a quit.
     End { session: u64 },
+    /// The trees are put right, by one small step: a node is split, merged or dropped where some tree allows it; else nodes that
+    /// no tree reaches are let go, once they are many.
+    Background,
 }
 
 /// What comes of a step.
@@ -26,6 +29,12 @@ pub enum StepAnswer {
     NoSession,
     /// The session has ended.
     Ended,
-    /// There was no memory for a new session.
+    /// One step of the balancer was made in a tree.
+    Balanced,
+    /// The nodes that no tree reaches are gone.
+    Swept,
+    /// Nothing is to be put right.
+    Idle,
+    /// There was no memory for a new session, or for what is to be put right.
     Memory,
 }

@@ -4,19 +4,20 @@ ghost use Rattle.std.specs.List.{list_any};
 
 use crate::keeping::{is_kept, keep, look_at, record_of};
 use crate::step::{Step, StepAnswer};
+use crate::tending::{Tended, tend};
 use edit_log::{Appended, EditLog};
 use febe_data::{Change, Entry, Limits, List, Memory, Refusal, Reply, Request, Tumbler};
 use green_io::{Area, Disk};
 use std::alloc::Global;
 use std::marker::Model;
-use tree_world::{TreeWorld, Undoes};
+use tree_world::{Tends, TreeWorld};
 use world_rules::{Effect, Served};
 
 /// A history that begins with the entries of a log and a restart, the world that it has built, to which each entry is applied
 /// once, and the log, to which each kept entry is appended before it is in the history. Any world serves that entries change,
-/// that takes the last one back, and that answers what requests look up.
+/// that takes the last one back, that can be put into better shape, and that answers what requests look up.
 #[derive(Drop)]
-pub struct StoreOver<W: Undoes> {
+pub struct StoreOver<W: Tends> {
     pub(crate) history: List<Entry>,
     pub(crate) world: W,
     /// The live sessions. The history has room for the end of each.
@@ -25,24 +26,26 @@ pub struct StoreOver<W: Undoes> {
     pub(crate) greatest: u64,
     pub(crate) limits: Limits,
     pub(crate) log: EditLog,
+    /// How many nodes the trees had once they were last swept, or when the store opened.
+    pub(crate) base: u64,
 }
 
 /// The store of a back end that keeps its world in trees and tables.
 pub type Store = StoreOver<TreeWorld>;
 
-impl<W: Undoes> Model for StoreOver<W> {
+impl<W: Tends> Model for StoreOver<W> {
     ghost use Rattle.febe_data.specs.Plain.{plain_history};
     ghost use Rattle.green_store.specs.StoreView.{StoreView};
     ghost use Rattle.green_store.specs.IsStore.{IsStore};
 
     ghost Value = { StoreView };
 
-    ghost view = { λ s. record { history = plain_history s.history.items; limits = s.limits; log = s.log } };
+    ghost view = { λ s. record { history = plain_history s.history.items; limits = s.limits; log = s.log; trees = W.condition s.world; base = s.base } };
 
     ghost invariant = { λ s. IsStore (plain_history s.history.items) s.history.spare (W.stands s.world) s.live.items s.greatest };
 }
 
-impl<W: Undoes + Drop> StoreOver<W> {
+impl<W: Tends + Drop> StoreOver<W> {
     ghost use Rattle.febe_data.specs.Plain.{plain_history};
     ghost use Rattle.febe_data.specs.Plain.{PlainEntry};
     ghost use Rattle.green_io.specs.Disk.{LeavesOnly, LeavesOthers};
@@ -50,13 +53,19 @@ impl<W: Undoes + Drop> StoreOver<W> {
     ghost use Rattle.world_rules.specs.FlatView.{view_of};
     ghost use Rattle.world_rules.specs.Holding.{holder};
     ghost use Rattle.green_store.specs.Durable.{has_risen, Keeps, HoldsStep, KeepsStep};
-    ghost use Rattle.green_store.specs.IsStep.{IsStep};
+    ghost use Rattle.green_store.specs.IsStep.{IsStep, UnlessAsked, UnlessSwept};
+    ghost use Rattle.std.specs.Prelude.{min};
+    ghost use Rattle.enfilade_core.specs.Summary.{most_count};
 
     /// Does one step, whole: where there is no memory in its midst, or the disk fails, nothing of it stays but an edit that is
     /// pending in the log, which the next edit takes back first.
     ///
     /// An edit builds its reply, its trees and its record first, then mends the log where an edit is pending, appends, and
     /// stands. What was appended is never refused. Steps that make no kept change leave the disk alone.
+    ///
+    /// A background step makes one step of the balancer where a tree allows one. Only where none does, and the arenas hold over
+    /// twice as many nodes as after the last sweep, and 1,024 more, it lets go of those that no tree reaches. Where nothing is
+    /// to be put right it takes no memory.
     pub fn step<D: Disk>(&mut self, alloc: Global, disk: &mut D, step: Step) -> StepAnswer
         ensures step { IsStep self.old step self.new result (has_risen (D.fault_count disk.old) (D.fault_count disk.new)) }
         ensures limits { self.new.limits ≡ self.old.limits }
@@ -64,11 +73,14 @@ impl<W: Undoes + Drop> StoreOver<W> {
         ensures keeps { (pending : Option PlainEntry) → Keeps (D.state disk.old) self.old pending → KeepsStep self.old pending step self.new result (D.state disk.new) }
         ensures others { LeavesOthers Area.Log (D.state disk.old) (D.state disk.new) }
         ensures never_falls { D.fault_count disk.old ≤ D.fault_count disk.new }
+        ensures base { UnlessSwept result (self.new.base ≡ self.old.base) }
+        ensures untouched { UnlessAsked step (disk.new ≡ disk.old) }
     {
         match step {
             Step::Begin => self.begin(alloc),
             Step::Ask { session, request } => self.ask(alloc, disk, session, &request),
             Step::End { session } => self.end(alloc, session),
+            Step::Background => self.tend(alloc),
         }
     }
 
@@ -81,9 +93,46 @@ impl<W: Undoes + Drop> StoreOver<W> {
 
     /// The world that the history has built.
     pub fn world(&self) -> &W
-        ensures { W.stands result.now (view_of self.now.history) }
+        ensures stands { W.stands result.now (view_of self.now.history) }
+        ensures trees { W.condition result.now ≡ self.now.trees }
     {
         &self.world
+    }
+
+    /// What all trees owe for their shape together, up to 2^64 - 1. A version that shares a tree with its document counts
+    /// it again. It looks at one node of each document's tree, and takes no memory.
+    pub fn debt(&self) -> u64
+        ensures { result ≡ min self.now.trees.debt most_count }
+    {
+        self.world.debt()
+    }
+
+    /// Whether some tree allows a step of the balancer. It takes no memory.
+    pub fn can_balance(&self) -> bool
+        ensures { result ≡ self.now.trees.allows }
+    {
+        self.world.can_balance()
+    }
+
+    /// The depth of the deepest tree, up to 2^32 - 1. It looks at one node of each document's tree, and takes no memory.
+    pub fn depth(&self) -> u32
+        ensures { result ≡ min self.now.trees.depth 4294967295 }
+    {
+        self.world.depth()
+    }
+
+    /// How many nodes the trees have together, with those that no root reaches. It takes no memory.
+    pub fn nodes(&self) -> u64
+        ensures { result ≡ self.now.trees.nodes }
+    {
+        self.world.nodes()
+    }
+
+    /// How many nodes the trees had once they were last swept, or when the store opened. It takes no memory.
+    pub fn base(&self) -> u64
+        ensures { result ≡ self.now.base }
+    {
+        self.base
     }
 
     /// The session that has the document open for writing, if one has.
@@ -115,7 +164,7 @@ fn remove(live: &mut List<u64>, session: u64)
 }
 
 #[tactic(auto, using(crate::proofs::Histories::histories))]
-impl<W: Undoes + Drop> StoreOver<W> {
+impl<W: Tends + Drop> StoreOver<W> {
     ghost use Rattle.febe_data.specs.Plain.{PlainEntry, plain_request, plain_reply, plain_change};
     ghost use Rattle.febe_data.specs.Validity.{IsRequest, IsReply};
     ghost use Rattle.green_io.specs.Disk.{LeavesOnly, LeavesOthers};
@@ -128,13 +177,14 @@ impl<W: Undoes + Drop> StoreOver<W> {
     ghost use Rattle.green_store.specs.inside.{MayBeKept, IsKeptOrTakenBack, KeepsEdit};
     ghost use Rattle.green_store.specs.Sessions.{greatest_session, begin_entry, end_entry};
     ghost use Rattle.green_store.specs.Steps.{Steps};
-    ghost use Rattle.green_store.specs.StoreView.{with_one};
-    ghost use Rattle.green_store.specs.IsStep.{IsStep, IsGiven};
+    ghost use Rattle.green_store.specs.StoreView.{with_one, StandsStill};
+    ghost use Rattle.green_store.specs.IsStep.{IsStep, IsGiven, UnlessSwept};
     ghost use Rattle.green_store.specs.LeavesLive.{LeavesLive};
 
     fn begin(&mut self, alloc: Global) -> StepAnswer
         ensures step { (rose : Bool) → IsStep self.old Step.Begin self.new result rose }
         ensures limits { self.new.limits ≡ self.old.limits }
+        ensures base { self.new.base ≡ self.old.base }
     {
         let Some(session) = self.greatest.checked_add(1) else {
             return StepAnswer::NoNumber;
@@ -154,6 +204,7 @@ impl<W: Undoes + Drop> StoreOver<W> {
     ) -> StepAnswer
         ensures step { IsStep self.old (Step.Ask session request.now) self.new result (has_risen (D.fault_count disk.old) (D.fault_count disk.new)) }
         ensures limits { self.new.limits ≡ self.old.limits }
+        ensures base { self.new.base ≡ self.old.base }
         ensures any_moment { (pending : Option PlainEntry) → Keeps (D.state disk.old) self.old pending → LeavesOnly (D.state disk.old) (D.state disk.new) (HoldsStep self.old pending (Step.Ask session request.now)) }
         ensures keeps { (pending : Option PlainEntry) → Keeps (D.state disk.old) self.old pending → KeepsStep self.old pending (Step.Ask session request.now) self.new result (D.state disk.new) }
         ensures others { LeavesOthers Area.Log (D.state disk.old) (D.state disk.new) }
@@ -172,12 +223,26 @@ impl<W: Undoes + Drop> StoreOver<W> {
     fn end(&mut self, alloc: Global, session: u64) -> StepAnswer
         ensures step { (rose : Bool) → IsStep self.old (Step.End session) self.new result rose }
         ensures limits { self.new.limits ≡ self.old.limits }
+        ensures base { self.new.base ≡ self.old.base }
     {
         if !self.is_live(session) {
             return StepAnswer::NoSession;
         }
         self.add_end(alloc, session);
         StepAnswer::Ended
+    }
+
+    fn tend(&mut self, alloc: Global) -> StepAnswer
+        ensures step { (rose : Bool) → IsStep self.old Step.Background self.new result rose }
+        ensures limits { self.new.limits ≡ self.old.limits }
+        ensures base { UnlessSwept result (self.new.base ≡ self.old.base) }
+    {
+        match tend(alloc, &mut self.world, &mut self.base) {
+            Ok(Tended::Balanced) => StepAnswer::Balanced,
+            Ok(Tended::Swept) => StepAnswer::Swept,
+            Ok(Tended::Idle) => StepAnswer::Idle,
+            Err(Memory) => StepAnswer::Memory,
+        }
     }
 
     /// Whether the session has begun and not ended.
@@ -201,7 +266,7 @@ impl<W: Undoes + Drop> StoreOver<W> {
             serial: 1,
             change: Change::Begin,
         };
-        self.world.apply(alloc, &begin)?;
+        self.world.apply_beside(alloc, &begin)?;
         self.history.push_reserved(begin);
         self.live.push_reserved(session);
         self.greatest = session;
@@ -220,7 +285,7 @@ impl<W: Undoes + Drop> StoreOver<W> {
             serial: self.world.entries_of(session) + 1,
             change: Change::End,
         };
-        let _ = self.world.apply(alloc, &end);
+        let _ = self.world.apply_beside(alloc, &end);
         self.history.push_reserved(end);
         remove(&mut self.live, session);
     }
@@ -236,6 +301,7 @@ impl<W: Undoes + Drop> StoreOver<W> {
         requires { IsTrue (is_live self.old.history session) }
         ensures valid { IsReply (plain_reply result) }
         ensures limits { self.new.limits ≡ self.old.limits }
+        ensures base { self.new.base ≡ self.old.base }
         ensures given { IsGiven self.old session (plain_request request.now) (plain_reply result) self.new (has_risen (D.fault_count disk.old) (D.fault_count disk.new)) }
         ensures any_moment { (pending : Option PlainEntry) → Keeps (D.state disk.old) self.old pending → LeavesOnly (D.state disk.old) (D.state disk.new) (HoldsRequest self.old pending session (plain_request request.now)) }
         ensures keeps { (pending : Option PlainEntry) → Keeps (D.state disk.old) self.old pending → KeepsRequest self.old pending session (plain_request request.now) self.new (plain_reply result) (D.state disk.new) }
@@ -268,12 +334,13 @@ impl<W: Undoes + Drop> StoreOver<W> {
         requires valid { IsRequest (plain_request request.now) }
         ensures valid { IfOk result (λ reply. IsReply (plain_reply reply)) }
         ensures limits { self.new.limits ≡ self.old.limits }
+        ensures base { self.new.base ≡ self.old.base }
         ensures steps { IfOk result (λ reply. Steps self.old.limits session self.old.history (plain_request request.now) (plain_reply reply) self.new.history (has_risen (D.fault_count disk.old) (D.fault_count disk.new))) }
         ensures any_moment { (pending : Option PlainEntry) → Keeps (D.state disk.old) self.old pending → LeavesOnly (D.state disk.old) (D.state disk.new) (HoldsRequest self.old pending session (plain_request request.now)) }
         ensures keeps { (pending : Option PlainEntry) → Keeps (D.state disk.old) self.old pending → IfOk result (λ reply. KeepsRequest self.old pending session (plain_request request.now) self.new (plain_reply reply) (D.state disk.new)) }
         ensures others { LeavesOthers Area.Log (D.state disk.old) (D.state disk.new) }
         ensures never_falls { D.fault_count disk.old ≤ D.fault_count disk.new }
-        ensures err { OnErr result (self.new ≡ self.old) }
+        ensures err { OnErr result (StandsStill self.old self.new) }
         ensures untouched { OnErr result (disk.new ≡ disk.old) }
     {
         match world_rules::serve(&self.world, alloc, session, request, &self.limits)? {
@@ -308,7 +375,7 @@ impl<W: Undoes + Drop> StoreOver<W> {
             serial: self.world.entries_of(session) + 1,
             change: made.change,
         };
-        self.world.apply(alloc, &entry)?;
+        self.world.apply_beside(alloc, &entry)?;
         self.history.push_reserved(entry);
         Ok(made.reply)
     }
@@ -325,12 +392,13 @@ impl<W: Undoes + Drop> StoreOver<W> {
         requires live { IsTrue (is_live self.old.history session) }
         requires may { MayBeKept self.old.history session (plain_effect made) }
         ensures limits { self.new.limits ≡ self.old.limits }
+        ensures base { self.new.base ≡ self.old.base }
         ensures outcome { IfOk result (λ reply. IsKeptOrTakenBack self.old.history session (plain_effect made) (plain_reply reply) self.new.history (has_risen (D.fault_count disk.old) (D.fault_count disk.new))) }
         ensures any_moment { (pending : Option PlainEntry) → Keeps (D.state disk.old) self.old pending → LeavesOnly (D.state disk.old) (D.state disk.new) (HoldsWith (kept self.old.history) (λ other. IsThat pending other ⊎ (other ≡ entry_after self.old.history session (plain_effect made)))) }
         ensures keeps { (pending : Option PlainEntry) → Keeps (D.state disk.old) self.old pending → IfOk result (λ reply. KeepsEdit self.old pending (entry_after self.old.history session (plain_effect made)) self.new (plain_reply reply) (D.state disk.new)) }
         ensures others { LeavesOthers Area.Log (D.state disk.old) (D.state disk.new) }
         ensures never_falls { D.fault_count disk.old ≤ D.fault_count disk.new }
-        ensures err { OnErr result (self.new ≡ self.old) }
+        ensures err { OnErr result (StandsStill self.old self.new) }
         ensures untouched { OnErr result (disk.new ≡ disk.old) }
     {
         let room = self.live.len().checked_add(1).ok_or(Memory)?;

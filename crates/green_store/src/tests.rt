@@ -10,12 +10,12 @@ use std::test::Fail;
 
 const ACCOUNT: [u32; 4] = [1, 1, 0, 1];
 
-const DOCUMENT: [u32; 6] = [1, 1, 0, 1, 0, 1];
+pub(crate) const DOCUMENT: [u32; 6] = [1, 1, 0, 1, 0, 1];
 
 /// A store, and the disk that it is over.
-struct Opened {
-    disk: MemoryDisk,
-    store: Store,
+pub(crate) struct Opened {
+    pub(crate) disk: MemoryDisk,
+    pub(crate) store: Store,
 }
 
 /// By hand, so that a caller's exits do not look into the fields.
@@ -31,7 +31,7 @@ impl Opened {
         store.into_history()
     }
 
-    fn begins(&mut self, rt: &impl Abort, alloc: Global) -> u64 {
+    pub(crate) fn begins(&mut self, rt: &impl Abort, alloc: Global) -> u64 {
         match self.store.step(alloc, &mut self.disk, Step::Begin) {
             StepAnswer::Begun { session } => session,
             _ => panic!(rt; "no session began"),
@@ -39,7 +39,7 @@ impl Opened {
     }
 
     /// The session's request is answered, and there are so many entries then.
-    fn asks(
+    pub(crate) fn asks(
         &mut self,
         rt: &impl Abort,
         alloc: Global,
@@ -58,7 +58,7 @@ impl Opened {
     }
 
     /// The session chooses the account.
-    fn chooses(
+    pub(crate) fn chooses(
         &mut self,
         rt: &impl Abort,
         alloc: Global,

@@ -1,9 +1,9 @@
 -- A run from the opening of its store to its return.
-use Rattle.std.proofs.Common.{◌≡◌, ◌≢◌, ℕ, ◌+◌, ◌≤◌, List, [], ◌++◌, length, take, Option, None, Some, Err, ap, ◌∙◌, refl, sym, subst, inl, inr, arith, le_refl}
+use Rattle.std.proofs.Common.{◌≡◌, ◌≢◌, ℕ, ◌+◌, ◌≤◌, List, [], ◌++◌, length, take, Option, None, Some, Err, ap, ◌∙◌, refl, sym, subst, inl, inr, ◌⊎◌, arith, le_refl}
 use Rattle.std.specs.Prelude.{IsSome}
 use Rattle.std.proofs.lemmas.List.{length-map, take-append-le}
 use Rattle.std.proofs.Math.Seq.{take-length}
-use Rattle.febe_data.specs.LimitsView.{LimitsView}
+use Rattle.febe_data.specs.LimitsView.{LimitsView, standard_limits}
 use Rattle.febe_data.specs.Plain.{PlainEntry, plain_history, plain_entry}
 use Rattle.febe_data.specs.declared.entry.Entry.{Entry}
 use Rattle.green_io.specs.Areas.{Areas}
@@ -16,16 +16,22 @@ use Rattle.world_rules.specs.History.{kept}
 use Rattle.green_store.specs.declared.opening.OpenFault.{OpenFault}
 use Rattle.green_store.specs.declared.opening.OpenFault.TheVariants as faults
 use Rattle.green_store.specs.Durable.{Keeps, HoldsWith, IsThat}
-use Rattle.green_store.specs.Opening.{opened_with, OpensAs, IsDamagedLog, OnDamagedLog, OnDiskFailed, UnlessDiskFailed, ReadsAsBefore}
+use Rattle.green_store.specs.Opening.{opened_with, IsOpenedFrom, OpensAs, IsDamagedLog, OnDamagedLog, OnDiskFailed, UnlessDiskFailed, ReadsAsBefore}
 use Rattle.green_store.specs.Sessions.{greatest_session}
 use Rattle.green_store.specs.StoreView.{StoreView}
 use Rattle.green_top.specs.declared.report.Report.{Report}
 use Rattle.green_top.specs.declared.session_end.SessionEnd.{SessionEnd}
 use Rattle.green_top.specs.declared.session_end.SessionEnd.TheVariants as ends
-use Rattle.green_top.specs.Batch.{BeginsWith, fault_status, status_of, FaultCause}
+use Rattle.green_top.specs.Batch.{IsBatch, BeginsWith, fault_status, status_of, place_of, FaultCause}
 use Rattle.green_top.specs.Crash.{HoldsFront, HoldsRun, HoldsAll, WasMade}
-use Rattle.green_top.specs.IoState.{IoState}
-use Rattle.green_top.specs.Words.{AreWords}
+use Rattle.green_top.specs.IoState.{IoState, with_disk_faults}
+use Rattle.green_top.specs.GeneratedRun.{SinkFailed, CouldNotBegin, IsSummedSession, IsGeneratedRun}
+use Rattle.green_top.specs.Outcome.{NoSession, IsRun}
+use Rattle.green_top.specs.declared.words.Form.{Form}
+use Rattle.green_top.specs.declared.words.Form.TheVariants as forms
+use Rattle.green_top.specs.inside.Forms.{limits_of, IsForm, IsFormRun}
+use Rattle.green_top.proofs.EndedSessions.{run_from, transcript_from}
+use Rattle.green_top.specs.Words.{AreNoWords, HasLimits}
 use Rattle.green_top.specs.inside.Enduring.{StandsOn, Endures}
 use Rattle.green_top.proofs.Endurings.{was_made}
 
@@ -68,7 +74,7 @@ told : (reads : Option Areas) (fact : List ℕ → Type 0) → AsRead reads fact
 told None fact read = absurd read
 told (Some areas) fact read = refl
 
-run_holds : (words : List (List ℕ)) (limits : LimitsView) (reads : Option Areas) (entries first last reported : List PlainEntry) (image : Areas) → AreWords words limits → first ≡ opened_with entries → reported ≡ last
+run_holds : (words : List (List ℕ)) (limits : LimitsView) (reads : Option Areas) (entries first last reported : List PlainEntry) (image : Areas) → HasLimits words limits → first ≡ opened_with entries → reported ≡ last
     → HoldsFront limits (greatest_session first + 1) (length first) last image → HoldsRun words reads entries reported image
 run_holds words limits reads entries first last reported image are opens is holds =
     inr (
@@ -85,7 +91,7 @@ just_opened limits session first disk store now rises keeps = record { pending =
 pub not_opened_moment : (words : List (List ℕ)) (reads : Option Areas) (entries reported : List PlainEntry) (old new : DiskState) → LeavesOnly old new (HoldsAsRead entries reads) → LeavesOnly old new (HoldsRun words reads entries reported)
 not_opened_moment words reads entries reported old new leaves = weaker old new (HoldsAsRead entries reads) (HoldsRun words reads entries reported) leaves (λ image holds. inl holds)
 
-module _ (words : List (List ℕ)) (limits : LimitsView) (are : AreWords words limits) (old opened new : DiskState) (first last : StoreView) (k m n : ℕ) (rises : k ≤ m)
+module _ (words : List (List ℕ)) (limits : LimitsView) (are : HasLimits words limits) (old opened new : DiskState) (first last : StoreView) (k m n : ℕ) (rises : k ≤ m)
     (keeps : IsSome old.reads → Keeps opened first None) (endures : Endures limits (greatest_session first.history + 1) opened first m new last n)
     (reported : List PlainEntry) (is : reported ≡ last.history) where
   pub opened_moment : (entries : List PlainEntry) → AsRead old.reads (λ log. IsWhole entries log) → first.history ≡ opened_with entries → LeavesOnly old opened (HoldsAsRead entries old.reads)
@@ -112,6 +118,115 @@ module _ (words : List (List ℕ)) (limits : LimitsView) (are : AreWords words l
           let made = was_made limits (greatest_session first.history + 1) (length first.history) last.history k n s.pending entry s.made that in
           let session : greatest_session first.history + 1 ≡ greatest_session (take count last.history) + 1 = ap (λ (h : List PlainEntry). greatest_session h + 1) (sym (taken count all) ∙ ap (take count) is) in
           inr (entry, (limits, are, subst (λ (x : ℕ). WasMade limits x count last.history k n entry) session (subst (λ (x : ℕ). WasMade limits (greatest_session first.history + 1) x last.history k n entry) (sym all) made)), whole)
+
+-- ---- a run of some form
+
+pub has_limits : (words : List (List ℕ)) (form : Form) → IsForm words form → HasLimits words (limits_of form)
+has_limits words (forms.Session limits) is = inl is
+has_limits words (forms.Generate start) is = inr ((start, is), refl)
+
+pub no_form : (words : List (List ℕ)) (form : Form) → IsForm words form → ¬ AreNoWords words
+no_form words (forms.Session limits) is none = none.no_session limits is
+no_form words (forms.Generate start) is none = none.no_generate start is
+
+pub session_runs : (form : Form) (named limits : LimitsView) (opened : List PlainEntry) (before after : IoState) (history : List PlainEntry) (points : List ℕ) (count : ℕ) (end : SessionEnd) → form ≡ forms.Session named → limits ≡ limits_of form
+    → IsRun limits opened before after history points count end → IsFormRun form opened before after history points count end
+session_runs form named limits opened before after history points count end is so run =
+    subst (λ (f : Form). IsFormRun f opened before after history points count end) (sym is)
+    (subst (λ (l : LimitsView). IsRun l opened before after history points count end) (so ∙ ap limits_of is) run)
+
+pub generated_runs : (form : Form) (start : ℕ) (opened : List PlainEntry) (before after : IoState) (history : List PlainEntry) (points : List ℕ) (count : ℕ) (end : SessionEnd) → form ≡ forms.Generate start
+    → IsGeneratedRun start opened before after history points end → count ≡ 0 → IsFormRun form opened before after history points count end
+generated_runs form start opened before after history points count end is run none = subst (λ (f : Form). IsFormRun f opened before after history points count end) (sym is) (run, none)
+
+no_place : (start : ℕ) (opened : List PlainEntry) (before after : IoState) (history : List PlainEntry) (points : List ℕ) (end : SessionEnd) → IsGeneratedRun start opened before after history points end → place_of end ≡ 0
+no_place start opened before after history points (ends.Malformed at) run = absurd (never run.leaves)
+  where
+    never : (CouldNotBegin (ends.Malformed at) opened × NoSession opened history points run.written) ⊎ IsSummedSession start opened (ends.Malformed at) run.written history points before.disk_faults after.disk_faults → ⊥
+    never (inl l) = l.0
+    never (inr s) = s.answered_and_summed
+no_place start opened before after history points (ends.Truncated at) run = absurd (never run.leaves)
+  where
+    never : (CouldNotBegin (ends.Truncated at) opened × NoSession opened history points run.written) ⊎ IsSummedSession start opened (ends.Truncated at) run.written history points before.disk_faults after.disk_faults → ⊥
+    never (inl l) = l.0
+    never (inr s) = s.answered_and_summed
+no_place start opened before after history points ends.Quit run = refl
+no_place start opened before after history points ends.End run = refl
+no_place start opened before after history points ends.ReadFault run = refl
+no_place start opened before after history points ends.WriteFault run = refl
+no_place start opened before after history points ends.Memory run = refl
+no_place start opened before after history points ends.Budget run = refl
+no_place start opened before after history points ends.NoNumber run = refl
+
+-- seen from before the store was opened
+
+summed_from : (start : ℕ) (opened : List PlainEntry) (end : SessionEnd) (written : List ℕ) (history : List PlainEntry) (points : List ℕ) (k m n : ℕ) → k ≤ m → IsSummedSession start opened end written history points m n → IsSummedSession start opened end written history points k n
+unfolding transcript_from
+summed_from start opened end written history points k m n le s = record {
+  session = s.session;
+  number_is = s.number_is;
+  has_number = s.has_number;
+  answered = s.answered;
+  output = s.output;
+  over = record { history_is = s.over.history_is; over = s.over.over; placed = s.over.placed; transcript = transcript_from standard_limits s.session history s.answered points s.output k m n le s.over.transcript };
+  answered_and_summed = s.answered_and_summed;
+}
+
+failed_from : (end : SessionEnd) (before after : IoState) (m : ℕ) → SinkFailed end (with_disk_faults before m) after → SinkFailed end before after
+failed_from ends.WriteFault before after m failed = failed
+failed_from ends.Quit before after m failed = tt
+failed_from ends.End before after m failed = tt
+failed_from (ends.Malformed at) before after m failed = tt
+failed_from (ends.Truncated at) before after m failed = tt
+failed_from ends.ReadFault before after m failed = tt
+failed_from ends.Memory before after m failed = tt
+failed_from ends.Budget before after m failed = tt
+failed_from ends.NoNumber before after m failed = tt
+
+generated_from : (start : ℕ) (opened : List PlainEntry) (before after : IoState) (m : ℕ) (history reported : List PlainEntry) (points : List ℕ) (end : SessionEnd) → before.disk_faults ≤ m → reported ≡ history
+    → IsGeneratedRun start opened (with_disk_faults before m) after history points end → IsGeneratedRun start opened before after reported points end
+generated_from start opened before after m history reported points end le is run = subst (λ (h : List PlainEntry). IsGeneratedRun start opened before after h points end) (sym is) (record {
+  written = run.written;
+  left_stays = run.left_stays;
+  source_faults_stay = run.source_faults_stay;
+  appended = run.appended;
+  sink_never_falls = run.sink_never_falls;
+  disk_never_falls = omega (arith, le, run.disk_never_falls);
+  cause = failed_from end before after m run.cause;
+  leaves = wider run.leaves;
+})
+  where
+    wider : (CouldNotBegin end opened × NoSession opened history points run.written) ⊎ IsSummedSession start opened end run.written history points m after.disk_faults
+        → (CouldNotBegin end opened × NoSession opened history points run.written) ⊎ IsSummedSession start opened end run.written history points before.disk_faults after.disk_faults
+    wider (inl never) = inl never
+    wider (inr s) = inr (summed_from start opened end run.written history points before.disk_faults m after.disk_faults le s)
+
+pub batch_of : (words : List (List ℕ)) (form : Form) (reads left : Option Areas) (before after : IoState) (m : ℕ) (report : Report) (status : ℕ) (opened history : List PlainEntry) (end : SessionEnd)
+    → IsForm words form → IsOpenedFrom reads opened → status ≡ status_of end → report.place ≡ place_of end → report.opened ≡ length opened → before.disk_faults ≤ m → plain_history report.history.items ≡ history
+    → IsFormRun form opened (with_disk_faults before m) after history report.points.items report.bytes_read end → IsBatch words reads left before after report status
+batch_of words (forms.Session limits) reads left before after m report status opened history end form from status-is place-is opened-is le is run = inr (inl (record {
+  limits = limits;
+  opened = opened;
+  end = end;
+  words_are = form;
+  from = from;
+  status_is = status-is;
+  place_is = place-is;
+  opened_is = opened-is;
+  run = run_from limits opened before after m history (plain_history report.history.items) report.points.items report.bytes_read end le is run;
+}))
+batch_of words (forms.Generate start) reads left before after m report status opened history end form from status-is place-is opened-is le is run = inr (inr (record {
+  start = start;
+  opened = opened;
+  end = end;
+  words_are = form;
+  from = from;
+  status_is = status-is;
+  place_is = place-is ∙ no_place start opened (with_disk_faults before m) after history report.points.items end run.0;
+  opened_is = opened-is;
+  counted = run.1;
+  run = generated_from start opened before after m history (plain_history report.history.items) report.points.items end le is run.0;
+}))
 
 -- ---- a store that was not opened
 

@@ -1,5 +1,5 @@
 -- A session's whole input is served over a log that is not damaged.
-use Rattle.std.proofs.Common.{◌≡◌, ℕ, ◌+◌, ◌<◌, ◌^◌, List, [], ◌++◌, length, Option, Some, None, refl, sym, ap, ◌∙◌, subst, inl, inr, ◌⊎◌, arith}
+use Rattle.std.proofs.Common.{◌≡◌, ℕ, ◌+◌, ◌<◌, ◌^◌, List, [], ◌∷◌, ◌++◌, length, Option, Some, None, refl, sym, ap, ◌∙◌, subst, inl, inr, ◌⊎◌, arith}
 use Rattle.std.specs.Io.KnownBytes.{Consumes, IsAtEnd}
 use Rattle.std.proofs.lemmas.List.{append-nil, length-append}
 use Rattle.febe_data.specs.LimitsView.{LimitsView}
@@ -16,10 +16,11 @@ use Rattle.green_top.specs.declared.session_end.SessionEnd.{SessionEnd}
 use Rattle.green_top.specs.declared.session_end.SessionEnd.TheVariants as ends
 use Rattle.green_top.specs.Batch.{status_of, fault_status, FaultCause, IsUsage, IsNotOpened}
 use Rattle.green_top.specs.Ends.{Cause}
-use Rattle.green_top.specs.Outcome.{Leaves}
-use Rattle.green_top.specs.Laws.{NoFaults, HasSession, HasLog, Completeness}
+use Rattle.green_top.specs.Outcome.{Leaves, NoSession}
+use Rattle.green_top.specs.GeneratedRun.{SinkFailed, CouldNotBegin, IsSummedSession}
+use Rattle.green_top.specs.Laws.{NoFaults, HasSession, HasLog, Completeness, GeneratedCompleteness}
 use Rattle.green_top.specs.IoState.{IoState}
-use Rattle.green_top.specs.Words.{AreWords}
+use Rattle.green_top.specs.Words.{AreWords, AreGenerateWords}
 use Rattle.green_top.proofs.Readings.{undamaged, opened_is, greatest_opened}
 
 -- what was read is a prefix of what was left
@@ -68,8 +69,17 @@ by_fault one reads left before after log quiet faults.Memory cause = refl
 
 by_nothing : EachHasOneReading → (words : List (List ℕ)) (limits : LimitsView) (reads left : Option Areas) (before after : IoState) (place status : ℕ) → AreWords words limits → HasLog reads → NoFaults before after
     → IsUsage words before after place status ⊎ IsNotOpened words reads left before after place status → (status ≡ 0) ⊎ (status ≡ 9)
-by_nothing one words limits reads left before after place status are log quiet (inl wrong) = absurd (wrong.wrong limits are)
+by_nothing one words limits reads left before after place status are log quiet (inl wrong) = absurd (wrong.wrong.no_session limits are)
 by_nothing one words limits reads left before after place status are log quiet (inr n) = inr (n.status_is ∙ by_fault one reads left before after log quiet n.fault n.cause)
+
+-- words of a session generate none
+not_both : (words : List (List ℕ)) (limits : LimitsView) (start : ℕ) → AreWords words limits → ¬ AreGenerateWords words start
+not_both [] limits start are generate = are
+not_both (a ∷ []) limits start are generate = are
+not_both (a ∷ b ∷ []) limits start are generate = generate
+not_both (a ∷ b ∷ c ∷ []) limits start are generate = are
+not_both (a ∷ b ∷ c ∷ d ∷ []) limits start are generate = are
+not_both (a ∷ b ∷ c ∷ d ∷ e ∷ more) limits start are generate = generate
 
 either : (status given : ℕ) → status ≡ given → (given ≡ 0) ⊎ (given ≡ 9) → (status ≡ 0) ⊎ (status ≡ 9)
 either status given is (inl e) = inl (is ∙ e)
@@ -77,7 +87,40 @@ either status given is (inr e) = inr (is ∙ e)
 
 pub completeness : EachHasOneReading → Completeness
 completeness one words limits reads left before after report status are s log quiet (inl nothing) = by_nothing one words limits reads left before after report.place status are log quiet nothing.why
-completeness one words limits reads left before after report status are s log quiet (inr o) =
+completeness one words limits reads left before after report status are s log quiet (inr (inr o)) = absurd (not_both words limits o.start are o.words_are)
+completeness one words limits reads left before after report status are s log quiet (inr (inl o)) =
     let is = opened_is one reads log.entries o.opened log.read o.from in
     let has : greatest_session o.opened + 1 < 2 ^ 64 = omega (arith, log.number, ap greatest_session is, greatest_opened log.entries) in
     either status (status_of o.end) o.status_is (served before after s quiet o.run.read o.run.moves.consumed o.limits o.opened o.run.written _ report.points.items has o.end o.run.cause o.run.leaves)
+
+-- ---- a session that is generated
+
+generated_ends : (start : ℕ) (opened history : List PlainEntry) (points written : List ℕ) (before after : IoState) (end : SessionEnd) → greatest_session opened + 1 < 2 ^ 64 → NoFaults before after → SinkFailed end before after
+    → (CouldNotBegin end opened × NoSession opened history points written) ⊎ IsSummedSession start opened end written history points before.disk_faults after.disk_faults → (status_of end ≡ 0) ⊎ (status_of end ≡ 9)
+generated_ends start opened history points written before after ends.Quit has quiet failed leaves = inl refl
+generated_ends start opened history points written before after ends.End has quiet failed leaves = inl refl
+generated_ends start opened history points written before after (ends.Malformed at) has quiet failed (inl never) = absurd never.0
+generated_ends start opened history points written before after (ends.Malformed at) has quiet failed (inr s) = absurd s.answered_and_summed
+generated_ends start opened history points written before after (ends.Truncated at) has quiet failed (inl never) = absurd never.0
+generated_ends start opened history points written before after (ends.Truncated at) has quiet failed (inr s) = absurd s.answered_and_summed
+generated_ends start opened history points written before after ends.ReadFault has quiet failed (inl never) = absurd never.0
+generated_ends start opened history points written before after ends.ReadFault has quiet failed (inr s) = absurd s.answered_and_summed
+generated_ends start opened history points written before after ends.WriteFault has quiet failed leaves = absurd (quiet.none_written failed)
+generated_ends start opened history points written before after ends.Memory has quiet failed leaves = inr refl
+generated_ends start opened history points written before after ends.Budget has quiet failed (inl never) = absurd never.0
+generated_ends start opened history points written before after ends.Budget has quiet failed (inr s) = absurd s.answered_and_summed
+generated_ends start opened history points written before after ends.NoNumber has quiet failed (inl never) = absurd (omega (arith, has, never.0))
+generated_ends start opened history points written before after ends.NoNumber has quiet failed (inr s) = absurd s.answered_and_summed
+
+generated_nothing : EachHasOneReading → (words : List (List ℕ)) (start : ℕ) (reads left : Option Areas) (before after : IoState) (place status : ℕ) → AreGenerateWords words start → HasLog reads → NoFaults before after
+    → IsUsage words before after place status ⊎ IsNotOpened words reads left before after place status → (status ≡ 0) ⊎ (status ≡ 9)
+generated_nothing one words start reads left before after place status are log quiet (inl wrong) = absurd (wrong.wrong.no_generate start are)
+generated_nothing one words start reads left before after place status are log quiet (inr n) = inr (n.status_is ∙ by_fault one reads left before after log quiet n.fault n.cause)
+
+pub generated_completeness : EachHasOneReading → GeneratedCompleteness
+generated_completeness one words start reads left before after report status are log quiet (inl nothing) = generated_nothing one words start reads left before after report.place status are log quiet nothing.why
+generated_completeness one words start reads left before after report status are log quiet (inr (inl o)) = absurd (not_both words o.limits start o.words_are are)
+generated_completeness one words start reads left before after report status are log quiet (inr (inr o)) =
+    let is = opened_is one reads log.entries o.opened log.read o.from in
+    let has : greatest_session o.opened + 1 < 2 ^ 64 = omega (arith, log.number, ap greatest_session is, greatest_opened log.entries) in
+    either status (status_of o.end) o.status_is (generated_ends o.start o.opened _ report.points.items o.run.written before after o.end has quiet o.run.cause o.run.leaves)

@@ -331,7 +331,7 @@ cause_from ends.Memory read before after m cause = cause
 cause_from ends.Budget read before after m cause = cause
 cause_from ends.NoNumber read before after m cause = cause
 
-transcript_from : (limits : LimitsView) (session : ℕ) (history : List PlainEntry) (requests : List PlainRequest) (points output : List ℕ) (k m n : ℕ) → k ≤ m → Transcript limits session history requests points output m n → Transcript limits session history requests points output k n
+unfoldable pub transcript_from : (limits : LimitsView) (session : ℕ) (history : List PlainEntry) (requests : List PlainRequest) (points output : List ℕ) (k m n : ℕ) → k ≤ m → Transcript limits session history requests points output m n → Transcript limits session history requests points output k n
 transcript_from limits session history requests points output k m n le t = record {
   exchanges = t.exchanges;
   requests_are = t.requests_are;

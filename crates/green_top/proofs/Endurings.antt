@@ -30,7 +30,7 @@ use Rattle.green_store.specs.declared.step.StepAnswer.TheVariants as answers
 use Rattle.green_store.specs.Durable.{has_risen, Keeps, IsEdit, IsEditOf, IsThat, HoldsStep, KeepsStep, IsRefusedForDisk}
 use Rattle.green_store.specs.IsStep.{IsStep}
 use Rattle.green_store.specs.Sessions.{begin_entry, end_entry}
-use Rattle.green_store.specs.StoreView.{StoreView, with_one}
+use Rattle.green_store.specs.StoreView.{StoreView, with_one, StandsStill}
 use Rattle.febe_data.specs.declared.request.Request.{Request}
 use Rattle.green_top.specs.Crash.{IsFront, MakesEdit, HoldsFront, WasMade}
 use Rattle.green_top.specs.inside.Enduring.{IsMade, StandsOn, Endures}
@@ -145,7 +145,7 @@ module _ (limits : LimitsView) (session : ℕ) (before after : StoreView) (disk 
     others = others;
   }
 
--- ---- the begin and the end of a session
+-- ---- the begin and the end of a session, and a background step
 
 abbrev Any : StoreView → DiskState → DiskState → Step → Type 0
 Any before disk disk' step = (pending : Option PlainEntry) → Keeps disk before pending → LeavesOnly disk disk' (HoldsStep before pending step)
@@ -179,6 +179,22 @@ pub endures_end : (limits : LimitsView) (session other : ℕ) (before after : St
     → Any before disk disk' (steps.End other) → Kept before after disk disk' (steps.End other) answer → LeavesOthers Log disk disk' → Endures limits session disk before m disk' after n
 endures_end limits session other before after disk disk' m n answer rose rises step =
     stepped limits session before after disk disk' m n (steps.End other) answer (end_grows before after other answer rose step) rises (λ entry none. absurd none) (λ entry none. absurd none)
+
+as_it_was : (before after : StoreView) → after ≡ before → StandsStill before after
+as_it_was before after stays = record { history = ap (λ (v : StoreView). v.history) stays; limits = ap (λ (v : StoreView). v.limits) stays; log = ap (λ (v : StoreView). v.log) stays }
+
+pub background_is_still : (before after : StoreView) (answer : StepAnswer) (rose : Bool) → IsStep before steps.Background after answer rose → StandsStill before after
+background_is_still before after answers.Balanced rose step = step.still
+background_is_still before after answers.Swept rose step = step.still
+background_is_still before after answers.Idle rose step = as_it_was before after step.stays
+background_is_still before after answers.Memory rose step = as_it_was before after step.stays
+background_is_still before after other rose step = absurd step
+
+pub endures_background : (limits : LimitsView) (session : ℕ) (before after : StoreView) (disk disk' : DiskState) (m n : ℕ) (answer : StepAnswer) (rose : Bool) → m ≤ n → IsStep before steps.Background after answer rose
+    → Any before disk disk' steps.Background → Kept before after disk disk' steps.Background answer → LeavesOthers Log disk disk' → Endures limits session disk before m disk' after n
+endures_background limits session before after disk disk' m n answer rose rises step =
+    stepped limits session before after disk disk' m n steps.Background answer ([], (background_is_still before after answer rose step).history ∙ sym (append-nil before.history)) rises (λ entry none. absurd none)
+    (λ entry none. absurd none)
 
 -- ---- a request
 

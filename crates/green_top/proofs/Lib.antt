@@ -12,3 +12,6 @@ pub mod Batches
 pub mod Complete
 pub mod Rounds
 pub mod Drawn
+pub mod Summings
+pub mod Replying
+pub mod Generateds

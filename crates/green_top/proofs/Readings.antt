@@ -52,7 +52,8 @@ module _ (one : EachHasOneReading) where
 
   pub damage_is_told : DamageIsTold
   damage_is_told words reads left before after report status has (inl nothing) = nothing
-  damage_is_told words reads left before after report status has (inr o) = absurd (not_opened reads has.0 has.1 o.opened o.from)
+  damage_is_told words reads left before after report status has (inr (inl o)) = absurd (not_opened reads has.0 has.1 o.opened o.from)
+  damage_is_told words reads left before after report status has (inr (inr o)) = absurd (not_opened reads has.0 has.1 o.opened o.from)
 
 -- ---- the history with which a store opens
 

@@ -1,22 +1,35 @@
 -- The words of a command line by their number.
-use Rattle.std.proofs.Common.{◌≡◌, ◌≢◌, ℕ, ◌<◌, ◌^◌, true, false, List, [], ◌∷◌, length, get_or, Option, Some, None, Result, Ok, Err, refl, sym, ap, ◌∙◌, arith}
-use Rattle.std.specs.Prelude.{decimal, codes, bytes_eq, not, Bool, IfSome, IfNone}
+use Rattle.std.proofs.Common.{Global, String, map, string_bytes, ◌≡◌, ◌≢◌, ℕ, ◌<◌, ◌^◌, true, false, List, [], ◌∷◌, length, get_or, Result, Ok, Err, refl, sym, ap, ◌∙◌, arith}
+use Rattle.std.specs.Prelude.{decimal, codes, bytes_eq, not, Bool}
 use Rattle.std.proofs.lemmas.Slice.Eq.{bytes_eq-Decides}
+use Rattle.std.proofs.lemmas.List.{get_or-map}
 use Rattle.std.specs.Str.Parse.{ParsesUnsigned}
 use Rattle.std.proofs.lemmas.Fmt.{parse-decimal, decimal_injective}
 use Rattle.febe_data.specs.LimitsView.{LimitsView, AreLimits}
-use Rattle.green_top.specs.Words.{is_folder, SpellLimits, SpellNoLimits, AreWords, AreNoWords}
+use Rattle.green_top.specs.Words.{is_folder, SpellLimits, SpellNoLimits, AreWords, AreGenerateWords, AreNoWords}
 
 -- words of another number are no form
-pub other_number : (words : List (List ℕ)) → length words ≢ 2 → length words ≢ 6 → AreNoWords words
-other_number [] two six limits is = is
-other_number (a ∷ []) two six limits is = is
-other_number (a ∷ b ∷ []) two six limits is = two refl
-other_number (a ∷ b ∷ c ∷ []) two six limits is = is
-other_number (a ∷ b ∷ c ∷ d ∷ []) two six limits is = is
-other_number (a ∷ b ∷ c ∷ d ∷ e ∷ []) two six limits is = is
-other_number (a ∷ b ∷ c ∷ d ∷ e ∷ f ∷ []) two six limits is = six refl
-other_number (a ∷ b ∷ c ∷ d ∷ e ∷ f ∷ g ∷ more) two six limits is = is
+
+other_session : (words : List (List ℕ)) → length words ≢ 2 → length words ≢ 6 → (limits : LimitsView) → ¬ AreWords words limits
+other_session [] two six limits is = is
+other_session (a ∷ []) two six limits is = is
+other_session (a ∷ b ∷ []) two six limits is = two refl
+other_session (a ∷ b ∷ c ∷ []) two six limits is = is
+other_session (a ∷ b ∷ c ∷ d ∷ []) two six limits is = is
+other_session (a ∷ b ∷ c ∷ d ∷ e ∷ []) two six limits is = is
+other_session (a ∷ b ∷ c ∷ d ∷ e ∷ f ∷ []) two six limits is = six refl
+other_session (a ∷ b ∷ c ∷ d ∷ e ∷ f ∷ g ∷ more) two six limits is = is
+
+other_generate : (words : List (List ℕ)) → length words ≢ 4 → (start : ℕ) → ¬ AreGenerateWords words start
+other_generate [] four start is = is
+other_generate (a ∷ []) four start is = is
+other_generate (a ∷ b ∷ []) four start is = is
+other_generate (a ∷ b ∷ c ∷ []) four start is = is
+other_generate (a ∷ b ∷ c ∷ d ∷ []) four start is = four refl
+other_generate (a ∷ b ∷ c ∷ d ∷ e ∷ more) four start is = is
+
+pub other_number : (words : List (List ℕ)) → length words ≢ 2 → length words ≢ 4 → length words ≢ 6 → AreNoWords words
+other_number words two four six = record { no_session = other_session words two six; no_generate = other_generate words four }
 
 -- ---- numbers
 
@@ -55,15 +68,17 @@ agree xs ys e = (bytes_eq-Decides xs ys).0 (by (bytes_eq xs ys) e)
     by true e = refl
     by false e = absurd (let f = e in cc)
 
--- ---- six words
+-- ---- four words, and six
 
-pub when_some : {T : Type 0} {P Q : T → Type 0} (o : Option T) → IfSome o P → ((x : T) → P x → Q x) → IfSome o Q
-when_some (Some x) h f = f x h
-when_some None h f = tt
+-- a word's bytes, among the bytes of all
+pub at_word : (words : List (String Global)) (k : ℕ) (word : String Global) (bytes : List ℕ) → k < length words → word ≡ get_or words k word → bytes ≡ string_bytes word → bytes ≡ get_or (map string_bytes words) k bytes
+at_word words k word bytes lt is e = e ∙ ap string_bytes is ∙ sym (get_or-map string_bytes words k word bytes lt)
 
-pub when_none : {T : Type 0} {P Q : Type 0} (o : Option T) → IfNone o P → (P → Q) → IfNone o Q
-when_none (Some x) h f = tt
-when_none None h f = f h
+pub four_words : (ws : List (List ℕ)) (folder option number : List ℕ) → length ws ≡ 4 → folder ≡ get_or ws 1 folder → option ≡ get_or ws 2 option → number ≡ get_or ws 3 number
+    → is_folder folder ≡ true → option ≡ codes "--generate" → (start : ℕ) → number ≡ decimal start → start < 2 ^ 32 → AreGenerateWords ws start
+four_words (a ∷ b ∷ c ∷ d ∷ []) folder option number four is-folder is-option is-number right named start is fits =
+    (ap is_folder (sym is-folder) ∙ right, sym is-option ∙ named, sym is-number ∙ is, fits)
+four_words other folder option number four is-folder is-option is-number right named start is fits = absurd (omega (arith, four))
 
 pub six_words : (ws : List (List ℕ)) (folder option entries text flush : List ℕ) → length ws ≡ 6 → folder ≡ get_or ws 1 folder → option ≡ get_or ws 2 option → entries ≡ get_or ws 3 entries → text ≡ get_or ws 4 text → flush ≡ get_or ws 5 flush
     → is_folder folder ≡ true → option ≡ codes "--limits" → (limits : LimitsView) → SpellLimits entries text flush limits → AreWords ws limits
@@ -71,6 +86,15 @@ six_words (a ∷ b ∷ c ∷ d ∷ e ∷ f ∷ []) folder option entries text fl
     (ap is_folder (sym is-folder) ∙ right, sym is-option ∙ named, rw (is-entries, is-text, is-flush) at s)
 six_words other folder option entries text flush six is-folder is-option is-entries is-text is-flush right named limits s = absurd (omega (arith, six))
 
+six_generates : (ws : List (List ℕ)) → length ws ≡ 6 → (start : ℕ) → ¬ AreGenerateWords ws start
+six_generates ws six = other_generate ws (λ four. omega (arith, six, four))
+
 pub six_no_words : (ws : List (List ℕ)) (entries text flush : List ℕ) → length ws ≡ 6 → entries ≡ get_or ws 3 entries → text ≡ get_or ws 4 text → flush ≡ get_or ws 5 flush → SpellNoLimits entries text flush → AreNoWords ws
-six_no_words (a ∷ b ∷ c ∷ d ∷ e ∷ f ∷ []) entries text flush six is-entries is-text is-flush none limits is = none limits (rw (is-entries, is-text, is-flush) is.2)
-six_no_words other entries text flush six is-entries is-text is-flush none limits is = absurd (omega (arith, six))
+six_no_words ws entries text flush six is-entries is-text is-flush none = record {
+  no_session = no_limits ws six is-entries is-text is-flush;
+  no_generate = six_generates ws six;
+}
+  where
+    no_limits : (ws : List (List ℕ)) → length ws ≡ 6 → entries ≡ get_or ws 3 entries → text ≡ get_or ws 4 text → flush ≡ get_or ws 5 flush → (limits : LimitsView) → ¬ AreWords ws limits
+    no_limits (a ∷ b ∷ c ∷ d ∷ e ∷ f ∷ []) six is-entries is-text is-flush limits is = none limits (rw (is-entries, is-text, is-flush) is.2)
+    no_limits other six is-entries is-text is-flush limits is = absurd (omega (arith, six))

@@ -11,9 +11,10 @@ use Rattle.green_store.specs.Opening.{IsOpenedFrom, IsDamagedLog, ReadsAsBefore,
 use Rattle.green_top.specs.declared.report.Report.{Report}
 use Rattle.green_top.specs.declared.session_end.SessionEnd.{SessionEnd}
 use Rattle.green_top.specs.declared.session_end.SessionEnd.TheVariants as ends
+use Rattle.green_top.specs.GeneratedRun.{IsGeneratedRun}
 use Rattle.green_top.specs.IoState.{IoState, with_disk_faults}
 use Rattle.green_top.specs.Outcome.{IsRun}
-use Rattle.green_top.specs.Words.{AreWords, AreNoWords}
+use Rattle.green_top.specs.Words.{AreWords, AreGenerateWords, AreNoWords, HasLimits}
 
 -- the status of a run whose session ended so
 abbrev pub status_of : SessionEnd → ℕ
@@ -61,7 +62,7 @@ pub record IsUsage (words : List (List ℕ)) (before after : IoState) (place sta
 -- the words are a form of the program, but the store was not opened: the status and the place tell why
 pub record IsNotOpened (words : List (List ℕ)) (reads left : Option Areas) (before after : IoState) (place status : ℕ) : Type 0 where
   pub limits : LimitsView
-  pub words_are : AreWords words limits
+  pub words_are : HasLimits words limits
   pub fault : OpenFault
   pub cause : FaultCause fault reads left before after
   pub status_is : status ≡ fault_status fault
@@ -89,11 +90,25 @@ pub record Opened (words : List (List ℕ)) (reads : Option Areas) (before after
   pub opened_is : report.opened ≡ length opened
   pub run : IsRun limits opened before after (plain_history report.history.items) report.points.items report.bytes_read end
 
+-- A back end opened so under the standard limits, and the session that the words' start generates ended so. No byte of the source
+-- was read.
+pub record OpenedGenerated (words : List (List ℕ)) (reads : Option Areas) (before after : IoState) (report : Report) (status : ℕ) : Type 0 where
+  pub start : ℕ
+  pub opened : List PlainEntry
+  pub end : SessionEnd
+  pub words_are : AreGenerateWords words start
+  pub from : IsOpenedFrom reads opened
+  pub status_is : status ≡ status_of end
+  pub place_is : report.place ≡ 0
+  pub opened_is : report.opened ≡ length opened
+  pub counted : report.bytes_read ≡ 0
+  pub run : IsGeneratedRun start opened before after (plain_history report.history.items) report.points.items end
+
 -- A call from this source, sink and disk to those left the report and answered the status. The areas of the disk read this
 -- before, and that after, where it tells that.
 abbrev pub IsBatch : List (List ℕ) → Option Areas → Option Areas → IoState → IoState → Report → ℕ → Type 0
 IsBatch words reads left before after report status =
-    NothingOpened words reads left before after report status ⊎ Opened words reads before after report status
+    NothingOpened words reads left before after report status ⊎ Opened words reads before after report status ⊎ OpenedGenerated words reads before after report status
 
 -- The log was not told to be damaged, and no entry of it is lost: the history is these and a restart, and then what came
 -- behind them, unless nothing was opened.

@@ -10,7 +10,7 @@ use Rattle.world_rules.specs.History.{kept, is_live}
 use Rattle.green_store.specs.Durable.{IsEdit, HoldsWith}
 use Rattle.green_store.specs.Opening.{opened_with}
 use Rattle.green_store.specs.Sessions.{greatest_session}
-use Rattle.green_top.specs.Words.{AreWords}
+use Rattle.green_top.specs.Words.{HasLimits}
 
 -- the history begins with this front, which has at least so many entries
 pub record IsFront (least : ℕ) (history front : List PlainEntry) : Type 0 where
@@ -47,12 +47,12 @@ pub record WasMade (limits : LimitsView) (session least : ℕ) (history : List P
 abbrev pub HoldsRun : List (List ℕ) → Option Areas → List PlainEntry → List PlainEntry → Areas → Type 0
 HoldsRun words reads entries history image =
     HoldsAsRead entries reads image
-    ⊎ ((limits : LimitsView) × AreWords words limits × HoldsFront limits (greatest_session (opened_with entries) + 1) (length (opened_with entries)) history image)
+    ⊎ ((limits : LimitsView) × HasLimits words limits × HoldsFront limits (greatest_session (opened_with entries) + 1) (length (opened_with entries)) history image)
 
 -- The edit was made in a run with these words, by the session that began on so many first entries of the history.
 abbrev pub WasMadeInRun : List (List ℕ) → ℕ → List PlainEntry → ℕ → ℕ → PlainEntry → Type 0
 WasMadeInRun words opened history faults_before faults_after entry =
-    (limits : LimitsView) × AreWords words limits × WasMade limits (greatest_session (take opened history) + 1) opened history faults_before faults_after entry
+    (limits : LimitsView) × HasLimits words limits × WasMade limits (greatest_session (take opened history) + 1) opened history faults_before faults_after entry
 
 -- After a run that opened with so many entries, a crash leaves a whole log with the kept entries of the history that is
 -- reported, all of them, and, where the disk failed, perhaps one edit more that was refused.

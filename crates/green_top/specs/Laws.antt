@@ -14,7 +14,7 @@ use Rattle.green_top.specs.declared.report.Report.{Report}
 use Rattle.green_top.specs.Batch.{IsBatch, NothingOpened}
 use Rattle.green_top.specs.Ends.{most_input}
 use Rattle.green_top.specs.IoState.{IoState}
-use Rattle.green_top.specs.Words.{AreWords}
+use Rattle.green_top.specs.Words.{AreWords, AreGenerateWords}
 
 -- neither the source's count of faults rose, nor the sink's, nor the disk's
 pub record NoFaults (before after : IoState) : Type 0 where
@@ -52,4 +52,11 @@ DamageIsTold = (words : List (List ℕ)) (reads left : Option Areas) (before aft
 abbrev pub Completeness : Type 0
 Completeness = (words : List (List ℕ)) (limits : LimitsView) (reads left : Option Areas) (before after : IoState) (report : Report) (status : ℕ)
     → AreWords words limits → HasSession before.left → HasLog reads → NoFaults before after → IsBatch words reads left before after report status
+    → (status ≡ 0) ⊎ (status ≡ 9)
+
+-- With words that generate a session, a log that is not damaged, a number left and no fault, the status is 0, or 9 for want of
+-- memory.
+abbrev pub GeneratedCompleteness : Type 0
+GeneratedCompleteness = (words : List (List ℕ)) (start : ℕ) (reads left : Option Areas) (before after : IoState) (report : Report) (status : ℕ)
+    → AreGenerateWords words start → HasLog reads → NoFaults before after → IsBatch words reads left before after report status
     → (status ≡ 0) ⊎ (status ≡ 9)

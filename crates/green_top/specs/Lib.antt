@@ -45,7 +45,9 @@ pub mod Ends
 pub mod Outcome
 pub mod Words
 pub mod Crash
-pub mod Batch
 pub mod Generated
+pub mod Summary
+pub mod GeneratedRun
+pub mod Batch
 pub mod Laws
 pub mod inside

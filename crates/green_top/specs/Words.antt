@@ -1,5 +1,5 @@
 -- The words of a command line that are a form of the program.
-use Rattle.std.specs.Prelude.{◌≡◌, ℕ, Bool, false, true, not, List, [], ◌∷◌, ◌==◌, codes, decimal}
+use Rattle.std.specs.Prelude.{◌≡◌, ◌⊎◌, ℕ, ◌<◌, ◌^◌, Bool, false, true, not, List, [], ◌∷◌, ◌==◌, codes, decimal}
 use Rattle.febe_data.specs.LimitsView.{LimitsView, AreLimits, standard_limits}
 
 -- a folder's word is not empty, and does not begin with a hyphen
@@ -25,6 +25,16 @@ AreWords (name ∷ folder ∷ []) limits = (is_folder folder ≡ true) × (limit
 AreWords (name ∷ folder ∷ option ∷ entries ∷ text ∷ flush ∷ []) limits = (is_folder folder ≡ true) × (option ≡ codes "--limits") × SpellLimits entries text flush limits
 AreWords other limits = ⊥
 
+-- The words are the program's name, a folder, `--generate`, and a decimal number of 32 bits without sign or leading zeros.
+abbrev pub AreGenerateWords : List (List ℕ) → ℕ → Type 0
+AreGenerateWords (name ∷ folder ∷ option ∷ number ∷ []) start = (is_folder folder ≡ true) × (option ≡ codes "--generate") × (number ≡ decimal start) × (start < 2 ^ 32)
+AreGenerateWords other start = ⊥
+
 -- the words are no form of the program
-abbrev pub AreNoWords : List (List ℕ) → Type 0
-AreNoWords words = (limits : LimitsView) → ¬ AreWords words limits
+pub record AreNoWords (words : List (List ℕ)) : Type 0 where
+  pub no_session : (limits : LimitsView) → ¬ AreWords words limits
+  pub no_generate : (start : ℕ) → ¬ AreGenerateWords words start
+
+-- the limits of a run with these words: a generated session has the standard ones
+abbrev pub HasLimits : List (List ℕ) → LimitsView → Type 0
+HasLimits words limits = AreWords words limits ⊎ (((start : ℕ) × AreGenerateWords words start) × (limits ≡ standard_limits))

@@ -4,3 +4,6 @@ pub mod Next
 pub mod Progress
 pub mod Conversation
 pub mod Enduring
+pub mod Kept
+pub mod Summing
+pub mod Forms

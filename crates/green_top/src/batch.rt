@@ -1,18 +1,25 @@
 //! One run of the program.
-ghost use Rattle.std.specs.Prelude.{◌≡◌, ◌≤◌, List, map, string_bytes, IsSome};
+ghost use Rattle.std.specs.Prelude.{◌≡◌, ◌+◌, ◌≤◌, [], List, map, string_bytes, IsSome};
 ghost use Rattle.febe_data.specs.Plain.{PlainEntry, plain_history};
 ghost use Rattle.green_io.specs.Areas.{Areas};
 ghost use Rattle.green_io.specs.Disk.{images_now, LeavesOnly, LeavesOthers};
 ghost use Rattle.edit_log.specs.Images.{AsRead};
 ghost use Rattle.edit_log.specs.Log.{IsWhole};
+ghost use Rattle.world_rules.specs.Placed.{AllPlaced};
+ghost use Rattle.world_rules.specs.World.{empty_world};
+ghost use Rattle.green_store.specs.Sessions.{greatest_session};
 ghost use Rattle.green_top.specs.IoState.{io_state};
 ghost use Rattle.green_top.specs.Batch.{IsBatch, BeginsWith, fault_status, fault_place};
 ghost use Rattle.green_top.specs.Crash.{HoldsRun, HoldsAll};
 ghost use Rattle.green_top.specs.Words.{AreNoWords};
+ghost use Rattle.green_top.specs.inside.Enduring.{Endures};
+ghost use Rattle.green_top.specs.inside.Forms.{limits_of, IsFormRun};
 
+use crate::generate::serve_generated;
 use crate::report::Report;
 use crate::session::serve;
-use crate::words::limits_in;
+use crate::session_end::SessionEnd;
+use crate::words::{Form, form_in};
 use green_io::{Area, Disk, Sink, Source};
 use green_store::laws::images_are_kept;
 use green_store::{OpenFault, Store};
@@ -42,12 +49,38 @@ fn place_of(fault: OpenFault) -> u64
     }
 }
 
+/// Serves the session of this form over a store that has just opened.
+fn serve_form<S: Source, K: Sink, D: Disk>(
+    alloc: Global,
+    form: &Form,
+    store: &mut Store,
+    source: &mut S,
+    sink: &mut K,
+    disk: &mut D,
+    report: &mut Report,
+) -> SessionEnd
+    requires placed { AllPlaced empty_world store.old.history }
+    requires no_points { report.old.points.items ≡ [] }
+    requires limits { store.old.limits ≡ limits_of form.now }
+    ensures run { IsFormRun form.now store.old.history
+        (io_state (S.left source.old) (S.fault_count source.old) (K.taken sink.old) (K.fault_count sink.old) (D.fault_count disk.old))
+        (io_state (S.left source.new) (S.fault_count source.new) (K.taken sink.new) (K.fault_count sink.new) (D.fault_count disk.new))
+        store.new.history report.new.points.items report.new.bytes_read result }
+    ensures endures { Endures store.old.limits (greatest_session store.old.history + 1) (D.state disk.old) store.old (D.fault_count disk.old) (D.state disk.new) store.new (D.fault_count disk.new) }
+{
+    match form {
+        Form::Session { .. } => serve(alloc, store, source, sink, disk, report),
+        Form::Generate { start } => serve_generated(alloc, *start, store, sink, disk, report),
+    }
+}
+
 /// Runs one session over the log of a disk: opens it, answers the session's requests as they come from the source, writes each
 /// reply to the sink before it reads on, and reports the history.
 ///
 /// The words are the program's name and a folder, and perhaps `--limits` with the greatest numbers of kept entries and
-/// of content bytes and the number of entries between pages, each in decimal. The number is the status that the program
-/// ends with: 0 where a quit was answered or the input ended between requests, 2 where the words are wrong, 3 where the
+/// of content bytes and the number of entries between pages, each in decimal. Or behind the folder stands `--generate` with a
+/// number, from which the session's 2,010 requests are made: the source is left alone, and in place of the replies a summary of
+/// seven lines is written once the session is over. The number is the status that the program ends with: 0 where a quit was answered or the input ended between requests, 2 where the words are wrong, 3 where the
 /// input is malformed and 4 where it is cut off, both with the place, 5 and 6 where the source or the sink failed, 7 where the
 /// disk failed while the log was opened, 8 where the log is damaged, with the place, 9 for want of memory, 10 where as many
 /// bytes were read as a session may give and another read was needed, and 11 where no session number is left. Replies to
@@ -76,10 +109,10 @@ pub fn run_batch<S: Source, K: Sink, D: Disk>(
     ensures never_falls { D.fault_count disk.old ≤ D.fault_count disk.new }
 {
     *report = Report::new(alloc);
-    let Some(limits) = limits_in(words) else {
+    let Some(form) = form_in(words) else {
         return USAGE;
     };
-    let mut store = match Store::open(alloc, disk, limits) {
+    let mut store = match Store::open(alloc, disk, form.limits()) {
         Ok(store) => store,
         Err(fault) => {
             report.place = place_of(fault);
@@ -87,7 +120,7 @@ pub fn run_batch<S: Source, K: Sink, D: Disk>(
         }
     };
     let opened = store.history().len() as u64;
-    let end = serve(alloc, &mut store, source, sink, disk, report);
+    let end = serve_form(alloc, &form, &mut store, source, sink, disk, report);
     // So each image has what the store has.
     images_are_kept(disk, &store);
     report.opened = opened;

@@ -1,5 +1,6 @@
 //! One request of a session, and its reply.
-ghost use Rattle.std.specs.Prelude.{◌≡◌, ◌≢◌, ◌↔◌, true, IsTrue};
+ghost use Rattle.std.specs.Prelude.{◌≡◌, ◌≢◌, ◌↔◌, ℕ, true, IsTrue};
+ghost use Rattle.febe_data.specs.LimitsView.{LimitsView};
 ghost use Rattle.febe_data.specs.Plain.{plain_request, quit};
 ghost use Rattle.febe_data.specs.Validity.{IsRequest};
 ghost use Rattle.world_rules.specs.History.{is_live};
@@ -76,7 +77,20 @@ fn answer_one<K: Sink, D: Disk>(
     put_reply(alloc, sink, &reply)
 }
 
-/// Takes one request of the session, answers it and writes its reply, or tells what ends the session.
+/// Puts the store's trees right by one small step, and tells whether something was done. Whatever comes of it, the session goes
+/// on as if it had not been made.
+pub(crate) fn tend<D: Disk>(alloc: Global, store: &mut Store, disk: &mut D) -> bool
+    ensures history { store.new.history ≡ store.old.history }
+    ensures limits { store.new.limits ≡ store.old.limits }
+    ensures untouched { disk.new ≡ disk.old }
+    ensures endures { (limits : LimitsView) (session : ℕ) → Endures limits session (D.state disk.old) store.old (D.fault_count disk.old) (D.state disk.new) store.new (D.fault_count disk.new) }
+{
+    let answer = store.step(alloc, disk, Step::Background);
+    matches!(&answer, StepAnswer::Balanced | StepAnswer::Swept)
+}
+
+/// Takes one request of the session, answers it and writes its reply, or tells what ends the session. Once a reply is written
+/// the store's trees are put right by one small step.
 pub(crate) fn answer_next<S: Source, K: Sink, D: Disk>(
     alloc: Global,
     store: &mut Store,
@@ -103,9 +117,13 @@ pub(crate) fn answer_next<S: Source, K: Sink, D: Disk>(
     };
     let quits = is_quit(&request);
     match answer_one(alloc, store, session, request, sink, disk, points) {
-        Put::Done if quits => Some(SessionEnd::Quit),
-        Put::Done => None,
-        Put::WriteFault => Some(SessionEnd::WriteFault),
-        Put::Memory => Some(SessionEnd::Memory),
+        Put::Done => {}
+        Put::WriteFault => return Some(SessionEnd::WriteFault),
+        Put::Memory => return Some(SessionEnd::Memory),
     }
+    tend(alloc, store, disk);
+    if quits {
+        return Some(SessionEnd::Quit);
+    }
+    None
 }

@@ -1,11 +1,18 @@
 //! Laws of runs. Each is a function that does nothing, whose contract says the law.
-ghost use Rattle.green_top.specs.Laws.{Completeness, DamageIsTold};
+ghost use Rattle.green_top.specs.Laws.{Completeness, GeneratedCompleteness, DamageIsTold};
 
 use edit_log::laws::one_reading;
 
 /// A session's whole input is served over a log that is not damaged, or memory runs out.
 pub fn completeness()
     ensures { Completeness }
+{
+    one_reading();
+}
+
+/// A generated session is served over a log that is not damaged, or memory runs out.
+pub fn generated_completeness()
+    ensures { GeneratedCompleteness }
 {
     one_reading();
 }

@@ -2,12 +2,15 @@
 #![tactic(auto)]
 
 mod batch;
+mod buffers;
 mod exchange;
+mod generate;
 mod generating;
 pub mod laws;
 mod report;
 mod session;
 mod session_end;
+mod summary;
 mod words;
 
 pub use batch::run_batch;

@@ -1,10 +1,32 @@
 //! The words of a command line.
 ghost use Rattle.std.specs.Prelude.{◌≡◌, ◌≢◌, ◌<◌, ◌^◌, ℕ, length, map, decimal, string_bytes, IfSome, IfNone};
 ghost use Rattle.febe_data.specs.LimitsView.{standard_limits};
-ghost use Rattle.green_top.specs.Words.{is_folder, SpellLimits, SpellNoLimits, AreWords, AreNoWords};
+ghost use Rattle.green_top.specs.Words.{is_folder, SpellLimits, SpellNoLimits, AreNoWords};
+ghost use Rattle.green_top.specs.inside.Forms.{limits_of, IsForm};
 
 use febe_data::Limits;
 use itoa::Buffer;
+
+/// What the words of a command line ask for.
+#[derive(Drop)]
+pub(crate) enum Form {
+    /// A session that comes from the source.
+    Session { limits: Limits },
+    /// A session that this number generates.
+    Generate { start: u32 },
+}
+
+impl Form {
+    /// The limits of the run.
+    pub(crate) fn limits(&self) -> Limits
+        ensures { result ≡ limits_of self.now }
+    {
+        match self {
+            Form::Session { limits } => *limits,
+            Form::Generate { .. } => standard_limits(),
+        }
+    }
+}
 
 /// The limits of a run that names none.
 fn standard_limits() -> Limits
@@ -48,28 +70,54 @@ fn named_limits(entries: &str, text: &str, flush: &str) -> Option<Limits>
     Limits::new(entries, text, flush).ok()
 }
 
-/// The limits that six words name, where they are a form of the program.
-fn named_in(words: &[String]) -> Option<Limits>
+/// The form that six words have, where they have one.
+fn six_words(words: &[String]) -> Option<Form>
     requires { length words.now ≡ 6 }
-    ensures some { IfSome result (AreWords (map string_bytes words.now)) }
+    ensures some { IfSome result (IsForm (map string_bytes words.now)) }
     ensures none { IfNone result (AreNoWords (map string_bytes words.now)) }
 {
     if !is_folder(words[1].as_str()) || words[2].as_str() != "--limits" {
         return None;
     }
-    named_limits(words[3].as_str(), words[4].as_str(), words[5].as_str())
+    let limits = named_limits(words[3].as_str(), words[4].as_str(), words[5].as_str())?;
+    Some(Form::Session { limits })
 }
 
-/// The limits that the words name, where they are a form of the program.
-pub(crate) fn limits_in(words: &[String]) -> Option<Limits>
-    ensures some { IfSome result (AreWords (map string_bytes words.now)) }
+/// The form that four words have, where they have one.
+fn four_words(words: &[String]) -> Option<Form>
+    requires { length words.now ≡ 4 }
+    ensures some { IfSome result (IsForm (map string_bytes words.now)) }
     ensures none { IfNone result (AreNoWords (map string_bytes words.now)) }
 {
-    if words.len() == 6 {
-        return named_in(words);
-    }
-    if words.len() != 2 || !is_folder(words[1].as_str()) {
+    if !is_folder(words[1].as_str()) || words[2].as_str() != "--generate" {
         return None;
     }
-    Some(standard_limits())
+    let start = number_of(words[3].as_str())?;
+    Some(Form::Generate { start })
+}
+
+/// The form that two words have, where they have one.
+fn two_words(words: &[String]) -> Option<Form>
+    requires { length words.now ≡ 2 }
+    ensures some { IfSome result (IsForm (map string_bytes words.now)) }
+    ensures none { IfNone result (AreNoWords (map string_bytes words.now)) }
+{
+    if !is_folder(words[1].as_str()) {
+        return None;
+    }
+    let limits = standard_limits();
+    Some(Form::Session { limits })
+}
+
+/// The form of the program that the words have, where they have one.
+pub(crate) fn form_in(words: &[String]) -> Option<Form>
+    ensures some { IfSome result (IsForm (map string_bytes words.now)) }
+    ensures none { IfNone result (AreNoWords (map string_bytes words.now)) }
+{
+    match words.len() {
+        2 => two_words(words),
+        4 => four_words(words),
+        6 => six_words(words),
+        _ => None,
+    }
 }

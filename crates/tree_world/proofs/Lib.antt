@@ -1,4 +1,5 @@
 pub mod Options
+pub mod Measured
 pub mod Found
 pub mod Once
 pub mod Counted
@@ -19,6 +20,9 @@ pub mod FlatRows
 pub mod Tables
 pub mod Roots
 pub mod Holds
+pub mod SameRows
+pub mod Balanced
+pub mod Swept
 pub mod Made
 pub mod Edited
 pub mod Seen

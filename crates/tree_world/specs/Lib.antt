@@ -4,4 +4,5 @@ pub mod Trees
 pub mod Standing
 pub mod Changed
 pub mod Undone
+pub mod Condition
 pub mod inside

@@ -1,6 +1,8 @@
--- How the counts of entries are kept, what specs pick from trees, and what ends are to meet. No public clause cites these.
+-- How the counts of entries are kept, what specs pick from trees, what ends are to meet, and trees of the same rows or without other nodes. No public clause cites these.
 pub mod Counted
 pub mod Seen
 pub mod Met
 pub mod InEnds
 pub mod Asked
+pub mod SameRows
+pub mod Swept

@@ -27,21 +27,6 @@ impl TreeWorld {
         ensures in_place { DropsOnly change.now → IsOk result }
     {
         match change {
-            Change::Restart => {
-                self.restart();
-                Ok(())
-            }
-            Change::Begin => Ok(()),
-            Change::End => {
-                self.end(session);
-                Ok(())
-            }
-            Change::Account { account } => self.set_account(alloc, session, account),
-            Change::Open { document, mode } => self.open(alloc, session, document, mode.copy()),
-            Change::Close { document } => {
-                self.close(session, document);
-                Ok(())
-            }
             Change::Create { document } => self.create(alloc, session, document),
             Change::Version { source, document } => self.version(alloc, session, source, document),
             Change::OpenCopy { source, document } => self.version(alloc, session, source, document),
@@ -66,6 +51,7 @@ impl TreeWorld {
                 to,
                 three,
             } => self.make_link(alloc, home, *number, *place, from, to, three),
+            _ => self.change_beside(alloc, session, change),
         }
     }
 

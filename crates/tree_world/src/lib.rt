@@ -2,6 +2,8 @@
 #![tactic(auto, using(crate::proofs::Counted::by_session))]
 
 mod applying;
+mod balancing;
+mod beside;
 mod counts;
 mod documents;
 mod editing;
@@ -14,6 +16,7 @@ mod link_making;
 mod linking;
 mod lookups;
 mod making;
+mod measures;
 mod numbers;
 mod picking;
 mod positions;
@@ -21,10 +24,13 @@ mod relating;
 mod retrieving;
 mod run_spans;
 mod sessions;
+mod sweeping;
+mod tending;
 #[cfg(test)]
 mod tests;
 mod undoing;
 mod world;
 
+pub use tending::Tends;
 pub use undoing::{Undo, Undoes};
 pub use world::TreeWorld;

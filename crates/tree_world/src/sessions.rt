@@ -4,6 +4,7 @@ ghost use Rattle.febe_data.specs.declared.access.Mode.TheVariants.{Write};
 ghost use Rattle.febe_data.specs.Plain.{restarted, ended, account_changed, document_opened, document_closed};
 ghost use Rattle.world_rules.specs.FlatView.{FlatView};
 ghost use Rattle.tree_world.specs.Standing.{Stands};
+ghost use Rattle.tree_world.specs.Condition.{condition_of};
 ghost use Rattle.tree_world.specs.Changed.{after_change, MayWrite};
 
 use crate::world::TreeWorld;
@@ -36,6 +37,7 @@ impl TreeWorld {
     pub(crate) fn restart(&mut self)
         ensures stands { (view : FlatView) (session : ℕ) → Stands self.old view → Stands self.new (after_change view session restarted) }
         ensures sessions { self.new.sessions ≡ self.old.sessions }
+        ensures beside { condition_of self.new ≡ condition_of self.old }
     {
         self.access = AccessTable::new(self.alloc);
     }
@@ -44,6 +46,7 @@ impl TreeWorld {
     pub(crate) fn end(&mut self, session: u64)
         ensures stands { (view : FlatView) → Stands self.old view → Stands self.new (after_change view session ended) }
         ensures sessions { self.new.sessions ≡ self.old.sessions }
+        ensures beside { condition_of self.new ≡ condition_of self.old }
     {
         self.access.end(session);
     }
@@ -58,6 +61,7 @@ impl TreeWorld {
         ensures ok { (view : FlatView) → Stands self.old view → OnOk result (Stands self.new (after_change view session (account_changed account.now))) }
         ensures err { OnErr result (self.new ≡ self.old) }
         ensures sessions { self.new.sessions ≡ self.old.sessions }
+        ensures beside { condition_of self.new ≡ condition_of self.old }
     {
         self.access.set_account(alloc, session, account)?;
         Ok(())
@@ -74,6 +78,7 @@ impl TreeWorld {
         ensures ok { (view : FlatView) → Stands self.old view → OnOk result (Stands self.new (after_change view session (document_opened document.now mode))) }
         ensures err { OnErr result (self.new ≡ self.old) }
         ensures sessions { self.new.sessions ≡ self.old.sessions }
+        ensures beside { condition_of self.new ≡ condition_of self.old }
     {
         if !may_open(&self.access, session, document, mode) {
             return Err(Memory);
@@ -86,6 +91,7 @@ impl TreeWorld {
     pub(crate) fn close(&mut self, session: u64, document: &Tumbler)
         ensures stands { (view : FlatView) → Stands self.old view → Stands self.new (after_change view session (document_closed document.now)) }
         ensures sessions { self.new.sessions ≡ self.old.sessions }
+        ensures beside { condition_of self.new ≡ condition_of self.old }
     {
         self.access.close(session, document);
     }

@@ -53,10 +53,10 @@ returns-in_default-clause-keeps g c =
     let d = g.D.Disk.state c.args.disk.now in
     let e = g.D.Disk.state c.keep.new.disk in
     let h = plain_history c.self.inside.history.items in
-    let after : StoreView = record { history = plain_history c.reserve.new.self.items; limits = c.self.inside.limits; log = c.keep.new.log } in
+    let after : StoreView = record { history = plain_history c.reserve.new.self.items; limits = c.self.inside.limits; log = c.keep.new.log; trees = g.W.Tends.condition c.undo.new.self; base = c.self.inside.base } in
     subst (λ (v : StoreView). (pending : Option PlainEntry) → Keeps d v pending → KeepsEdit v pending (entry_after v.history c.args.session (plain_effect c.args.made)) after (refused Disk) e)
     c.self.view_is
-    (λ pending has. stays_pending (record { history = h; limits = c.self.inside.limits; log = c.self.inside.log }) after e pending (entry_after h c.args.session (plain_effect c.args.made)) (refused Disk) (ap plain_history c.reserve.ensures.items) refl
+    (λ pending has. stays_pending (record { history = h; limits = c.self.inside.limits; log = c.self.inside.log; trees = g.W.Tends.condition c.self.inside.world; base = c.self.inside.base }) after e pending (entry_after h c.args.session (plain_effect c.args.made)) (refused Disk) (ap plain_history c.reserve.ensures.items) refl
     (c.in_default.ensures.pending (kept h) pending (entry_after h c.args.session (plain_effect c.args.made)) (ready g (goal.at.returns-in_default-clause-keeps g c).After-keep) has))
 
 -- ---- where it did not
@@ -99,7 +99,7 @@ returns-clause-keeps g c =
     let h = plain_history c.self.inside.history.items in
     let entry = entry_after h c.args.session (plain_effect c.args.made) in
     let at_keep = (goal.at.returns-clause-keeps g c).After-keep in
-    let after : StoreView = record { history = plain_history c.push_reserved.new.self.items; limits = c.self.inside.limits; log = c.keep.new.log } in
+    let after : StoreView = record { history = plain_history c.push_reserved.new.self.items; limits = c.self.inside.limits; log = c.keep.new.log; trees = g.W.Tends.condition c.apply_with_undo.new.self; base = c.self.inside.base } in
     subst (λ (v : StoreView). (pending : Option PlainEntry) → Keeps d v pending → KeepsEdit v pending (entry_after v.history c.args.session (plain_effect c.args.made)) after (plain_reply c.args.made.reply) e)
     c.self.view_is
     (λ pending has. inl (has_one_more e c.keep.new.log h (plain_history c.push_reserved.new.self.items) entry (may_here g at_keep).counted (history_grows g (goal.at.returns-clause-keeps g c).After-push_reserved)

@@ -5,9 +5,6 @@ use Rattle.tree_world.specs.Standing.{Stands}
 use Rattle.tree_world.specs.Changed.{after_change}
 use Rattle.tree_world.proofs.world.TreeWorld.change.Goals as goal
 
-pub returns-in-Restart-clause-ok : goal.returns-in-Restart-clause-ok
-returns-in-Restart-clause-ok c view stands = subst (λ x. Stands c.restart.new.self (after_change view c.args.session (plain_change x))) (sym c.in-Restart.is) (c.restart.ensures.stands view c.args.session stands)
-
 pub returns-in-Insert-clause-ok : goal.returns-in-Insert-clause-ok
 returns-in-Insert-clause-ok c view stands =
     subst (λ x. OnOk c.insert.result (Stands c.insert.new.self (after_change view c.args.session (plain_change x)))) (sym c.in-Insert.is)
@@ -21,8 +18,8 @@ returns-in-Rearrange-clause-ok c view stands = subst (λ x. OnOk c.rearrange.res
 
 pub returns-in-Copy-clause-ok : goal.returns-in-Copy-clause-ok
 returns-in-Copy-clause-ok c view stands =
-    subst (λ x. OnOk c.copy-in-Copy.result (Stands c.copy-in-Copy.new.self (after_change view c.args.session (plain_change x)))) (sym c.in-Copy.is)
-    (subst (λ specs. OnOk c.copy-in-Copy.result (Stands c.copy-in-Copy.new.self (after_change view c.args.session (specs_copied c.in-Copy.document c.in-Copy.at (plain_specs specs))))) c.as_slice-in-Copy.ensures (c.copy-in-Copy.ensures.ok view c.args.session stands))
+    subst (λ x. OnOk c.copy.result (Stands c.copy.new.self (after_change view c.args.session (plain_change x)))) (sym c.in-Copy.is)
+    (subst (λ specs. OnOk c.copy.result (Stands c.copy.new.self (after_change view c.args.session (specs_copied c.in-Copy.document c.in-Copy.at (plain_specs specs))))) c.as_slice-in-Copy.ensures (c.copy.ensures.ok view c.args.session stands))
 
 pub returns-in-Link-clause-ok : goal.returns-in-Link-clause-ok
 returns-in-Link-clause-ok c view stands = subst (λ x. OnOk c.make_link.result (Stands c.make_link.new.self (after_change view c.args.session (plain_change x)))) (sym c.in-Link.is) (c.make_link.ensures.ok view c.args.session stands)

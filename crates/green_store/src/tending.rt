@@ -1,0 +1,37 @@
+//! Trees are put right by small steps, in a store and while one is built.
+ghost use Rattle.std.specs.Prelude.{IfOk, OnErr};
+ghost use Rattle.world_rules.specs.FlatView.{FlatView};
+ghost use Rattle.green_store.specs.inside.{IsTended, IsPutOffFor};
+
+use febe_data::Memory;
+use std::alloc::Global;
+use tree_world::Tends;
+
+/// What one small step has put right.
+#[derive(Clone, Copy)]
+pub(crate) enum Tended {
+    /// A tree, by one step of the balancer.
+    Balanced,
+    /// The nodes that no tree reaches are gone.
+    Swept,
+    /// Nothing.
+    Idle,
+}
+
+/// Makes one step of the balancer where some tree allows one. Where none does, it lets go of the nodes that no tree reaches,
+/// if the trees have over twice as many nodes as they had after the last sweep, and 1,024 more.
+pub(crate) fn tend<W: Tends>(alloc: Global, world: &mut W, base: &mut u64) -> Result<Tended, Memory>
+    ensures stands { (view : FlatView) → W.stands world.old view → W.stands world.new view }
+    ensures tended { IfOk result (λ done. IsTended (W.condition world.old) base.old done (W.condition world.new) base.new) }
+    ensures err { OnErr result (IsPutOffFor (W.condition world.old) base.old (W.condition world.new) base.new) }
+{
+    if world.balance()? {
+        return Ok(Tended::Balanced);
+    }
+    if u128::from(world.nodes()) <= 2 * u128::from(*base) + 1_024 {
+        return Ok(Tended::Idle);
+    }
+    world.sweep(alloc)?;
+    *base = world.nodes();
+    Ok(Tended::Swept)
+}

@@ -1,0 +1,62 @@
+-- What a run does that makes its session's requests itself.
+use Rattle.std.specs.Prelude.{◌≡◌, ◌⊎◌, ℕ, ◌+◌, ◌^◌, ◌<◌, ◌≤◌, List, [], ◌++◌}
+use Rattle.std.specs.Io.KnownBytes.{Appends}
+use Rattle.febe_data.specs.LimitsView.{standard_limits}
+use Rattle.febe_data.specs.Plain.{PlainRequest, PlainEntry}
+use Rattle.green_io.specs.Outside.{HasRisen}
+use Rattle.world_rules.specs.Apply.{world_of}
+use Rattle.green_store.specs.Sessions.{greatest_session}
+use Rattle.green_top.specs.declared.session_end.SessionEnd.{SessionEnd}
+use Rattle.green_top.specs.declared.session_end.SessionEnd.TheVariants as ends
+use Rattle.green_top.specs.Ends.{AllNumbersTaken}
+use Rattle.green_top.specs.Generated.{generated_requests}
+use Rattle.green_top.specs.IoState.{IoState}
+use Rattle.green_top.specs.Outcome.{NoSession, IsOver}
+use Rattle.green_top.specs.Summary.{replies_of, summary_of}
+use Rattle.green_top.specs.Transcript.{IsPrefixOf}
+
+-- these requests are the first of all
+abbrev pub AreFirstOf : List PlainRequest → List PlainRequest → Type 0
+AreFirstOf requests all = (more : List PlainRequest) × (all ≡ requests ++ more)
+
+-- How many of the requests were answered, and how much of the summary was written, in a session that ended so: all, and the whole
+-- of it, after a quit; all, and a prefix of it, where the sink failed; some, and none of it, where there was no memory.
+abbrev pub AnsweredAndSummed : SessionEnd → (all answered : List PlainRequest) (summary written : List ℕ) → Type 0
+AnsweredAndSummed ends.Quit all answered summary written = (answered ≡ all) × (written ≡ summary)
+AnsweredAndSummed ends.WriteFault all answered summary written = (answered ≡ all) × IsPrefixOf written summary
+AnsweredAndSummed ends.Memory all answered summary written = AreFirstOf answered all × (written ≡ [])
+AnsweredAndSummed other all answered summary written = ⊥
+
+-- the sink failed where the session ended so for that
+abbrev pub SinkFailed : SessionEnd → IoState → IoState → Type 0
+SinkFailed ends.WriteFault before after = HasRisen before.sink_faults after.sink_faults
+SinkFailed other before after = Unit {0}
+
+-- no session began, for want of a number or of memory
+abbrev pub CouldNotBegin : SessionEnd → List PlainEntry → Type 0
+CouldNotBegin ends.NoNumber opened = AllNumbersTaken opened
+CouldNotBegin ends.Memory opened = Unit {0}
+CouldNotBegin other opened = ⊥
+
+-- The session with the next number began, answered the requests that this start generates, or the first of them, and ended so;
+-- and the summary of its replies and of the world that it left was written.
+pub record IsSummedSession (start : ℕ) (opened : List PlainEntry) (end : SessionEnd) (written : List ℕ) (history : List PlainEntry) (points : List ℕ) (faults_before faults_after : ℕ) : Type 0 where
+  pub session : ℕ
+  pub number_is : session ≡ greatest_session opened + 1
+  pub has_number : session < 2 ^ 64
+  pub answered : List PlainRequest
+  pub output : List ℕ
+  pub over : IsOver standard_limits opened session history points answered output faults_before faults_after
+  pub answered_and_summed : AnsweredAndSummed end (generated_requests start) answered (summary_of start (replies_of over.transcript.exchanges) (world_of history)) written
+
+-- A back end that opened with this history held a session that this start generates, with the standard limits, and left this history
+-- and these points. The source was left alone, and the sink took of the summary what was written.
+pub record IsGeneratedRun (start : ℕ) (opened : List PlainEntry) (before after : IoState) (history : List PlainEntry) (points : List ℕ) (end : SessionEnd) : Type 0 where
+  pub written : List ℕ
+  pub left_stays : after.left ≡ before.left
+  pub source_faults_stay : after.source_faults ≡ before.source_faults
+  pub appended : Appends before.taken after.taken written
+  pub sink_never_falls : before.sink_faults ≤ after.sink_faults
+  pub disk_never_falls : before.disk_faults ≤ after.disk_faults
+  pub cause : SinkFailed end before after
+  pub leaves : (CouldNotBegin end opened × NoSession opened history points written) ⊎ IsSummedSession start opened end written history points before.disk_faults after.disk_faults

@@ -1,0 +1,26 @@
+-- The forms of the program's words.
+use Rattle.std.specs.Prelude.{◌≡◌, ℕ, List}
+use Rattle.febe_data.specs.LimitsView.{LimitsView, standard_limits}
+use Rattle.green_top.specs.declared.words.Form.{Form}
+use Rattle.green_top.specs.declared.words.Form.TheVariants as forms
+use Rattle.febe_data.specs.Plain.{PlainEntry}
+use Rattle.green_top.specs.declared.session_end.SessionEnd.{SessionEnd}
+use Rattle.green_top.specs.GeneratedRun.{IsGeneratedRun}
+use Rattle.green_top.specs.IoState.{IoState}
+use Rattle.green_top.specs.Outcome.{IsRun}
+use Rattle.green_top.specs.Words.{AreWords, AreGenerateWords}
+
+-- the limits of a run of this form
+abbrev pub limits_of : Form → LimitsView
+limits_of (forms.Session limits) = limits
+limits_of (forms.Generate start) = standard_limits
+
+-- the words have this form
+abbrev pub IsForm : List (List ℕ) → Form → Type 0
+IsForm words (forms.Session limits) = AreWords words limits
+IsForm words (forms.Generate start) = AreGenerateWords words start
+
+-- a run of this form, over a store that opened with this history
+abbrev pub IsFormRun : Form → (opened : List PlainEntry) → (before after : IoState) → (history : List PlainEntry) → (points : List ℕ) → (bytes_read : ℕ) → SessionEnd → Type 0
+IsFormRun (forms.Session limits) opened before after history points bytes_read end = IsRun limits opened before after history points bytes_read end
+IsFormRun (forms.Generate start) opened before after history points bytes_read end = IsGeneratedRun start opened before after history points end × (bytes_read ≡ 0)

@@ -1,0 +1,219 @@
+-- What trees hold after each was copied into an arena of its own.
+use Rattle.std.proofs.Common.{◌≡◌, ◌∙◌, ℕ, zero, suc, ◌+◌, ◌<◌, ◌≤◌, ◌||◌, not, Bool, true, false, cond, List, [], ◌∷◌, ◌++◌, length, take, map, get_or, slice_get, Option, Some, None, refl, sym, ap, subst, true≢false, arith}
+use Rattle.std.specs.Prelude.{All}
+use Rattle.std.specs.List.{find, Contains}
+use Rattle.std.specs.Option.{option_map, unwrap_or}
+use Rattle.std.proofs.lemmas.List.{take_all, map_more}
+use Rattle.std.proofs.lemmas.List.Elements.{All-nil, All-cons, All-head, All-tail, All-weaker, All-map, All-more, All-contains_itself}
+use Rattle.enfilade_core.specs.declared.tree.Node.{Node}
+use Rattle.enfilade_core.specs.declared.tree.Row.{Row}
+use Rattle.enfilade_core.specs.Rows.{Shape, rows_of}
+use Rattle.enfilade_core.specs.Standing.{tree_allows}
+use Rattle.enfilade_sweep.specs.Sweep.{is_root, IsSwept, numbers, are_held}
+use Rattle.granfilade.specs.Content.{ContentTree}
+use Rattle.spanfilade.specs.Index.{IndexTree, rows_in_index}
+use Rattle.links.specs.LinkLists.{LinkLists}
+use Rattle.poom.specs.Laid as laid
+use Rattle.poom.specs.Laid.{IsRoot, IsOneDocument}
+use Rattle.doc_table.specs.declared.rows.DocumentRow.{DocumentRow}
+use Rattle.doc_table.specs.DocumentRows.{is_of, documents_in, content_in, root_in, with_roots}
+use Rattle.world_rules.specs.FlatView.{FlatView}
+use Rattle.tree_world.specs.Trees.{Trees, AreSound, text_at, links_at}
+use Rattle.tree_world.specs.Standing.{Stands}
+use Rattle.tree_world.specs.Condition.{roots_in, reached_of}
+use Rattle.tree_world.specs.inside.SameRows.{SameRows}
+use Rattle.tree_world.specs.inside.Swept.{IsSweptContent, IsSweptIndex, AreSweptDocuments}
+use Rattle.tree_world.proofs.SameRows.{stands_over, sound_over}
+use Rattle.tree_world.proofs.Roots.{RootsStand}
+
+abbrev root_of : Option (DocumentRow Node) → Option Node
+root_of found = option_map (λ (row : DocumentRow Node). row.root) found
+
+abbrev content_of : Option (DocumentRow Node) → ℕ
+content_of found = unwrap_or (option_map (λ (row : DocumentRow Node). row.content) found) 0
+
+-- ---- roots
+
+abbrev pub roots_taken : List (DocumentRow Node) → List Node
+roots_taken rows = map (λ (row : DocumentRow Node). row.root) rows
+
+is_some : Option Node → Bool
+is_some (Some x) = true
+is_some None = false
+
+some_none : (x : Node) → Some x ≡ None → ⊥
+unfolding is_some
+some_none x h = true≢false (ap is_some h)
+
+abbrev value_of : Node → Option Node → Node
+value_of d (Some x) = x
+value_of d None = d
+
+-- the row at a place, where its root was found
+record HasRoot (rows : List (DocumentRow Node)) (k : ℕ) (root : Node) : Type 0 where
+  row : DocumentRow Node
+  lt : k < length rows
+  here : get_or rows k row ≡ row
+  is : root ≡ row.root
+
+root_here : (rows : List (DocumentRow Node)) (k : ℕ) (root : Node) → Some root ≡ root_of (slice_get rows k) → HasRoot rows k root
+root_here [] k root e = absurd (some_none root e)
+root_here (row ∷ rows) zero root e = record { row = row; lt = omega arith; here = refl; is = ap (value_of root) e }
+root_here (row ∷ rows) (suc k) root e =
+    let at = root_here rows k root e in
+    let less = at.lt in
+    record { row = at.row; lt = omega (arith, less); here = at.here; is = at.is }
+
+pub roots_more : (rows : List (DocumentRow Node)) (k : ℕ) (root : Node) (old new : List Node) → Some root ≡ root_of (slice_get rows k) → old ≡ roots_taken (take k rows) → new ≡ old ++ root ∷ [] → new ≡ roots_taken (take (k + 1) rows)
+roots_more rows k root old new e before pushed =
+    let at = root_here rows k root e in
+    pushed ∙ (λ i. before i ++ (at.is ∙ ap (λ (row : DocumentRow Node). row.root) (sym at.here)) i ∷ []) ∙ sym (map_more (λ (row : DocumentRow Node). row.root) rows k at.row at.lt)
+
+pub roots_there : (nodes arena : List (Shape ℕ)) (rows : List (DocumentRow Node)) (roots : List Node) → arena ≡ nodes → roots ≡ roots_taken rows → RootsStand nodes rows → All (λ (root : Node). root.0 < length arena) roots
+roots_there nodes arena rows roots same are stand =
+    subst (All (λ (root : Node). root.0 < length arena)) (sym are)
+    (All-map (λ (root : Node). root.0 < length arena) (λ (row : DocumentRow Node). row.root) rows
+    (All-weaker (λ (row : DocumentRow Node). IsRoot nodes row.root.0) (λ (row : DocumentRow Node). row.root.0 < length arena) (λ row h. subst (λ xs. row.root.0 < length xs) (sym same) h.there) rows stand))
+
+numbers_taken : (rows : List (DocumentRow Node)) → numbers (roots_taken rows) ≡ roots_in rows
+numbers_taken [] = refl
+numbers_taken (row ∷ rows) = ap (λ ks. row.root.0 ∷ ks) (numbers_taken rows)
+
+-- each is one of the new nodes
+pub roots_below : {L : Type 0} (old new : List (Shape L)) (roots made : List ℕ) → IsSwept old roots new made → All (λ k. k < length new) made
+roots_below old new roots made swept =
+    subst (All (λ k. k < length new)) (sym swept.at)
+    (All-map (λ k. k < length new) swept.place roots (All-weaker (Contains roots) (λ k. swept.place k < length new) (λ k has. swept.there k (is_root has)) roots (All-contains_itself roots)))
+
+pub first_below : (n : ℕ) (roots : List Node) (root : Node) → Some root ≡ slice_get roots 0 → All (λ k. k < n) (numbers roots) → root.0 < n
+first_below n [] root e all = absurd (some_none root e)
+first_below n (r ∷ roots) root e all = subst (λ (k : Node). k.0 < n) (sym (ap (value_of r) e)) (All-head (λ k. k < n) r.0 (numbers roots) all)
+
+-- ---- lists of the same rows
+
+abbrev head_rows : List (List (Row ℕ)) → List (Row ℕ)
+head_rows [] = []
+head_rows (x ∷ xs) = x
+
+abbrev tail_rows : List (List (Row ℕ)) → List (List (Row ℕ))
+tail_rows [] = []
+tail_rows (x ∷ xs) = xs
+
+abbrev is_nil : List (List (Row ℕ)) → Bool
+is_nil [] = true
+is_nil (x ∷ xs) = false
+
+-- the roots there, each with the rows of the one here
+abbrev pub SameEach : (old new : List (Shape ℕ)) → List (DocumentRow Node) → List Node → Type 0
+SameEach old new rows made = map (rows_of new) (numbers made) ≡ map (rows_of old) (roots_in rows)
+
+pub same_long : (old new : List (Shape ℕ)) (rows : List (DocumentRow Node)) (made : List Node) → SameEach old new rows made → length made ≡ length rows
+same_long old new [] [] same = refl
+same_long old new [] (m ∷ made) same = absurd (true≢false (sym (ap is_nil same)))
+same_long old new (row ∷ rows) [] same = absurd (true≢false (ap is_nil same))
+same_long old new (row ∷ rows) (m ∷ made) same = ap suc (same_long old new rows made (ap tail_rows same))
+
+pub same_roots : (old new : List (Shape ℕ)) (rows : List (DocumentRow Node)) (made : List Node) → SameEach old new rows made → RootsStand old rows → All (λ k. k < length new) (numbers made) → All (λ (root : Node). IsRoot new root.0) made
+same_roots old new rows [] same stand below = All-nil (λ (root : Node). IsRoot new root.0)
+same_roots old new [] (m ∷ made) same stand below = absurd (true≢false (sym (ap is_nil same)))
+same_roots old new (row ∷ rows) (m ∷ made) same stand below =
+    All-cons (λ (root : Node). IsRoot new root.0) m made
+    (record { there = All-head (λ k. k < length new) m.0 (numbers made) below; document = subst IsOneDocument (sym (ap head_rows same)) (All-head (λ (r : DocumentRow Node). IsRoot old r.root.0) row rows stand).document })
+    (same_roots old new rows made (ap tail_rows same) (All-tail (λ (r : DocumentRow Node). IsRoot old r.root.0) row rows stand) (All-tail (λ k. k < length new) m.0 (numbers made) below))
+
+-- the same, as `swept_pooms` has it
+pub copied_documents : (old arena new poom : List (Shape ℕ)) (rows : List (DocumentRow Node)) (roots made : List Node) → arena ≡ old → poom ≡ new → roots ≡ roots_taken rows → map (rows_of new) (numbers made) ≡ map (rows_of arena) (numbers roots)
+    → IsSwept arena (numbers roots) new (numbers made) → are_held new (numbers made) ≡ true → RootsStand old rows → AreSweptDocuments old rows poom made
+copied_documents old arena new poom rows roots made lent installed are same swept held stand =
+    let each : SameEach old poom rows made = ap (λ ns. map (rows_of ns) (numbers made)) installed ∙ same ∙ (λ i. map (rows_of (lent i)) ((ap numbers are ∙ numbers_taken rows) i)) in
+    record {
+      long = same_long old poom rows made each;
+      each = same_roots old poom rows made each stand (subst (λ ns. All (λ k. k < length ns) (numbers made)) (sym installed) (roots_below arena new (numbers roots) (numbers made) swept));
+      rows = each;
+      held = ap (λ ns. are_held ns (numbers made)) installed ∙ held;
+    }
+
+-- ---- the table with the new roots
+
+pub rooted_documents : (rows : List (DocumentRow Node)) (made : List Node) → documents_in (with_roots made rows) ≡ documents_in rows
+rooted_documents rows [] = refl
+rooted_documents [] (m ∷ made) = refl
+rooted_documents (row ∷ rows) (m ∷ made) = ap (λ ds. row.document ∷ ds) (rooted_documents rows made)
+
+pub rooted_contents : (rows : List (DocumentRow Node)) (made : List Node) (d : List ℕ) → content_in (with_roots made rows) d ≡ content_in rows d
+rooted_contents rows [] d = refl
+rooted_contents [] (m ∷ made) d = refl
+rooted_contents (row ∷ rows) (m ∷ made) d = step (is_of d row) (rooted_contents rows made d)
+  where
+    step : (b : Bool) → content_in (with_roots made rows) d ≡ content_in rows d → content_of (cond b (Some (record row { root = m })) (find (is_of d) (with_roots made rows))) ≡ content_of (cond b (Some row) (find (is_of d) rows))
+    step true rest = refl
+    step false rest = rest
+
+pub rooted_numbers : (rows : List (DocumentRow Node)) (made : List Node) → length made ≡ length rows → roots_in (with_roots made rows) ≡ numbers made
+rooted_numbers [] [] long = refl
+rooted_numbers (row ∷ rows) [] long = absurd (omega (arith, long))
+rooted_numbers [] (m ∷ made) long = absurd (omega (arith, long))
+rooted_numbers (row ∷ rows) (m ∷ made) long = ap (λ ks. m.0 ∷ ks) (rooted_numbers rows made (omega (arith, long)))
+
+pub rooted_stand : (new : List (Shape ℕ)) (rows : List (DocumentRow Node)) (made : List Node) → length made ≡ length rows → All (λ (root : Node). IsRoot new root.0) made → RootsStand new (with_roots made rows)
+rooted_stand new [] [] long all = All-nil (λ (row : DocumentRow Node). IsRoot new row.root.0)
+rooted_stand new (row ∷ rows) [] long all = absurd (omega (arith, long))
+rooted_stand new [] (m ∷ made) long all = All-nil (λ (row : DocumentRow Node). IsRoot new row.root.0)
+rooted_stand new (row ∷ rows) (m ∷ made) long all =
+    All-cons (λ (r : DocumentRow Node). IsRoot new r.root.0) (record row { root = m }) (with_roots made rows) (All-head (λ (root : Node). IsRoot new root.0) m made all)
+    (rooted_stand new rows made (omega (arith, long)) (All-tail (λ (root : Node). IsRoot new root.0) m made all))
+
+-- what is read off a document's rows is as it was
+pub rooted_reads : (reads : List (Shape ℕ) → Option Node → List (List ℕ)) → ((nodes : List (Shape ℕ)) → reads nodes None ≡ []) → ((old new : List (Shape ℕ)) (made root : Node) → rows_of new made.0 ≡ rows_of old root.0 → reads new (Some made) ≡ reads old (Some root))
+    → (old new : List (Shape ℕ)) (rows : List (DocumentRow Node)) (made : List Node) → SameEach old new rows made → (d : List ℕ) → reads new (root_in (with_roots made rows) d) ≡ reads old (root_in rows d)
+rooted_reads reads nothing alike old new [] [] same d = nothing new ∙ sym (nothing old)
+rooted_reads reads nothing alike old new (row ∷ rows) [] same d = absurd (true≢false (ap is_nil same))
+rooted_reads reads nothing alike old new [] (m ∷ made) same d = nothing new ∙ sym (nothing old)
+rooted_reads reads nothing alike old new (row ∷ rows) (m ∷ made) same d = step (is_of d row) (rooted_reads reads nothing alike old new rows made (ap tail_rows same) d)
+  where
+    step : (b : Bool) → reads new (root_in (with_roots made rows) d) ≡ reads old (root_in rows d)
+        → reads new (root_of (cond b (Some (record row { root = m })) (find (is_of d) (with_roots made rows)))) ≡ reads old (root_of (cond b (Some row) (find (is_of d) rows)))
+    step true rest = alike old new m row.root (ap head_rows same)
+    step false rest = rest
+
+-- ---- all trees
+
+-- as `set_roots` has it
+pub rooted_as : (rows : List (DocumentRow Node)) (made slice : List Node) (now : List (DocumentRow Node)) → now ≡ with_roots slice rows → slice ≡ made → now ≡ with_roots made rows
+rooted_as rows made slice now set is = set ∙ ap (λ roots. with_roots roots rows) is
+
+module _ (before : Trees) (contents : ContentTree) (index from to three : IndexTree) (nodes : List (Shape ℕ)) (made : List Node) (documents : List (DocumentRow Node)) (links : LinkLists) (now : documents ≡ with_roots made before.documents)
+    (linked : links ≡ record { links = before.links.links; from = from; to = to; three = three }) (by_contents : IsSweptContent before.contents contents) (by_index : IsSweptIndex before.index index) (by_from : IsSweptIndex before.links.from from) (by_to : IsSweptIndex before.links.to to)
+    (by_three : IsSweptIndex before.links.three three) (by_documents : AreSweptDocuments before.nodes before.documents nodes made) where
+  pub swept_same : SameRows before (record before { contents = contents; index = index; nodes = nodes; documents = documents; links = links })
+  swept_same = record {
+    contents = by_contents.rows;
+    content = refl;
+    documents = ap documents_in now ∙ rooted_documents before.documents made;
+    counts = λ d. ap (λ ds. content_in ds d) now ∙ rooted_contents before.documents made d;
+    texts = λ d. ap (λ ds. text_at nodes (root_in ds d)) now ∙ rooted_reads text_at (λ ns. refl) (λ ns more m r h. ap laid.texts h) before.nodes nodes before.documents made by_documents.rows d;
+    links = λ d. ap (λ ds. links_at nodes (root_in ds d)) now ∙ rooted_reads links_at (λ ns. refl) (λ ns more m r h. ap laid.links h) before.nodes nodes before.documents made by_documents.rows d;
+    roots = subst (λ ds. RootsStand nodes ds) (sym now) (rooted_stand nodes before.documents made by_documents.long by_documents.each);
+    index = by_index.rows;
+    link_table = λ i. (linked i).links;
+    from = (λ i. rows_in_index (linked i).from) ∙ by_from.rows;
+    to = (λ i. rows_in_index (linked i).to) ∙ by_to.rows;
+    three = (λ i. rows_in_index (linked i).three) ∙ by_three.rows;
+    access = refl;
+    counted = refl;
+    sessions = refl;
+  }
+
+  pub swept_stands : (view : FlatView) → Stands before view → Stands (record before { contents = contents; index = index; nodes = nodes; documents = documents; links = links }) view
+  swept_stands view stand = stands_over before _ swept_same view stand
+
+  pub swept_sound : AreSound before → AreSound (record before { contents = contents; index = index; nodes = nodes; documents = documents; links = links })
+  swept_sound sound = sound_over before (record before { contents = contents; index = index; nodes = nodes; documents = documents; links = links }) swept_same sound
+
+  pub swept_reached : reached_of (record before { contents = contents; index = index; nodes = nodes; documents = documents; links = links }) ≡ true
+  swept_reached =
+      all_true by_contents.held by_index.held (ap (λ (lists : LinkLists). are_held lists.from.nodes (lists.from.root.0 ∷ [])) linked ∙ by_from.held) (ap (λ (lists : LinkLists). are_held lists.to.nodes (lists.to.root.0 ∷ [])) linked ∙ by_to.held)
+      (ap (λ (lists : LinkLists). are_held lists.three.nodes (lists.three.root.0 ∷ [])) linked ∙ by_three.held) (ap (are_held nodes) (ap roots_in now ∙ rooted_numbers before.documents made by_documents.long) ∙ by_documents.held)
+    where
+      all_true : {a b c d e f : Bool} → a ≡ true → b ≡ true → c ≡ true → d ≡ true → e ≡ true → f ≡ true → not (not a || not b || not c || not d || not e || not f) ≡ true
+      all_true ea eb ec ed ee ef = λ i. not (not (ea i) || not (eb i) || not (ec i) || not (ed i) || not (ee i) || not (ef i))

@@ -1,0 +1,77 @@
+-- The condition of a world's trees: what they owe for their shape, how deep they are, and which nodes are there.
+use Rattle.std.specs.Prelude.{ℕ, ◌+◌, ◌||◌, not, min, max, Bool, List, [], ◌∷◌, length, map, sum_by, fold}
+use Rattle.std.specs.List.{list_any}
+use Rattle.enfilade_core.specs.declared.tree.Node.{Node}
+use Rattle.enfilade_core.specs.Axes.{Widths}
+use Rattle.enfilade_core.specs.Rows.{Shape}
+use Rattle.enfilade_core.specs.Planes.{content_widths, text_widths, key_widths}
+use Rattle.enfilade_core.specs.Standing.{tree_debt, tree_allows}
+use Rattle.enfilade_core.specs.Summary.{depth_of, most_count}
+use Rattle.enfilade_sweep.specs.Sweep.{are_held}
+use Rattle.doc_table.specs.declared.rows.DocumentRow.{DocumentRow}
+use Rattle.tree_world.specs.Trees.{Trees}
+
+-- what contracts see of trees, beside what they stand for: what all of them owe together; whether one of them allows a
+-- step of the balancer; the depth of the deepest; how many nodes their arenas hold, up to the most that a count keeps;
+-- and whether each of these nodes is reached from a tree's root
+pub record Condition : Type 0 where
+  pub debt : ℕ
+  pub allows : Bool
+  pub depth : ℕ
+  pub nodes : ℕ
+  pub reached : Bool
+
+-- ---- documents: versions that share a tree count for each of them
+
+abbrev pub documents_debt : List (Shape ℕ) → List (DocumentRow Node) → ℕ
+documents_debt nodes rows = sum_by (λ (row : DocumentRow Node). tree_debt nodes row.root.0) rows
+
+abbrev pub documents_allow : List (Shape ℕ) → List (DocumentRow Node) → Bool
+documents_allow nodes rows = list_any (λ (row : DocumentRow Node). tree_allows nodes row.root.0) rows
+
+-- the depth of the deepest document's tree, 0 where there is no document
+abbrev pub documents_depth : List (Shape ℕ) → List (DocumentRow Node) → ℕ
+documents_depth nodes rows = fold (λ depth (row : DocumentRow Node). max depth (depth_of text_widths nodes row.root.0)) 0 rows
+
+abbrev pub roots_in : List (DocumentRow Node) → List ℕ
+roots_in rows = map (λ (row : DocumentRow Node). row.root.0) rows
+
+-- ---- all trees
+
+abbrev pub debt_of : Trees → ℕ
+debt_of trees =
+    tree_debt trees.contents.nodes trees.contents.root + tree_debt trees.index.nodes trees.index.root.0
+    + tree_debt trees.links.from.nodes trees.links.from.root.0 + tree_debt trees.links.to.nodes trees.links.to.root.0
+    + tree_debt trees.links.three.nodes trees.links.three.root.0 + documents_debt trees.nodes trees.documents
+
+abbrev pub allows_of : Trees → Bool
+allows_of trees =
+    tree_allows trees.contents.nodes trees.contents.root || tree_allows trees.index.nodes trees.index.root.0
+    || tree_allows trees.links.from.nodes trees.links.from.root.0 || tree_allows trees.links.to.nodes trees.links.to.root.0
+    || tree_allows trees.links.three.nodes trees.links.three.root.0 || documents_allow trees.nodes trees.documents
+
+abbrev pub depth_in : Trees → ℕ
+depth_in trees =
+    max (depth_of content_widths trees.contents.nodes trees.contents.root) (max (depth_of key_widths trees.index.nodes trees.index.root.0)
+    (max (depth_of key_widths trees.links.from.nodes trees.links.from.root.0) (max (depth_of key_widths trees.links.to.nodes trees.links.to.root.0)
+    (max (depth_of key_widths trees.links.three.nodes trees.links.three.root.0) (documents_depth trees.nodes trees.documents)))))
+
+abbrev pub nodes_of : Trees → ℕ
+nodes_of trees =
+    length trees.contents.nodes + length trees.index.nodes + length trees.links.from.nodes + length trees.links.to.nodes
+    + length trees.links.three.nodes + length trees.nodes
+
+abbrev pub reached_of : Trees → Bool
+reached_of trees =
+    not (not (are_held trees.contents.nodes (trees.contents.root ∷ [])) || not (are_held trees.index.nodes (trees.index.root.0 ∷ []))
+    || not (are_held trees.links.from.nodes (trees.links.from.root.0 ∷ [])) || not (are_held trees.links.to.nodes (trees.links.to.root.0 ∷ []))
+    || not (are_held trees.links.three.nodes (trees.links.three.root.0 ∷ [])) || not (are_held trees.nodes (roots_in trees.documents)))
+
+abbrev pub condition_of : Trees → Condition
+condition_of trees = record {
+  debt = debt_of trees;
+  allows = allows_of trees;
+  depth = depth_in trees;
+  nodes = min (nodes_of trees) most_count;
+  reached = reached_of trees;
+}

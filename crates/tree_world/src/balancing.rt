@@ -1,0 +1,170 @@
+//! Steps of the balancer, in one tree of the world after the other.
+ghost use Rattle.std.specs.Prelude.{◌≡◌, ◌⊎◌, ◌+◌, ◌<◌, ◌≤◌, true, false, not, length, slice_get, All, IsOk, IsTrue, IfOk, IfSome, IfNone, OnErr, Some};
+ghost use Rattle.enfilade_core.specs.Standing.{tree_allows};
+ghost use Rattle.enfilade_balance.specs.Steps.{root_after, is_idle};
+ghost use Rattle.links.specs.LinkLists.{index_at};
+ghost use Rattle.doc_table.specs.declared.rows.DocumentRow.{DocumentRow};
+ghost use Rattle.world_rules.specs.FlatView.{FlatView};
+ghost use Rattle.tree_world.specs.Condition.{debt_of, allows_of, documents_allow};
+ghost use Rattle.tree_world.specs.Standing.{Stands};
+ghost use Rattle.tree_world.specs.inside.SameRows.{SameRows};
+
+use crate::world::TreeWorld;
+use doc_table::DocTable;
+use enfilade_balance::laws::debts_stay;
+use enfilade_balance::{Balance, allows};
+use enfilade_core::Node;
+use febe_data::Memory;
+use poom::Poom;
+
+/// The place of the first document whose tree allows a step, if there is one.
+fn allowing(pooms: &Poom, documents: &DocTable<Node>) -> Option<usize>
+    requires { All (λ row. row.root.0 < length pooms.now) documents.now }
+    ensures some { IfSome result (λ k. (row : DocumentRow Node) × (slice_get documents.now k ≡ Some row) × (tree_allows pooms.now row.root.0 ≡ true)) }
+    ensures none { IfNone result (documents_allow pooms.now documents.now ≡ false) }
+{
+    for k in 0..documents.len() {
+        let Some(root) = documents.root_at(k) else {
+            unreachable!()
+        };
+        if allows(pooms.arena(), root) {
+            return Some(k);
+        }
+    }
+    None
+}
+
+/// Whether a step was made.
+fn is_made(made: Balance) -> bool
+    ensures { result ≡ not (is_idle made) }
+{
+    !matches!(made, Balance::Idle)
+}
+
+/// The root of a tree after a step.
+fn root_after(root: Node, made: Balance) -> Node
+    ensures { result ≡ root_after root made }
+{
+    match made {
+        Balance::Split(made) | Balance::Merged(made) | Balance::Dropped(made) => made,
+        Balance::Idle => root,
+    }
+}
+
+impl TreeWorld {
+    /// Whether some tree allows a step.
+    pub(crate) fn may_balance(&self) -> bool
+        ensures { result ≡ allows_of self.now }
+    {
+        let (contents, root) = self.contents.parts();
+        if allows(contents, root) {
+            return true;
+        }
+        let (index, root) = self.index.parts();
+        if allows(index, root) {
+            return true;
+        }
+        let (from, root) = self.links.index(1).parts();
+        if allows(from, root) {
+            return true;
+        }
+        let (to, root) = self.links.index(2).parts();
+        if allows(to, root) {
+            return true;
+        }
+        let (three, root) = self.links.index(3).parts();
+        if allows(three, root) {
+            return true;
+        }
+        allowing(&self.pooms, &self.documents).is_some()
+    }
+
+    /// One step in the tree of contents, where it allows one.
+    fn balance_contents(&mut self) -> Result<bool, Memory>
+        ensures same { SameRows self.old self.new }
+        ensures told { IfOk result (λ made. made ≡ tree_allows self.old.contents.nodes self.old.contents.root) }
+        ensures lowers { IfOk result (λ made. IsTrue made → debt_of self.new + 1 ≤ debt_of self.old) }
+        ensures idle { tree_allows self.old.contents.nodes self.old.contents.root ≡ false → IsOk result × (self.new ≡ self.old) }
+        ensures err { OnErr result (self.new ≡ self.old) }
+    {
+        let made = self.contents.balance()?;
+        Ok(is_made(made))
+    }
+
+    /// One step in the index of documents, where it allows one.
+    fn balance_index(&mut self) -> Result<bool, Memory>
+        ensures same { SameRows self.old self.new }
+        ensures told { IfOk result (λ made. made ≡ tree_allows self.old.index.nodes self.old.index.root.0) }
+        ensures lowers { IfOk result (λ made. IsTrue made → debt_of self.new + 1 ≤ debt_of self.old) }
+        ensures idle { tree_allows self.old.index.nodes self.old.index.root.0 ≡ false → IsOk result × (self.new ≡ self.old) }
+        ensures err { OnErr result (self.new ≡ self.old) }
+    {
+        let made = self.index.balance()?;
+        Ok(is_made(made))
+    }
+
+    /// One step in the index of an end of links, where it allows one.
+    fn balance_end(&mut self, end: u32) -> Result<bool, Memory>
+        requires end { (end ≡ 1) ⊎ (end ≡ 2) ⊎ (end ≡ 3) }
+        ensures same { SameRows self.old self.new }
+        ensures told { IfOk result (λ made. made ≡ tree_allows (index_at end self.old.links).nodes (index_at end self.old.links).root.0) }
+        ensures lowers { IfOk result (λ made. IsTrue made → debt_of self.new + 1 ≤ debt_of self.old) }
+        ensures idle { tree_allows (index_at end self.old.links).nodes (index_at end self.old.links).root.0 ≡ false → IsOk result × (self.new ≡ self.old) }
+        ensures err { OnErr result (self.new ≡ self.old) }
+    {
+        let made = self.links.balance(end)?;
+        Ok(is_made(made))
+    }
+
+    /// One step in the tree of a document, where some document's allows one.
+    fn balance_documents(&mut self) -> Result<bool, Memory>
+        ensures same { SameRows self.old self.new }
+        ensures told { IfOk result (λ made. made ≡ documents_allow self.old.nodes self.old.documents) }
+        ensures lowers { IfOk result (λ made. IsTrue made → debt_of self.new + 1 ≤ debt_of self.old) }
+        ensures idle { documents_allow self.old.nodes self.old.documents ≡ false → IsOk result × (self.new ≡ self.old) }
+        ensures err { OnErr result (self.new ≡ self.old) }
+    {
+        self.documents.in_order();
+        let _many = self.documents.len();
+        debts_stay(self.pooms.arena());
+        let Some(k) = allowing(&self.pooms, &self.documents) else {
+            return Ok(false);
+        };
+        let Some(root) = self.documents.root_at(k) else {
+            unreachable!()
+        };
+        let Some(document) = self.documents.nth(k as u32) else {
+            unreachable!()
+        };
+        let document = document.copy();
+        let made = self.pooms.balance(root)?;
+        self.documents.set_root(&document, root_after(root, made));
+        Ok(true)
+    }
+
+    /// One step in the first tree that allows one.
+    pub(crate) fn balance_trees(&mut self) -> Result<bool, Memory>
+        ensures stands { (view : FlatView) → Stands self.old view → Stands self.new view }
+        ensures told { IfOk result (λ made. made ≡ allows_of self.old) }
+        ensures lowers { IfOk result (λ made. IsTrue made → debt_of self.new + 1 ≤ debt_of self.old) }
+        ensures idle { allows_of self.old ≡ false → IsOk result × (self.new ≡ self.old) }
+        ensures err { OnErr result (self.new ≡ self.old) }
+    {
+        if self.balance_contents()? {
+            return Ok(true);
+        }
+        if self.balance_index()? {
+            return Ok(true);
+        }
+        if self.balance_end(1)? {
+            return Ok(true);
+        }
+        if self.balance_end(2)? {
+            return Ok(true);
+        }
+        if self.balance_end(3)? {
+            return Ok(true);
+        }
+        self.balance_documents()
+    }
+}
