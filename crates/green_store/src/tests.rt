@@ -199,7 +199,10 @@ fn edits(
 fn check_kept(rt: &impl Abort, alloc: Global, disk: &mut MemoryDisk) -> Result<(), Fail> {
     let store = Store::open(alloc, disk, Limits::new(100, 1_000, 10)?)?;
     assert_eq!(rt; store.history().len(), 4);
-    let inserted = &store.history().as_slice()[2].change;
+    let Some(entry) = store.history().get(2) else {
+        panic!(rt; "an edit is lost");
+    };
+    let inserted = &entry.change;
     assert!(rt;
         matches!(inserted, Change::Insert { text, .. } if text.as_slice() == b"hi".as_slice())
     );
