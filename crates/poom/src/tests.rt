@@ -2,7 +2,7 @@
 ghost use Rattle.std.specs.Prelude.{◌≡◌, ◌+◌, ◌^◌, ◌<◌, ◌≤◌, length, All, IfOk};
 ghost use Rattle.tumbler.specs.Address.{IsDocument};
 ghost use Rattle.tumbler.specs.Span.{SpanFits};
-ghost use Rattle.poom.specs.Edited.{IsContentRun, run_addresses};
+ghost use Rattle.poom.specs.Edited.{IsContentRun, IsLinkId, run_addresses};
 
 use crate::Poom;
 use enfilade_balance::{Balance, debt};
@@ -208,5 +208,76 @@ fn deletes_text_and_links(rt: HostRuntime) -> Result<(), Fail> {
     assert!(rt; poom.length(none) == 0);
     poom.back(mark);
     assert!(rt; poom.length(version) == 5);
+    Ok(())
+}
+
+/// The id of a link that was made in the document.
+fn link(alloc: Global, document: &Tumbler, number: u32) -> Result<Tumbler, Memory>
+    requires document { IsDocument document.now }
+    requires from_one { 1 ≤ number }
+    requires fits { number < 4294967295 }
+    ensures { IfOk result IsLinkId }
+{
+    match document.extended(&[0, 2, number]) {
+        Ok(link) => Ok(link),
+        Err(_fault) => Err(Memory),
+    }
+}
+
+/// Whether the links are those of these numbers.
+fn are_links(links: &List<Tumbler>, numbers: &[u32]) -> bool {
+    if links.len() != numbers.len() {
+        return false;
+    }
+    for (link, number) in links.as_slice().iter().zip(numbers) {
+        if link.places().last() != Some(number) {
+            return false;
+        }
+    }
+    true
+}
+
+/// Bytes 1 to 5 and links 1 to 3, of which a span takes bytes 4 and 5 and link 1.
+#[test]
+fn links_stand_in_order_and_go_with_text(rt: HostRuntime) -> Result<(), Fail> {
+    let alloc = rt.alloc();
+    let home = document(alloc)?;
+    let mut poom = Poom::new(alloc);
+    let empty = poom.empty()?;
+    assert!(rt; poom.length(empty) == 0);
+    let root = poom.insert(empty, 1, &home, 1, 5)?;
+    assert!(rt; poom.links(root) == 0);
+    let root = poom.add_link(root, &link(alloc, &home, 1)?)?;
+    assert!(rt; poom.links(root) == 1);
+    let root = poom.add_link(root, &link(alloc, &home, 2)?)?;
+    assert!(rt; poom.links(root) == 2);
+    let root = poom.add_link(root, &link(alloc, &home, 3)?)?;
+    let behind = span(alloc, &[2, 2], &[0, 9])?;
+    let stand = are_links(&poom.picked_links(root, &behind)?, &[2, 3]);
+    assert!(rt; stand);
+    let left = poom.delete(root, &span(alloc, &[1, 4], &[1, 2])?)?;
+    assert!(rt; poom.length(left) == 3);
+    let all = span(alloc, &[2], &[1])?;
+    let stand = are_links(&poom.picked_links(left, &all)?, &[2, 3]);
+    assert!(rt; stand);
+    Ok(())
+}
+
+#[test]
+fn outer_blocks_change_places(rt: HostRuntime) -> Result<(), Fail> {
+    let alloc = rt.alloc();
+    let home = document(alloc)?;
+    let mut poom = Poom::new(alloc);
+    let empty = poom.empty()?;
+    assert!(rt; poom.length(empty) == 0);
+    let root = poom.insert(empty, 1, &home, 1, 7)?;
+    assert!(rt; poom.length(root) == 7);
+    let root = poom.rearrange(root, &List::from_slice(alloc, &[2, 4, 5, 8])?)?;
+    let whole = span(alloc, &[1], &[1])?;
+    let swapped = are(
+        &poom.picked(root, &home, &whole)?,
+        &[(1, 1), (5, 3), (4, 1), (2, 2)],
+    );
+    assert!(rt; swapped);
     Ok(())
 }
