@@ -2,6 +2,7 @@
 
 use crate::DocTable;
 use std::alloc::Global;
+use std::process::Abort;
 use std::test::Fail;
 use tumbler::{BadTumbler, Tumbler};
 
@@ -72,5 +73,30 @@ fn a_row_changes_and_goes(rt: HostRuntime) -> Result<(), Fail> {
     assert!(rt; table.has(&first));
     table.remove(&first);
     assert_eq!(rt; table.root(&first), None);
+    Ok(())
+}
+
+/// Puts a document in that is not there.
+fn add(rt: &impl Abort, alloc: Global, table: &mut DocTable<u32>, document: &Tumbler, root: u32) {
+    assert!(rt; !table.has(document));
+    assert!(rt; table.len() < 4_294_967_294);
+    table.add(alloc, document, root).expect(rt, "memory");
+}
+
+#[test]
+fn all_roots_change_at_once(rt: HostRuntime) -> Result<(), Fail> {
+    let alloc = rt.alloc();
+    let mut table = DocTable::new(alloc);
+    for number in [3u32, 1, 2] {
+        add(&rt, alloc, &mut table, &document(alloc, number)?, number);
+    }
+    table.in_order();
+    assert_eq!(rt; table.len(), 3);
+    assert_eq!(rt; table.root_at(0), Some(1));
+    assert_eq!(rt; table.root_at(2), Some(3));
+    assert_eq!(rt; table.root_at(3), None);
+    table.set_roots(&[5, 6, 7]);
+    assert_eq!(rt; table.root(&document(alloc, 1)?), Some(5));
+    assert_eq!(rt; table.root_at(2), Some(7));
     Ok(())
 }
