@@ -3,6 +3,7 @@ ghost use Rattle.std.specs.Prelude.{All, IfOk};
 ghost use Rattle.tumbler.specs.Span.{SpanFits};
 
 use crate::{Spanfilade, joined};
+use enfilade_balance::{Balance, debt};
 use std::alloc::Global;
 use std::test::Fail;
 use tumbler::{List, Memory, Span, Tumbler};
@@ -166,5 +167,29 @@ fn covers_what_is_typed(rt: HostRuntime) -> Result<(), Fail> {
     index.cover(&span(alloc, &[5, 4], &[0, 1])?, &at(alloc, &[1, 2])?)?;
     let (arena, root) = index.parts();
     assert!(rt; arena.leaves(root) == 2);
+    Ok(())
+}
+
+fn owed(index: &Spanfilade) -> u64 {
+    let (arena, root) = index.parts();
+    debt(arena, root)
+}
+
+#[test]
+fn seventeen_spans_are_split(rt: HostRuntime) -> Result<(), Fail> {
+    let alloc = rt.alloc();
+    let mut index = Spanfilade::new(alloc)?;
+    let key = at(alloc, &[1, 1])?;
+    for k in 1..18u32 {
+        index.add(&span(alloc, &[5, 2 * k], &[0, 1])?, &key)?;
+    }
+    assert!(rt; owed(&index) == 5);
+    let Balance::Split(_root) = index.balance()? else {
+        panic!(rt; "not a split");
+    };
+    assert!(rt; owed(&index) == 0);
+    assert!(rt; index.balance()? == Balance::Idle);
+    let (arena, root) = index.parts();
+    assert!(rt; arena.leaves(root) == 17);
     Ok(())
 }
