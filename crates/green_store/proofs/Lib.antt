@@ -12,3 +12,4 @@ pub mod Edits
 pub mod Quiet
 pub mod Remaining
 pub mod Serials
+pub mod Unkept

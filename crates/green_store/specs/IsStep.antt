@@ -3,14 +3,14 @@ use Rattle.std.specs.Prelude.{◌≡◌, ◌⊎◌, ℕ, ◌+◌, ◌*◌, ◌<�
 use Rattle.febe_data.specs.declared.refusal.Refusal.TheVariants.{Memory}
 use Rattle.febe_data.specs.Plain.{PlainRequest, plain_request, PlainReply, plain_reply, refused}
 use Rattle.febe_data.specs.Validity.{IsRequest, IsReply}
-use Rattle.world_rules.specs.History.{is_live}
+use Rattle.world_rules.specs.History.{is_live, kept}
 use Rattle.green_store.specs.declared.step.Step.{Step}
 use Rattle.green_store.specs.declared.step.Step.TheVariants as steps
 use Rattle.green_store.specs.declared.step.StepAnswer.{StepAnswer}
 use Rattle.green_store.specs.declared.step.StepAnswer.TheVariants as answers
 use Rattle.green_store.specs.Sessions.{greatest_session, begin_entry, end_entry}
 use Rattle.green_store.specs.Steps.{Steps}
-use Rattle.green_store.specs.StoreView.{StoreView, with_one, StandsStill}
+use Rattle.green_store.specs.StoreView.{StoreView, with_one, StandsStill, StandsAsBefore}
 
 -- there is a number above those of all sessions so far
 abbrev pub HasNumber : StoreView → Type 0
@@ -49,14 +49,27 @@ IsGiven before session request reply after rose =
     (IsRequest request × Steps before.limits session before.history request reply after.history rose)
     ⊎ ((¬ IsRequest request) × IsRefusedAsInvalid before reply after)
 
+-- this holds where the reply is a refusal
+abbrev pub OnRefused : PlainReply → Type 0 → Type 0
+OnRefused (refused refusal) fact = fact
+OnRefused other fact = Unit {0}
+
+-- this holds unless an entry was kept
+abbrev pub UnlessKept : StoreView → StoreView → Type 0 → Type 0
+UnlessKept before after fact = kept after.history ≡ kept before.history → fact
+
 -- The live session's request has this reply, with the number of entries after it: by a legal step where the
--- request is valid.
+-- request is valid. Whichever refusal it is given, the history and the trees' condition are as they were. So are the trees
+-- unless an entry was kept: after each query, and after a change of the session alone.
 pub record IsReplied (before : StoreView) (session : ℕ) (request : PlainRequest) (reply : PlainReply) (point : ℕ) (after : StoreView) (rose : Bool) : Type 0 where
   pub live : IsTrue (is_live before.history session)
   pub limits_stay : after.limits ≡ before.limits
   pub point_is : point ≡ length after.history
   pub valid : IsReply reply
   pub given : IsGiven before session request reply after rose
+  pub refusal_stays : OnRefused reply (StandsAsBefore before after)
+  pub trees_stay : UnlessKept before after (after.trees ≡ before.trees)
+  pub base_stays : after.base ≡ before.base
 
 -- the live session has ended: its End is added
 pub record HasEnded (before : StoreView) (session : ℕ) (after : StoreView) : Type 0 where

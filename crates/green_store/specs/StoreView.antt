@@ -23,3 +23,9 @@ pub record StandsStill (before after : StoreView) : Type 0 where
   pub history : after.history ≡ before.history
   pub limits : after.limits ≡ before.limits
   pub log : after.log ≡ before.log
+
+-- the history is as it was, and so is the condition of the trees
+pub record StandsAsBefore (before after : StoreView) : Type 0 where
+  pub history : after.history ≡ before.history
+  pub trees : after.trees ≡ before.trees
+  pub base : after.base ≡ before.base

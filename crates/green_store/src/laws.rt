@@ -11,7 +11,7 @@ ghost use Rattle.green_store.specs.Opening.{EachHasOneOpening};
 use crate::store::StoreOver;
 use edit_log::laws::{one_reading, open_is_whole, pending_is_whole};
 use green_io::Disk;
-use tree_world::Tends;
+use tree_world::Undoes;
 
 /// Whatever sessions ask, in whatever order: new documents are new, and changes are made at places that are there.
 pub fn steps_stay_placed()
@@ -24,7 +24,7 @@ pub fn steps_count()
 {}
 
 /// What a crash leaves of a disk between two steps: a whole log with the kept entries, or with the pending edit behind them.
-pub fn images_are_kept<W: Tends, D: Disk>(disk: &D, store: &StoreOver<W>)
+pub fn images_are_kept<W: Undoes, D: Disk>(disk: &D, store: &StoreOver<W>)
     ensures { (pending : Option PlainEntry) → Keeps (D.state disk.now) store.now pending → (image : Areas) → images_now (D.state disk.now) image → HoldsWith (kept store.now.history) (IsThat pending) image }
 {
     open_is_whole(disk, &store.log);

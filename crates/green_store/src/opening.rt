@@ -26,7 +26,7 @@ use febe_data::{Change, Entry, Limits, List, Memory};
 use green_io::{Area, Disk};
 use std::alloc::Global;
 use thiserror::Error;
-use tree_world::{Tends, TreeWorld};
+use tree_world::{Tends, TreeWorld, Undoes};
 
 /// Why a store was not opened. Its text is the one that a program prints.
 #[derive(Clone, Copy, Debug, PartialEq, Eq, Error)]
@@ -122,7 +122,7 @@ fn greatest_session(entries: &[Entry]) -> u64
     greatest
 }
 
-impl<W: Tends + Drop> StoreOver<W> {
+impl<W: Undoes + Drop> StoreOver<W> {
     /// Opens a store over a disk, as [`Store::open`] does, with this world, which no entry has changed yet.
     pub fn open_over<D: Disk>(
         alloc: Global,

@@ -10,14 +10,14 @@ use febe_data::{Change, Entry, Limits, List, Memory, Refusal, Reply, Request, Tu
 use green_io::{Area, Disk};
 use std::alloc::Global;
 use std::marker::Model;
-use tree_world::{Tends, TreeWorld};
+use tree_world::{TreeWorld, Undoes};
 use world_rules::{Effect, Served};
 
 /// A history that begins with the entries of a log and a restart, the world that it has built, to which each entry is applied
 /// once, and the log, to which each kept entry is appended before it is in the history. Any world serves that entries change,
 /// that takes the last one back, that can be put into better shape, and that answers what requests look up.
 #[derive(Drop)]
-pub struct StoreOver<W: Tends> {
+pub struct StoreOver<W: Undoes> {
     pub(crate) history: List<Entry>,
     pub(crate) world: W,
     /// The live sessions. The history has room for the end of each.
@@ -33,7 +33,7 @@ pub struct StoreOver<W: Tends> {
 /// The store of a back end that keeps its world in trees and tables.
 pub type Store = StoreOver<TreeWorld>;
 
-impl<W: Tends> Model for StoreOver<W> {
+impl<W: Undoes> Model for StoreOver<W> {
     ghost use Rattle.febe_data.specs.Plain.{plain_history};
     ghost use Rattle.green_store.specs.StoreView.{StoreView};
     ghost use Rattle.green_store.specs.IsStore.{IsStore};
@@ -45,7 +45,7 @@ impl<W: Tends> Model for StoreOver<W> {
     ghost invariant = { λ s. IsStore (plain_history s.history.items) s.history.spare (W.stands s.world) s.live.items s.greatest };
 }
 
-impl<W: Tends + Drop> StoreOver<W> {
+impl<W: Undoes + Drop> StoreOver<W> {
     ghost use Rattle.febe_data.specs.Plain.{plain_history};
     ghost use Rattle.febe_data.specs.Plain.{PlainEntry};
     ghost use Rattle.green_io.specs.Disk.{LeavesOnly, LeavesOthers};
@@ -164,7 +164,7 @@ fn remove(live: &mut List<u64>, session: u64)
 }
 
 #[tactic(auto, using(crate::proofs::Histories::histories))]
-impl<W: Tends + Drop> StoreOver<W> {
+impl<W: Undoes + Drop> StoreOver<W> {
     ghost use Rattle.febe_data.specs.Plain.{PlainEntry, plain_request, plain_reply, plain_change};
     ghost use Rattle.febe_data.specs.Validity.{IsRequest, IsReply};
     ghost use Rattle.green_io.specs.Disk.{LeavesOnly, LeavesOthers};
@@ -177,8 +177,8 @@ impl<W: Tends + Drop> StoreOver<W> {
     ghost use Rattle.green_store.specs.inside.{MayBeKept, IsKeptOrTakenBack, KeepsEdit};
     ghost use Rattle.green_store.specs.Sessions.{greatest_session, begin_entry, end_entry};
     ghost use Rattle.green_store.specs.Steps.{Steps};
-    ghost use Rattle.green_store.specs.StoreView.{with_one, StandsStill};
-    ghost use Rattle.green_store.specs.IsStep.{IsStep, IsGiven, UnlessSwept};
+    ghost use Rattle.green_store.specs.StoreView.{with_one, StandsStill, StandsAsBefore};
+    ghost use Rattle.green_store.specs.IsStep.{IsStep, IsGiven, OnRefused, UnlessKept, UnlessSwept};
     ghost use Rattle.green_store.specs.LeavesLive.{LeavesLive};
 
     fn begin(&mut self, alloc: Global) -> StepAnswer
@@ -303,6 +303,8 @@ impl<W: Tends + Drop> StoreOver<W> {
         ensures limits { self.new.limits ≡ self.old.limits }
         ensures base { self.new.base ≡ self.old.base }
         ensures given { IsGiven self.old session (plain_request request.now) (plain_reply result) self.new (has_risen (D.fault_count disk.old) (D.fault_count disk.new)) }
+        ensures stays { OnRefused (plain_reply result) (StandsAsBefore self.old self.new) }
+        ensures trees { UnlessKept self.old self.new (self.new.trees ≡ self.old.trees) }
         ensures any_moment { (pending : Option PlainEntry) → Keeps (D.state disk.old) self.old pending → LeavesOnly (D.state disk.old) (D.state disk.new) (HoldsRequest self.old pending session (plain_request request.now)) }
         ensures keeps { (pending : Option PlainEntry) → Keeps (D.state disk.old) self.old pending → KeepsRequest self.old pending session (plain_request request.now) self.new (plain_reply result) (D.state disk.new) }
         ensures others { LeavesOthers Area.Log (D.state disk.old) (D.state disk.new) }
@@ -336,6 +338,7 @@ impl<W: Tends + Drop> StoreOver<W> {
         ensures limits { self.new.limits ≡ self.old.limits }
         ensures base { self.new.base ≡ self.old.base }
         ensures steps { IfOk result (λ reply. Steps self.old.limits session self.old.history (plain_request request.now) (plain_reply reply) self.new.history (has_risen (D.fault_count disk.old) (D.fault_count disk.new))) }
+        ensures trees { UnlessKept self.old self.new (self.new.trees ≡ self.old.trees) }
         ensures any_moment { (pending : Option PlainEntry) → Keeps (D.state disk.old) self.old pending → LeavesOnly (D.state disk.old) (D.state disk.new) (HoldsRequest self.old pending session (plain_request request.now)) }
         ensures keeps { (pending : Option PlainEntry) → Keeps (D.state disk.old) self.old pending → IfOk result (λ reply. KeepsRequest self.old pending session (plain_request request.now) self.new (plain_reply reply) (D.state disk.new)) }
         ensures others { LeavesOthers Area.Log (D.state disk.old) (D.state disk.new) }
@@ -394,6 +397,7 @@ impl<W: Tends + Drop> StoreOver<W> {
         ensures limits { self.new.limits ≡ self.old.limits }
         ensures base { self.new.base ≡ self.old.base }
         ensures outcome { IfOk result (λ reply. IsKeptOrTakenBack self.old.history session (plain_effect made) (plain_reply reply) self.new.history (has_risen (D.fault_count disk.old) (D.fault_count disk.new))) }
+        ensures trees { UnlessKept self.old self.new (self.new.trees ≡ self.old.trees) }
         ensures any_moment { (pending : Option PlainEntry) → Keeps (D.state disk.old) self.old pending → LeavesOnly (D.state disk.old) (D.state disk.new) (HoldsWith (kept self.old.history) (λ other. IsThat pending other ⊎ (other ≡ entry_after self.old.history session (plain_effect made)))) }
         ensures keeps { (pending : Option PlainEntry) → Keeps (D.state disk.old) self.old pending → IfOk result (λ reply. KeepsEdit self.old pending (entry_after self.old.history session (plain_effect made)) self.new (plain_reply reply) (D.state disk.new)) }
         ensures others { LeavesOthers Area.Log (D.state disk.old) (D.state disk.new) }

@@ -44,3 +44,4 @@ pub mod LinkMade
 pub mod Brought
 pub mod EntryCounted
 pub mod Undone
+pub mod Restored

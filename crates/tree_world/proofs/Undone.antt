@@ -350,10 +350,10 @@ module _ (session : ℕ) (it : Touched) (before after : Trees) where
 pub came_inside : (session : ℕ) (change : PlainChange) (before now inside : Trees) → inside ≡ now → ChangeCame session change before now → ChangeCame session change before inside
 came_inside session change before now inside is came = subst (λ t. ChangeCame session change before t) (sym is) came
 
-recounted : (before after : Trees) (held : List SessionRow) → NodesCame before after → NodesCame before (record after { sessions = held })
+pub recounted : (before after : Trees) (held : List SessionRow) → NodesCame before after → NodesCame before (record after { sessions = held })
 recounted before after held came = record { contents = came.contents; nodes = came.nodes; index = came.index; links = came.links }
 
-pub comes_back : (before : Trees) (view : FlatView) (session : ℕ) (change : PlainChange) (undo : Undo) (after : Trees) (held : List SessionRow) → Stands before view → AreSound before → IsKept before undo → undo.session ≡ session → IsTouched before change undo.touched
+abbrev pub comes_back : (before : Trees) (view : FlatView) (session : ℕ) (change : PlainChange) (undo : Undo) (after : Trees) (held : List SessionRow) → Stands before view → AreSound before → IsKept before undo → undo.session ≡ session → IsTouched before change undo.touched
     → ChangeCame session change before after → CountsStand held (with_entry session view.sessions) → ComesBack (record after { sessions = held }) undo view
 comes_back before view session change undo after held stood sound kept own is came counts =
     let back = goes_back undo.session undo.touched before after change is (subst (λ (n : ℕ). ChangeCame n change before after) (sym own) came) in

@@ -16,6 +16,7 @@ use Rattle.world_rules.specs.FlatView.{FlatView, with_entry}
 use Rattle.tree_world.specs.declared.undoing.Undo.{Undo}
 use Rattle.tree_world.specs.declared.undoing.Touched.{Touched}
 use Rattle.tree_world.specs.declared.undoing.Touched.TheVariants as touched
+use Rattle.tree_world.specs.Condition.{Condition, condition_of}
 use Rattle.tree_world.specs.Trees.{Trees, AreSound}
 use Rattle.tree_world.specs.Standing.{Stands, CountsStand, EachOnce, EndsStand}
 
@@ -159,3 +160,8 @@ pub record ComesBack (after : Trees) (undo : Undo) (view : FlatView) : Type 0 wh
 pub record MayComeBack (after : Trees) (undo : Undo) : Type 0 where
   pub view : FlatView
   pub back : ComesBack after undo view
+
+-- so it is, and the trees that they came of were in this condition
+pub record ComesTo (after : Trees) (undo : Undo) (condition : Condition) : Type 0 where
+  pub may : MayComeBack after undo
+  pub was : condition ≡ condition_of may.back.before

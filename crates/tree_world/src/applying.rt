@@ -3,6 +3,7 @@ ghost use Rattle.std.specs.Prelude.{◌≡◌, IsOk, OnOk, OnErr};
 ghost use Rattle.febe_data.specs.Plain.{plain_change, plain_entry};
 ghost use Rattle.world_rules.specs.FlatView.{FlatView, after_entry};
 ghost use Rattle.world_rules.specs.InPlace.{DropsOnly, HasRoom};
+ghost use Rattle.tree_world.specs.Condition.{condition_of};
 ghost use Rattle.tree_world.specs.Standing.{Stands};
 ghost use Rattle.tree_world.specs.Changed.{after_change};
 ghost use Rattle.tree_world.specs.Undone.{ChangeCame};
@@ -25,6 +26,7 @@ impl TreeWorld {
         ensures sessions { self.new.sessions ≡ self.old.sessions }
         ensures came { OnOk result (ChangeCame session (plain_change change.now) self.old self.new) }
         ensures in_place { DropsOnly change.now → IsOk result }
+        ensures stays { OnErr result (condition_of self.new ≡ condition_of self.old) }
     {
         match change {
             Change::Create { document } => self.create(alloc, session, document),

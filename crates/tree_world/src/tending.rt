@@ -7,13 +7,13 @@ ghost use Rattle.world_rules.specs.History.{is_counted};
 ghost use Rattle.world_rules.specs.InPlace.{DropsOnly, HasRoom};
 ghost use Rattle.tree_world.specs.Condition.{Condition};
 
-use crate::undoing::Undoes;
 use crate::world::TreeWorld;
 use febe_data::{Entry, Memory};
 use std::alloc::Global;
+use world_rules::Applies;
 
 /// A world of trees, which can be put into better shape while it stands for the same.
-pub trait Tends: Undoes {
+pub trait Tends: Applies {
     /// What contracts see of the trees, beside what they stand for.
     ghost condition: { Self → Condition };
 

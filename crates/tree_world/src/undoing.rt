@@ -3,9 +3,11 @@ ghost use Rattle.std.specs.Prelude.{◌≡◌, IfOk, IfSome, OnOk, OnErr};
 ghost use Rattle.febe_data.specs.Plain.{plain_change, plain_entry};
 ghost use Rattle.world_rules.specs.World.{link_address};
 ghost use Rattle.world_rules.specs.FlatView.{FlatView, after_entry};
+ghost use Rattle.tree_world.specs.Condition.{Condition, condition_of};
 ghost use Rattle.tree_world.specs.Standing.{Stands};
-ghost use Rattle.tree_world.specs.Undone.{Tables, IsRow, IsHome, IsKept, IsTouched, TablesWere, TablesMayGoBack, ComesBack, MayComeBack};
+ghost use Rattle.tree_world.specs.Undone.{Tables, IsRow, IsHome, IsKept, IsTouched, TablesWere, TablesMayGoBack, ComesBack, MayComeBack, ComesTo};
 
+use crate::tending::Tends;
 use crate::world::TreeWorld;
 use access_table::AccessTable;
 use doc_table::DocTable;
@@ -13,10 +15,10 @@ use enfilade_core::{Node, TreeMark};
 use febe_data::{Change, Entry, Memory, Tumbler};
 use links::{LinkMarks, Links};
 use std::alloc::Global;
-use world_rules::Applies;
 
-/// A world that can take its last entry back, so that an edit that could not be written down leaves no trace.
-pub trait Undoes: Applies {
+/// A world that can take its last entry back, so that an edit that could not be written down leaves no trace: neither in
+/// what the world stands for, nor in the condition of its trees.
+pub trait Undoes: Tends {
     /// What has to be known to take an entry back.
     type Undo: Drop;
 
@@ -26,18 +28,25 @@ pub trait Undoes: Applies {
     /// So it is, and without the entry the world stands for this view.
     ghost comes_back: { Self → Self.Undo → FlatView → Type 0 };
 
+    /// So it is, and without the entry the trees are in this condition.
+    ghost comes_to: { Self → Self.Undo → Condition → Type 0 };
+
     /// Changes the world as the entry says, and counts it, as `apply` does. It is for the changes that the limits count,
-    /// which alone are written down: a document made, a version, an edit, a link. Others are refused.
+    /// which alone are written down: a document made, a version, an edit, a link. Others are refused. Where it is refused
+    /// the trees are in the condition that they were in, with no node more.
     fn apply_with_undo(&mut self, alloc: Global, entry: &Entry) -> Result<Self::Undo, Memory>
         ensures ok { (view : FlatView) → Self.stands self.old view → IfOk result (λ undo. Self.stands self.new (after_entry view (plain_entry entry.now))) }
         ensures last { (view : FlatView) → Self.stands self.old view → IfOk result (may_come_back self.new) }
         ensures back { (view : FlatView) → Self.stands self.old view → IfOk result (λ undo. comes_back self.new undo view) }
-        ensures err { (view : FlatView) → Self.stands self.old view → OnErr result (Self.stands self.new view) };
+        ensures was { (view : FlatView) → Self.stands self.old view → IfOk result (λ undo. comes_to self.new undo (Self.condition self.old)) }
+        ensures err { (view : FlatView) → Self.stands self.old view → OnErr result (Self.stands self.new view) }
+        ensures stays { OnErr result (Self.condition self.new ≡ Self.condition self.old) };
 
     /// Takes the last entry back. It takes no memory, and the time grows with what the entry brought.
     fn undo(&mut self, undo: Self::Undo)
         requires { may_come_back self.old undo }
-        ensures { (view : FlatView) → comes_back self.old undo view → Self.stands self.new view };
+        ensures stands { (view : FlatView) → comes_back self.old undo view → Self.stands self.new view }
+        ensures condition { (was : Condition) → comes_to self.old undo was → Self.condition self.new ≡ was };
 }
 
 /// What an entry is to touch in the tables, with what stands there before it.
@@ -206,7 +215,9 @@ impl TreeWorld {
     pub(crate) fn apply_kept(&mut self, alloc: Global, entry: &Entry) -> Result<Undo, Memory>
         ensures ok { (view : FlatView) → Stands self.old view → IfOk result (λ undo. Stands self.new (after_entry view (plain_entry entry.now))) }
         ensures back { (view : FlatView) → Stands self.old view → IfOk result (λ undo. ComesBack self.new undo view) }
+        ensures was { (view : FlatView) → Stands self.old view → IfOk result (λ undo. ComesTo self.new undo (condition_of self.old)) }
         ensures err { (view : FlatView) → Stands self.old view → OnErr result (Stands self.new view) }
+        ensures stays { OnErr result (condition_of self.new ≡ condition_of self.old) }
     {
         self.sessions.reserve(entry.session)?;
         let Some(undo) = self.kept(entry.session, &entry.change) else {
@@ -254,7 +265,8 @@ impl TreeWorld {
     /// Takes the last entry back.
     pub(crate) fn take_back(&mut self, undo: &Undo)
         requires { MayComeBack self.old undo.now }
-        ensures { (view : FlatView) → ComesBack self.old undo.now view → Stands self.new view }
+        ensures stands { (view : FlatView) → ComesBack self.old undo.now view → Stands self.new view }
+        ensures condition { (was : Condition) → ComesTo self.old undo.now was → condition_of self.new ≡ was }
     {
         self.contents.back(&undo.contents);
         self.content = undo.content;
@@ -272,6 +284,8 @@ impl Undoes for TreeWorld {
     ghost may_come_back = { MayComeBack };
 
     ghost comes_back = { ComesBack };
+
+    ghost comes_to = { ComesTo };
 
     fn apply_with_undo(&mut self, alloc: Global, entry: &Entry) -> Result<Undo, Memory> {
         self.apply_kept(alloc, entry)

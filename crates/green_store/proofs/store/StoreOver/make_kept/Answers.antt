@@ -13,6 +13,7 @@ use Rattle.green_store.specs.StoreView.{StoreView}
 use Rattle.green_store.proofs.Edits.{appendable, has_one_more, stays_pending}
 use Rattle.green_store.proofs.Regulars.{kept_leaves, regular_changed, entries_counted}
 use Rattle.green_store.proofs.Stores.{entry_is, history_is, stands_after, same_store, gone_on, has_serial}
+use Rattle.green_store.proofs.Unkept.{is_one_more}
 use Rattle.green_store.proofs.store.StoreOver.make_kept.Given as given
 use Rattle.green_store.proofs.store.StoreOver.make_kept.Goals as goal
 use Rattle.green_store.proofs.store.StoreOver.make_kept.Goals.{After-keep, After-push_reserved}
@@ -59,7 +60,16 @@ returns-in_default-clause-keeps g c =
     (λ pending has. stays_pending (record { history = h; limits = c.self.inside.limits; log = c.self.inside.log; trees = g.W.Tends.condition c.self.inside.world; base = c.self.inside.base }) after e pending (entry_after h c.args.session (plain_effect c.args.made)) (refused Disk) (ap plain_history c.reserve.ensures.items) refl
     (c.in_default.ensures.pending (kept h) pending (entry_after h c.args.session (plain_effect c.args.made)) (ready g (goal.at.returns-in_default-clause-keeps g c).After-keep) has))
 
--- ---- where it did not
+pub returns-in_default-clause-trees : goal.returns-in_default-clause-trees
+returns-in_default-clause-trees g c same =
+    c.undo.ensures.condition (g.W.Tends.condition c.self.inside.world) (c.in_ok-undo.ensures.was (view_of (plain_history c.self.inside.history.items)) c.self.invariant.world_stands) ∙ ap (λ (v : StoreView). v.trees) c.self.view_is
+
+-- ---- where there was no memory for the trees
+
+pub returns-in_err-undo-clause-trees : goal.returns-in_err-undo-clause-trees
+returns-in_err-undo-clause-trees g c same = c.in_err-undo.ensures.stays ∙ ap (λ (v : StoreView). v.trees) c.self.view_is
+
+-- ---- where the disk did not fail
 
 history_grows : (g : given.Over) (c : After-push_reserved g) → plain_history c.push_reserved.new.self.items ≡ plain_history c.self.inside.history.items ++ entry_after (plain_history c.self.inside.history.items) c.args.session (plain_effect c.args.made) ∷ []
 history_grows g c =
@@ -104,3 +114,11 @@ returns-clause-keeps g c =
     c.self.view_is
     (λ pending has. inl (has_one_more e c.keep.new.log h (plain_history c.push_reserved.new.self.items) entry (may_here g at_keep).counted (history_grows g (goal.at.returns-clause-keeps g c).After-push_reserved)
     (c.in-Ok.ensures.done (kept h) pending entry (ready g at_keep) has)))
+
+pub returns-clause-trees : goal.returns-clause-trees
+returns-clause-trees g c same =
+    let pushed = plain_history c.push_reserved.new.self.items in
+    let entry = entry_after c.args.self.now.history c.args.session (plain_effect c.args.made) in
+    let grows : pushed ≡ c.args.self.now.history ++ entry ∷ [] =
+    history_grows g (goal.at.returns-clause-trees g c).After-push_reserved ∙ ap (λ (v : StoreView). v.history ++ entry_after v.history c.args.session (plain_effect c.args.made) ∷ []) c.self.view_is in
+    absurd (is_one_more c.args.self.now.history pushed entry c.requires.may.counted grows same)

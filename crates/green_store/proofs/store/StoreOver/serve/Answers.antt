@@ -13,6 +13,7 @@ use Rattle.green_store.specs.StoreView.{StoreView}
 use Rattle.green_store.proofs.Accepting.{may_be_kept}
 use Rattle.green_store.proofs.Edits.{made_keeps, edit_leaves, kept_keeps}
 use Rattle.green_store.proofs.Legals.{refused_here, answered_here, changed_here, allowed_here, effect_here, edit_here, kept_here}
+use Rattle.green_store.proofs.Unkept.{made_trees}
 use Rattle.green_store.proofs.store.StoreOver.serve.Given as given
 use Rattle.green_store.proofs.store.StoreOver.serve.Goals as goal
 use Rattle.green_store.proofs.store.StoreOver.serve.Goals.{In_ok-refusal, After-make_kept}
@@ -107,3 +108,7 @@ pub returns-in-Changed-2-clause-keeps : goal.returns-in-Changed-2-clause-keeps
 returns-in-Changed-2-clause-keeps g c pending has =
     made_keeps c.args.self.now c.make.new.self (g.D.Disk.state c.args.disk.now) (g.D.Disk.state c.args.disk.now) pending c.args.session (plain_request c.args.request.now) c.make.result
     (entry_after c.args.self.now.history c.args.session (plain_effect c.in-Changed.made)) (sym c.is_kept.ensures ∙ c.if-is_kept.false) c.make.ensures.ok has
+
+pub returns-in-Changed-2-clause-trees : goal.returns-in-Changed-2-clause-trees
+returns-in-Changed-2-clause-trees g c same =
+    made_trees c.args.self.now c.make.new.self c.make.result (entry_after c.args.self.now.history c.args.session (plain_effect c.in-Changed.made)) c.make.ensures.ok c.make.ensures.err
