@@ -339,7 +339,7 @@ module _ (limits : LimitsView) (session : ℕ) (start now after : SessionState) 
       let w = n.comes.0 in
       let held : now.feed.held ++ n.read ≡ [] = sym (ap (λ (f : FeedView). f.held) w.stays) ∙ n.comes.3 in
       ends_so take_answers.End n ends.End (n.comes.1, below n.read n.reads n.comes.2)
-      (given_is_input (stream n.read n.reads) c.requests (with_piece now.feed n.read) (given n.read n.reads) (none_quits c.requests c.no_quits) c.greeted held, refl)
+      (given_is_input (stream n.read n.reads) c.requests (with_piece now.feed n.read) (given n.read n.reads) (none_quits c.requests c.no_quits) c.greeted held, c.no_quits, refl)
 
   is_malformed : (at : ℕ) → IsNotAsked now after next (take_answers.Malformed at) → IsConversed limits session start after (earlier ++ next) (ends.Malformed at)
   is_malformed at n =

@@ -184,7 +184,7 @@ module _ (start : ℕ) (input left taken₀ taken : List ℕ) (k k' m n : ℕ) (
           let a = s.answered_and_written in
           whole_answered ends.Quit s (all_if_quit s.answered (generated_requests start) (first_answered s.answered a.0.prefix) a.1 (generated_quit_last start)) a.2
       comes_to ends.End cause (inl l) = absurd (omega (arith, ap length (all_read cause.0 ∙ l.0), ap length is.spelled, length-append greeting (flat_map spell_request (generated_requests start))))
-      comes_to ends.End cause (inr s) = whole_answered ends.End s (all_at_end s.answered s.answered_and_written.0 cause.0) s.answered_and_written.1
+      comes_to ends.End cause (inr s) = whole_answered ends.End s (all_at_end s.answered s.answered_and_written.0 cause.0) s.answered_and_written.2
       comes_to (ends.Malformed at) cause leaves = absurd (can_end_so (ends.Malformed at) cause)
       comes_to (ends.Truncated at) cause leaves = absurd (can_end_so (ends.Truncated at) cause)
       comes_to ends.ReadFault cause leaves = absurd (can_end_so ends.ReadFault cause)
