@@ -1,5 +1,5 @@
 -- A run from the opening of its store to its return.
-use Rattle.std.proofs.Common.{◌≡◌, ◌≢◌, ℕ, ◌+◌, ◌≤◌, List, [], ◌++◌, length, take, Option, None, Some, Err, ap, ◌∙◌, refl, sym, subst, inl, inr, ◌⊎◌, arith, le_refl}
+use Rattle.std.proofs.Common.{◌≡◌, ◌≢◌, ℕ, ◌+◌, ◌≤◌, List, [], ◌∷◌, ◌++◌, length, take, Option, None, Some, Err, ap, ◌∙◌, refl, sym, subst, inl, inr, ◌⊎◌, arith, le_refl}
 use Rattle.std.specs.Prelude.{IsSome}
 use Rattle.std.proofs.lemmas.List.{length-map, take-append-le}
 use Rattle.std.proofs.Math.Seq.{take-length}
@@ -13,6 +13,7 @@ use Rattle.green_io.proofs.Crash.{after, weaker}
 use Rattle.edit_log.specs.Images.{AsRead, HoldsAsRead}
 use Rattle.edit_log.specs.Log.{IsWhole}
 use Rattle.world_rules.specs.History.{kept}
+use Rattle.world_rules.specs.Legal.{Exchange}
 use Rattle.green_store.specs.declared.opening.OpenFault.{OpenFault}
 use Rattle.green_store.specs.declared.opening.OpenFault.TheVariants as faults
 use Rattle.green_store.specs.Durable.{Keeps, HoldsWith, IsThat}
@@ -29,9 +30,9 @@ use Rattle.green_top.specs.GeneratedRun.{SinkFailed, CouldNotBegin, IsSummedSess
 use Rattle.green_top.specs.Outcome.{NoSession, IsRun}
 use Rattle.green_top.specs.declared.words.Form.{Form}
 use Rattle.green_top.specs.declared.words.Form.TheVariants as forms
-use Rattle.green_top.specs.inside.Forms.{limits_of, IsForm, IsFormRun}
+use Rattle.green_top.specs.inside.Forms.{limits_of, IsForm, IsFormRun, IsGenerated}
 use Rattle.green_top.proofs.EndedSessions.{run_from, transcript_from}
-use Rattle.green_top.specs.Words.{AreNoWords, HasLimits}
+use Rattle.green_top.specs.Words.{AreWords, AreGenerateWords, AreNoWords, HasLimits}
 use Rattle.green_top.specs.inside.Enduring.{StandsOn, Endures}
 use Rattle.green_top.proofs.Endurings.{was_made}
 
@@ -74,32 +75,32 @@ told : (reads : Option Areas) (fact : List ℕ → Type 0) → AsRead reads fact
 told None fact read = absurd read
 told (Some areas) fact read = refl
 
-run_holds : (words : List (List ℕ)) (limits : LimitsView) (reads : Option Areas) (entries first last reported : List PlainEntry) (image : Areas) → HasLimits words limits → first ≡ opened_with entries → reported ≡ last
-    → HoldsFront limits (greatest_session first + 1) (length first) last image → HoldsRun words reads entries reported image
-run_holds words limits reads entries first last reported image are opens is holds =
+run_holds : (words : List (List ℕ)) (limits : LimitsView) (reads : Option Areas) (entries first last reported : List PlainEntry) (exchanges : List Exchange) (image : Areas) → HasLimits words limits → first ≡ opened_with entries → reported ≡ last
+    → HoldsFront limits (greatest_session first + 1) exchanges (length first) last image → HoldsRun words reads entries reported exchanges image
+run_holds words limits reads entries first last reported exchanges image are opens is holds =
     inr (
       limits,
       are,
-      subst (λ (h : List PlainEntry). HoldsFront limits (greatest_session (opened_with entries) + 1) (length (opened_with entries)) h image) (sym is)
-          (subst (λ (h : List PlainEntry). HoldsFront limits (greatest_session h + 1) (length h) last image) opens holds),
+      subst (λ (h : List PlainEntry). HoldsFront limits (greatest_session (opened_with entries) + 1) exchanges (length (opened_with entries)) h image) (sym is)
+          (subst (λ (h : List PlainEntry). HoldsFront limits (greatest_session h + 1) exchanges (length h) last image) opens holds),
     )
 
 -- a store that has opened has no edit pending
-just_opened : (limits : LimitsView) (session first : ℕ) (disk : DiskState) (store : StoreView) (now : ℕ) → first ≤ now → Keeps disk store None → StandsOn limits session (length store.history) first disk store now
+just_opened : (limits : LimitsView) (session first : ℕ) (disk : DiskState) (store : StoreView) (now : ℕ) → first ≤ now → Keeps disk store None → StandsOn limits session [] (length store.history) first disk store now
 just_opened limits session first disk store now rises keeps = record { pending = None; keeps = keeps; made = tt; since = rises }
 
-pub not_opened_moment : (words : List (List ℕ)) (reads : Option Areas) (entries reported : List PlainEntry) (old new : DiskState) → LeavesOnly old new (HoldsAsRead entries reads) → LeavesOnly old new (HoldsRun words reads entries reported)
-not_opened_moment words reads entries reported old new leaves = weaker old new (HoldsAsRead entries reads) (HoldsRun words reads entries reported) leaves (λ image holds. inl holds)
+pub not_opened_moment : (words : List (List ℕ)) (reads : Option Areas) (entries reported : List PlainEntry) (exchanges : List Exchange) (old new : DiskState) → LeavesOnly old new (HoldsAsRead entries reads) → LeavesOnly old new (HoldsRun words reads entries reported exchanges)
+not_opened_moment words reads entries reported exchanges old new leaves = weaker old new (HoldsAsRead entries reads) (HoldsRun words reads entries reported exchanges) leaves (λ image holds. inl holds)
 
-module _ (words : List (List ℕ)) (limits : LimitsView) (are : HasLimits words limits) (old opened new : DiskState) (first last : StoreView) (k m n : ℕ) (rises : k ≤ m)
-    (keeps : IsSome old.reads → Keeps opened first None) (endures : Endures limits (greatest_session first.history + 1) opened first m new last n)
+module _ (words : List (List ℕ)) (limits : LimitsView) (are : HasLimits words limits) (old opened new : DiskState) (first last : StoreView) (exchanges : List Exchange) (k m n : ℕ) (rises : k ≤ m)
+    (keeps : IsSome old.reads → Keeps opened first None) (endures : Endures limits (greatest_session first.history + 1) exchanges opened first m new last n)
     (reported : List PlainEntry) (is : reported ≡ last.history) where
   pub opened_moment : (entries : List PlainEntry) → AsRead old.reads (λ log. IsWhole entries log) → first.history ≡ opened_with entries → LeavesOnly old opened (HoldsAsRead entries old.reads)
-      → LeavesOnly old new (HoldsRun words old.reads entries reported)
+      → LeavesOnly old new (HoldsRun words old.reads entries reported exchanges)
   opened_moment entries whole opens leaves =
-      after old opened new (HoldsAsRead entries old.reads) (HoldsFront limits (greatest_session first.history + 1) (length first.history) last.history) (HoldsRun words old.reads entries reported) leaves
-      (endures.any_moment (length first.history) k (le_refl _) (just_opened limits _ k opened first m rises (keeps (told old.reads _ whole))))
-      (λ image holds. inl holds) (λ image holds. run_holds words limits old.reads entries first.history last.history reported image are opens is holds)
+      after old opened new (HoldsAsRead entries old.reads) (HoldsFront limits (greatest_session first.history + 1) exchanges (length first.history) last.history) (HoldsRun words old.reads entries reported exchanges) leaves
+      (endures.any_moment [] (length first.history) k (le_refl _) (just_opened limits _ k opened first m rises (keeps (told old.reads _ whole))))
+      (λ image holds. inl holds) (λ image holds. run_holds words limits old.reads entries first.history last.history reported exchanges image are opens is holds)
 
   taken : (count : ℕ) → count ≡ length first.history → take count reported ≡ first.history
   taken count all =
@@ -107,17 +108,17 @@ module _ (words : List (List ℕ)) (limits : LimitsView) (are : HasLimits words 
       ap (λ (x : ℕ). take x reported) all ∙ ap (take (length first.history)) (is ∙ grown.1) ∙ take-append-le (length first.history) first.history grown.0 (omega arith) ∙ take-length first.history
 
   pub opened_kept : (count : ℕ) → count ≡ length first.history → IsSome old.reads
-      → ((pending : Option PlainEntry) → Keeps new last pending → (image : Areas) → images_now new image → HoldsWith (kept last.history) (IsThat pending) image) → (image : Areas) → images_now new image → HoldsAll words count reported k n image
+      → ((pending : Option PlainEntry) → Keeps new last pending → (image : Areas) → images_now new image → HoldsWith (kept last.history) (IsThat pending) image) → (image : Areas) → images_now new image → HoldsAll words count reported exchanges k n image
   opened_kept count all told law image now =
-      let stands = endures.stands (length first.history) k (le_refl _) (just_opened limits _ k opened first m rises (keeps told)) in
-      subst (λ (h : List PlainEntry). HoldsAll words count h k n image) (sym is) (all_hold stands (law stands.pending stands.keeps image now))
+      let stands = endures.stands [] (length first.history) k (le_refl _) (just_opened limits _ k opened first m rises (keeps told)) in
+      subst (λ (h : List PlainEntry). HoldsAll words count h exchanges k n image) (sym is) (all_hold stands (law stands.pending stands.keeps image now))
     where
-      all_hold : (s : StandsOn limits (greatest_session first.history + 1) (length first.history) k new last n) → HoldsWith (kept last.history) (IsThat s.pending) image → HoldsAll words count last.history k n image
+      all_hold : (s : StandsOn limits (greatest_session first.history + 1) exchanges (length first.history) k new last n) → HoldsWith (kept last.history) (IsThat s.pending) image → HoldsAll words count last.history exchanges k n image
       all_hold s (inl whole) = inl whole
       all_hold s (inr (entry, that, whole)) =
-          let made = was_made limits (greatest_session first.history + 1) (length first.history) last.history k n s.pending entry s.made that in
+          let made = was_made limits (greatest_session first.history + 1) exchanges (length first.history) last.history k n s.pending entry s.made that in
           let session : greatest_session first.history + 1 ≡ greatest_session (take count last.history) + 1 = ap (λ (h : List PlainEntry). greatest_session h + 1) (sym (taken count all) ∙ ap (take count) is) in
-          inr (entry, (limits, are, subst (λ (x : ℕ). WasMade limits x count last.history k n entry) session (subst (λ (x : ℕ). WasMade limits (greatest_session first.history + 1) x last.history k n entry) (sym all) made)), whole)
+          inr (entry, (limits, are, subst (λ (x : ℕ). WasMade limits x exchanges count last.history k n entry) session (subst (λ (x : ℕ). WasMade limits (greatest_session first.history + 1) exchanges x last.history k n entry) (sym all) made)), whole)
 
 -- ---- a run of some form
 
@@ -129,46 +130,58 @@ pub no_form : (words : List (List ℕ)) (form : Form) → IsForm words form → 
 no_form words (forms.Session limits) is none = none.no_session limits is
 no_form words (forms.Generate start) is none = none.no_generate start is
 
-pub session_runs : (form : Form) (named limits : LimitsView) (opened : List PlainEntry) (before after : IoState) (history : List PlainEntry) (points : List ℕ) (count : ℕ) (end : SessionEnd) → form ≡ forms.Session named → limits ≡ limits_of form
-    → IsRun limits opened before after history points count end → IsFormRun form opened before after history points count end
-session_runs form named limits opened before after history points count end is so run =
-    subst (λ (f : Form). IsFormRun f opened before after history points count end) (sym is)
-    (subst (λ (l : LimitsView). IsRun l opened before after history points count end) (so ∙ ap limits_of is) run)
+-- words of a session generate none
+pub not_both : (words : List (List ℕ)) (limits : LimitsView) (start : ℕ) → AreWords words limits → ¬ AreGenerateWords words start
+not_both [] limits start are generate = are
+not_both (a ∷ []) limits start are generate = are
+not_both (a ∷ b ∷ []) limits start are generate = generate
+not_both (a ∷ b ∷ c ∷ []) limits start are generate = are
+not_both (a ∷ b ∷ c ∷ d ∷ []) limits start are generate = are
+not_both (a ∷ b ∷ c ∷ d ∷ e ∷ more) limits start are generate = generate
 
-pub generated_runs : (form : Form) (start : ℕ) (opened : List PlainEntry) (before after : IoState) (history : List PlainEntry) (points : List ℕ) (count : ℕ) (end : SessionEnd) → form ≡ forms.Generate start
-    → IsGeneratedRun start opened before after history points end → count ≡ 0 → IsFormRun form opened before after history points count end
-generated_runs form start opened before after history points count end is run none = subst (λ (f : Form). IsFormRun f opened before after history points count end) (sym is) (run, none)
+pub generates : (words : List (List ℕ)) (form : Form) → IsForm words form → (start : ℕ) → AreGenerateWords words start → IsGenerated form
+generates words (forms.Session limits) is start generate = absurd (not_both words limits start is generate)
+generates words (forms.Generate named) is start generate = tt
 
-no_place : (start : ℕ) (opened : List PlainEntry) (before after : IoState) (history : List PlainEntry) (points : List ℕ) (end : SessionEnd) → IsGeneratedRun start opened before after history points end → place_of end ≡ 0
-no_place start opened before after history points (ends.Malformed at) run = absurd (never run.leaves)
+pub session_runs : (form : Form) (named limits : LimitsView) (opened : List PlainEntry) (before after : IoState) (history : List PlainEntry) (exchanges : List Exchange) (points : List ℕ) (count : ℕ) (end : SessionEnd) → form ≡ forms.Session named → limits ≡ limits_of form
+    → IsRun limits opened before after history exchanges points count end → IsFormRun form opened before after history exchanges points count end
+session_runs form named limits opened before after history exchanges points count end is so run =
+    subst (λ (f : Form). IsFormRun f opened before after history exchanges points count end) (sym is)
+    (subst (λ (l : LimitsView). IsRun l opened before after history exchanges points count end) (so ∙ ap limits_of is) run)
+
+pub generated_runs : (form : Form) (start : ℕ) (opened : List PlainEntry) (before after : IoState) (history : List PlainEntry) (exchanges : List Exchange) (points : List ℕ) (count : ℕ) (end : SessionEnd) → form ≡ forms.Generate start
+    → IsGeneratedRun start opened before after history exchanges points end → count ≡ 0 → IsFormRun form opened before after history exchanges points count end
+generated_runs form start opened before after history exchanges points count end is run none = subst (λ (f : Form). IsFormRun f opened before after history exchanges points count end) (sym is) (run, none)
+
+no_place : (start : ℕ) (opened : List PlainEntry) (before after : IoState) (history : List PlainEntry) (exchanges : List Exchange) (points : List ℕ) (end : SessionEnd) → IsGeneratedRun start opened before after history exchanges points end → place_of end ≡ 0
+no_place start opened before after history exchanges points (ends.Malformed at) run = absurd (never run.leaves)
   where
-    never : (CouldNotBegin (ends.Malformed at) opened × NoSession opened history points run.written) ⊎ IsSummedSession start opened (ends.Malformed at) run.written history points before.disk_faults after.disk_faults → ⊥
+    never : (CouldNotBegin (ends.Malformed at) opened × NoSession opened history exchanges points run.written) ⊎ IsSummedSession start opened (ends.Malformed at) run.written history exchanges points before.disk_faults after.disk_faults → ⊥
     never (inl l) = l.0
     never (inr s) = s.answered_and_summed
-no_place start opened before after history points (ends.Truncated at) run = absurd (never run.leaves)
+no_place start opened before after history exchanges points (ends.Truncated at) run = absurd (never run.leaves)
   where
-    never : (CouldNotBegin (ends.Truncated at) opened × NoSession opened history points run.written) ⊎ IsSummedSession start opened (ends.Truncated at) run.written history points before.disk_faults after.disk_faults → ⊥
+    never : (CouldNotBegin (ends.Truncated at) opened × NoSession opened history exchanges points run.written) ⊎ IsSummedSession start opened (ends.Truncated at) run.written history exchanges points before.disk_faults after.disk_faults → ⊥
     never (inl l) = l.0
     never (inr s) = s.answered_and_summed
-no_place start opened before after history points ends.Quit run = refl
-no_place start opened before after history points ends.End run = refl
-no_place start opened before after history points ends.ReadFault run = refl
-no_place start opened before after history points ends.WriteFault run = refl
-no_place start opened before after history points ends.Memory run = refl
-no_place start opened before after history points ends.Budget run = refl
-no_place start opened before after history points ends.NoNumber run = refl
+no_place start opened before after history exchanges points ends.Quit run = refl
+no_place start opened before after history exchanges points ends.End run = refl
+no_place start opened before after history exchanges points ends.ReadFault run = refl
+no_place start opened before after history exchanges points ends.WriteFault run = refl
+no_place start opened before after history exchanges points ends.Memory run = refl
+no_place start opened before after history exchanges points ends.Budget run = refl
+no_place start opened before after history exchanges points ends.NoNumber run = refl
 
 -- seen from before the store was opened
 
-summed_from : (start : ℕ) (opened : List PlainEntry) (end : SessionEnd) (written : List ℕ) (history : List PlainEntry) (points : List ℕ) (k m n : ℕ) → k ≤ m → IsSummedSession start opened end written history points m n → IsSummedSession start opened end written history points k n
-unfolding transcript_from
-summed_from start opened end written history points k m n le s = record {
+summed_from : (start : ℕ) (opened : List PlainEntry) (end : SessionEnd) (written : List ℕ) (history : List PlainEntry) (exchanges : List Exchange) (points : List ℕ) (k m n : ℕ) → k ≤ m → IsSummedSession start opened end written history exchanges points m n → IsSummedSession start opened end written history exchanges points k n
+summed_from start opened end written history exchanges points k m n le s = record {
   session = s.session;
   number_is = s.number_is;
   has_number = s.has_number;
   answered = s.answered;
   output = s.output;
-  over = record { history_is = s.over.history_is; over = s.over.over; placed = s.over.placed; transcript = transcript_from standard_limits s.session history s.answered points s.output k m n le s.over.transcript };
+  over = record { history_is = s.over.history_is; over = s.over.over; placed = s.over.placed; transcript = transcript_from standard_limits s.session history exchanges s.answered points s.output k m n le s.over.transcript };
   answered_and_summed = s.answered_and_summed;
 }
 
@@ -183,9 +196,9 @@ failed_from ends.Memory before after m failed = tt
 failed_from ends.Budget before after m failed = tt
 failed_from ends.NoNumber before after m failed = tt
 
-generated_from : (start : ℕ) (opened : List PlainEntry) (before after : IoState) (m : ℕ) (history reported : List PlainEntry) (points : List ℕ) (end : SessionEnd) → before.disk_faults ≤ m → reported ≡ history
-    → IsGeneratedRun start opened (with_disk_faults before m) after history points end → IsGeneratedRun start opened before after reported points end
-generated_from start opened before after m history reported points end le is run = subst (λ (h : List PlainEntry). IsGeneratedRun start opened before after h points end) (sym is) (record {
+generated_from : (start : ℕ) (opened : List PlainEntry) (before after : IoState) (m : ℕ) (history reported : List PlainEntry) (exchanges : List Exchange) (points : List ℕ) (end : SessionEnd) → before.disk_faults ≤ m → reported ≡ history
+    → IsGeneratedRun start opened (with_disk_faults before m) after history exchanges points end → IsGeneratedRun start opened before after reported exchanges points end
+generated_from start opened before after m history reported exchanges points end le is run = subst (λ (h : List PlainEntry). IsGeneratedRun start opened before after h exchanges points end) (sym is) (record {
   written = run.written;
   left_stays = run.left_stays;
   source_faults_stay = run.source_faults_stay;
@@ -196,15 +209,15 @@ generated_from start opened before after m history reported points end le is run
   leaves = wider run.leaves;
 })
   where
-    wider : (CouldNotBegin end opened × NoSession opened history points run.written) ⊎ IsSummedSession start opened end run.written history points m after.disk_faults
-        → (CouldNotBegin end opened × NoSession opened history points run.written) ⊎ IsSummedSession start opened end run.written history points before.disk_faults after.disk_faults
+    wider : (CouldNotBegin end opened × NoSession opened history exchanges points run.written) ⊎ IsSummedSession start opened end run.written history exchanges points m after.disk_faults
+        → (CouldNotBegin end opened × NoSession opened history exchanges points run.written) ⊎ IsSummedSession start opened end run.written history exchanges points before.disk_faults after.disk_faults
     wider (inl never) = inl never
-    wider (inr s) = inr (summed_from start opened end run.written history points before.disk_faults m after.disk_faults le s)
+    wider (inr s) = inr (summed_from start opened end run.written history exchanges points before.disk_faults m after.disk_faults le s)
 
-pub batch_of : (words : List (List ℕ)) (form : Form) (reads left : Option Areas) (before after : IoState) (m : ℕ) (report : Report) (status : ℕ) (opened history : List PlainEntry) (end : SessionEnd)
+pub batch_of : (words : List (List ℕ)) (form : Form) (reads left : Option Areas) (before after : IoState) (m : ℕ) (report : Report) (status : ℕ) (opened history : List PlainEntry) (exchanges : List Exchange) (end : SessionEnd)
     → IsForm words form → IsOpenedFrom reads opened → status ≡ status_of end → report.place ≡ place_of end → report.opened ≡ length opened → before.disk_faults ≤ m → plain_history report.history.items ≡ history
-    → IsFormRun form opened (with_disk_faults before m) after history report.points.items report.bytes_read end → IsBatch words reads left before after report status
-batch_of words (forms.Session limits) reads left before after m report status opened history end form from status-is place-is opened-is le is run = inr (inl (record {
+    → IsFormRun form opened (with_disk_faults before m) after history exchanges report.points.items report.bytes_read end → IsBatch words reads left before after report exchanges status
+batch_of words (forms.Session limits) reads left before after m report status opened history exchanges end form from status-is place-is opened-is le is run = inr (inl (record {
   limits = limits;
   opened = opened;
   end = end;
@@ -213,19 +226,19 @@ batch_of words (forms.Session limits) reads left before after m report status op
   status_is = status-is;
   place_is = place-is;
   opened_is = opened-is;
-  run = run_from limits opened before after m history (plain_history report.history.items) report.points.items report.bytes_read end le is run;
+  run = run_from limits opened before after m history (plain_history report.history.items) exchanges report.points.items report.bytes_read end le is run;
 }))
-batch_of words (forms.Generate start) reads left before after m report status opened history end form from status-is place-is opened-is le is run = inr (inr (record {
+batch_of words (forms.Generate start) reads left before after m report status opened history exchanges end form from status-is place-is opened-is le is run = inr (inr (record {
   start = start;
   opened = opened;
   end = end;
   words_are = form;
   from = from;
   status_is = status-is;
-  place_is = place-is ∙ no_place start opened (with_disk_faults before m) after history report.points.items end run.0;
+  place_is = place-is ∙ no_place start opened (with_disk_faults before m) after history exchanges report.points.items end run.0;
   opened_is = opened-is;
   counted = run.1;
-  run = generated_from start opened before after m history (plain_history report.history.items) report.points.items end le is run.0;
+  run = generated_from start opened before after m history (plain_history report.history.items) exchanges report.points.items end le is run.0;
 }))
 
 -- ---- a store that was not opened

@@ -1,5 +1,5 @@
 -- A session's whole input is served over a log that is not damaged.
-use Rattle.std.proofs.Common.{◌≡◌, ℕ, ◌+◌, ◌<◌, ◌^◌, List, [], ◌∷◌, ◌++◌, length, Option, Some, None, refl, sym, ap, ◌∙◌, subst, inl, inr, ◌⊎◌, arith}
+use Rattle.std.proofs.Common.{◌≡◌, ℕ, ◌+◌, ◌<◌, ◌^◌, List, [], ◌++◌, length, Option, Some, None, refl, sym, ap, ◌∙◌, subst, inl, inr, ◌⊎◌, arith}
 use Rattle.std.specs.Io.KnownBytes.{Consumes, IsAtEnd}
 use Rattle.std.proofs.lemmas.List.{append-nil, length-append}
 use Rattle.febe_data.specs.LimitsView.{LimitsView}
@@ -8,6 +8,8 @@ use Rattle.febe_fields.specs.Prefixes.{IsPrefix}
 use Rattle.febe_wire.specs.Sessions.{IsInput}
 use Rattle.febe_feed.proofs.Malformed.{prefixes_are_right}
 use Rattle.green_io.specs.Areas.{Areas}
+use Rattle.green_io.specs.Outside.{HasRisen}
+use Rattle.world_rules.specs.Legal.{Exchange}
 use Rattle.edit_log.specs.Laws.{EachHasOneReading}
 use Rattle.green_store.specs.declared.opening.OpenFault.{OpenFault}
 use Rattle.green_store.specs.declared.opening.OpenFault.TheVariants as faults
@@ -18,9 +20,10 @@ use Rattle.green_top.specs.Batch.{status_of, fault_status, FaultCause, IsUsage, 
 use Rattle.green_top.specs.Ends.{Cause}
 use Rattle.green_top.specs.Outcome.{Leaves, NoSession}
 use Rattle.green_top.specs.GeneratedRun.{SinkFailed, CouldNotBegin, IsSummedSession}
-use Rattle.green_top.specs.Laws.{NoFaults, HasSession, HasLog, Completeness, GeneratedCompleteness}
+use Rattle.green_top.specs.Laws.{NoFaults, IsServed, HasSession, HasLog, Completeness, GeneratedCompleteness}
 use Rattle.green_top.specs.IoState.{IoState}
-use Rattle.green_top.specs.Words.{AreWords, AreGenerateWords}
+use Rattle.green_top.specs.Words.{AreNoWords}
+use Rattle.green_top.proofs.Batches.{not_both}
 use Rattle.green_top.proofs.Readings.{undamaged, opened_is, greatest_opened}
 
 -- what was read is a prefix of what was left
@@ -33,9 +36,9 @@ prefix_of (Some xs) (Some ys) input read e c = (ys, refl, sym (some_is xs input 
     some_is a b is = cc
 
 -- where there is a number a session does not end for want of one
-number_left : (limits : LimitsView) (opened : List PlainEntry) (read written : List ℕ) (history : List PlainEntry) (points : List ℕ) (m n : ℕ) → greatest_session opened + 1 < 2 ^ 64 → ¬ Leaves limits opened ends.NoNumber read written history points m n
-number_left limits opened read written history points m n has (inl l) = omega (arith, has, l.0.0)
-number_left limits opened read written history points m n has (inr s) = s.answered_and_written
+number_left : (limits : LimitsView) (opened : List PlainEntry) (read written : List ℕ) (history : List PlainEntry) (exchanges : List Exchange) (points : List ℕ) (m n : ℕ) → greatest_session opened + 1 < 2 ^ 64 → ¬ Leaves limits opened ends.NoNumber read written history exchanges points m n
+number_left limits opened read written history exchanges points m n has (inl l) = omega (arith, has, l.0.0)
+number_left limits opened read written history exchanges points m n has (inr s) = s.answered_and_written
 
 module _ (before after : IoState) (s : HasSession before.left) (quiet : NoFaults before after) (read : List ℕ) (consumed : Consumes before.left after.left read) where
   abbrev prefix : (rest : List ℕ) × (after.left ≡ Some rest) × (s.input ≡ read ++ rest)
@@ -49,8 +52,8 @@ module _ (before after : IoState) (s : HasSession before.left) (quiet : NoFaults
       let none : prefix.0 ≡ [] = rw prefix.1 at over in
       subst IsInput (prefix.2 ∙ ap (λ (rest : List ℕ). read ++ rest) none ∙ append-nil read) s.whole
 
-  module _ (limits : LimitsView) (opened : List PlainEntry) (written : List ℕ) (history : List PlainEntry) (points : List ℕ) (has : greatest_session opened + 1 < 2 ^ 64) where
-    served : (end : SessionEnd) → Cause end read before after → Leaves limits opened end read written history points before.disk_faults after.disk_faults → (status_of end ≡ 0) ⊎ (status_of end ≡ 9)
+  module _ (limits : LimitsView) (opened : List PlainEntry) (written : List ℕ) (history : List PlainEntry) (exchanges : List Exchange) (points : List ℕ) (has : greatest_session opened + 1 < 2 ^ 64) where
+    served : (end : SessionEnd) → Cause end read before after → Leaves limits opened end read written history exchanges points before.disk_faults after.disk_faults → (status_of end ≡ 0) ⊎ (status_of end ≡ 9)
     served ends.Quit cause leaves = inl refl
     served ends.End cause leaves = inl refl
     served (ends.Malformed at) cause leaves = absurd (prefixes_are_right read at is_prefix cause)
@@ -59,68 +62,55 @@ module _ (before after : IoState) (s : HasSession before.left) (quiet : NoFaults
     served ends.WriteFault cause leaves = absurd (quiet.none_written cause)
     served ends.Memory cause leaves = inr refl
     served ends.Budget cause leaves = absurd (omega (arith, cause.1, s.short, ap length prefix.2, length-append read prefix.0))
-    served ends.NoNumber cause leaves = absurd (number_left limits opened read written history points before.disk_faults after.disk_faults has leaves)
+    served ends.NoNumber cause leaves = absurd (number_left limits opened read written history exchanges points before.disk_faults after.disk_faults has leaves)
 
--- the store is not opened for want of memory alone
-by_fault : EachHasOneReading → (reads left : Option Areas) (before after : IoState) → HasLog reads → NoFaults before after → (fault : OpenFault) → FaultCause fault reads left before after → fault_status fault ≡ 9
-by_fault one reads left before after log quiet (faults.Damaged at) cause = absurd (undamaged one reads log.entries log.read log.fit at cause.0)
-by_fault one reads left before after log quiet faults.Disk cause = absurd (quiet.none_of_disk cause)
-by_fault one reads left before after log quiet faults.Memory cause = refl
+-- the store is not opened for want of memory, or since the disk failed, and for nothing else
+by_fault : EachHasOneReading → (reads left : Option Areas) (before after : IoState) → HasLog reads → (fault : OpenFault) → FaultCause fault reads left before after → IsServed before after (fault_status fault)
+by_fault one reads left before after log (faults.Damaged at) cause = absurd (undamaged one reads log.entries log.read log.fit at cause.0)
+by_fault one reads left before after log faults.Disk cause = inr (inr (refl, cause))
+by_fault one reads left before after log faults.Memory cause = inr (inl refl)
 
-by_nothing : EachHasOneReading → (words : List (List ℕ)) (limits : LimitsView) (reads left : Option Areas) (before after : IoState) (place status : ℕ) → AreWords words limits → HasLog reads → NoFaults before after
-    → IsUsage words before after place status ⊎ IsNotOpened words reads left before after place status → (status ≡ 0) ⊎ (status ≡ 9)
-by_nothing one words limits reads left before after place status are log quiet (inl wrong) = absurd (wrong.wrong.no_session limits are)
-by_nothing one words limits reads left before after place status are log quiet (inr n) = inr (n.status_is ∙ by_fault one reads left before after log quiet n.fault n.cause)
+-- a session that ended so was served
+by_end : (before after : IoState) (status given : ℕ) → status ≡ given → (given ≡ 0) ⊎ (given ≡ 9) → IsServed before after status
+by_end before after status given is (inl e) = inl (is ∙ e)
+by_end before after status given is (inr e) = inr (inl (is ∙ e))
 
--- words of a session generate none
-not_both : (words : List (List ℕ)) (limits : LimitsView) (start : ℕ) → AreWords words limits → ¬ AreGenerateWords words start
-not_both [] limits start are generate = are
-not_both (a ∷ []) limits start are generate = are
-not_both (a ∷ b ∷ []) limits start are generate = generate
-not_both (a ∷ b ∷ c ∷ []) limits start are generate = are
-not_both (a ∷ b ∷ c ∷ d ∷ []) limits start are generate = are
-not_both (a ∷ b ∷ c ∷ d ∷ e ∷ more) limits start are generate = generate
-
-either : (status given : ℕ) → status ≡ given → (given ≡ 0) ⊎ (given ≡ 9) → (status ≡ 0) ⊎ (status ≡ 9)
-either status given is (inl e) = inl (is ∙ e)
-either status given is (inr e) = inr (is ∙ e)
+by_nothing : EachHasOneReading → (words : List (List ℕ)) (reads left : Option Areas) (before after : IoState) (place status : ℕ) → ¬ AreNoWords words → HasLog reads
+    → IsUsage words before after place status ⊎ IsNotOpened words reads left before after place status → IsServed before after status
+by_nothing one words reads left before after place status are log (inl wrong) = absurd (are wrong.wrong)
+by_nothing one words reads left before after place status are log (inr n) = subst (IsServed before after) (sym n.status_is) (by_fault one reads left before after log n.fault n.cause)
 
 pub completeness : EachHasOneReading → Completeness
-completeness one words limits reads left before after report status are s log quiet (inl nothing) = by_nothing one words limits reads left before after report.place status are log quiet nothing.why
-completeness one words limits reads left before after report status are s log quiet (inr (inr o)) = absurd (not_both words limits o.start are o.words_are)
-completeness one words limits reads left before after report status are s log quiet (inr (inl o)) =
+completeness one words limits reads left before after report exchanges status are s log quiet (inl nothing) = by_nothing one words reads left before after report.place status (λ none. none.no_session limits are) log nothing.why
+completeness one words limits reads left before after report exchanges status are s log quiet (inr (inr o)) = absurd (not_both words limits o.start are o.words_are)
+completeness one words limits reads left before after report exchanges status are s log quiet (inr (inl o)) =
     let is = opened_is one reads log.entries o.opened log.read o.from in
     let has : greatest_session o.opened + 1 < 2 ^ 64 = omega (arith, log.number, ap greatest_session is, greatest_opened log.entries) in
-    either status (status_of o.end) o.status_is (served before after s quiet o.run.read o.run.moves.consumed o.limits o.opened o.run.written _ report.points.items has o.end o.run.cause o.run.leaves)
+    by_end before after status (status_of o.end) o.status_is (served before after s quiet o.run.read o.run.moves.consumed o.limits o.opened o.run.written _ exchanges report.points.items has o.end o.run.cause o.run.leaves)
 
 -- ---- a session that is generated
 
-generated_ends : (start : ℕ) (opened history : List PlainEntry) (points written : List ℕ) (before after : IoState) (end : SessionEnd) → greatest_session opened + 1 < 2 ^ 64 → NoFaults before after → SinkFailed end before after
-    → (CouldNotBegin end opened × NoSession opened history points written) ⊎ IsSummedSession start opened end written history points before.disk_faults after.disk_faults → (status_of end ≡ 0) ⊎ (status_of end ≡ 9)
-generated_ends start opened history points written before after ends.Quit has quiet failed leaves = inl refl
-generated_ends start opened history points written before after ends.End has quiet failed leaves = inl refl
-generated_ends start opened history points written before after (ends.Malformed at) has quiet failed (inl never) = absurd never.0
-generated_ends start opened history points written before after (ends.Malformed at) has quiet failed (inr s) = absurd s.answered_and_summed
-generated_ends start opened history points written before after (ends.Truncated at) has quiet failed (inl never) = absurd never.0
-generated_ends start opened history points written before after (ends.Truncated at) has quiet failed (inr s) = absurd s.answered_and_summed
-generated_ends start opened history points written before after ends.ReadFault has quiet failed (inl never) = absurd never.0
-generated_ends start opened history points written before after ends.ReadFault has quiet failed (inr s) = absurd s.answered_and_summed
-generated_ends start opened history points written before after ends.WriteFault has quiet failed leaves = absurd (quiet.none_written failed)
-generated_ends start opened history points written before after ends.Memory has quiet failed leaves = inr refl
-generated_ends start opened history points written before after ends.Budget has quiet failed (inl never) = absurd never.0
-generated_ends start opened history points written before after ends.Budget has quiet failed (inr s) = absurd s.answered_and_summed
-generated_ends start opened history points written before after ends.NoNumber has quiet failed (inl never) = absurd (omega (arith, has, never.0))
-generated_ends start opened history points written before after ends.NoNumber has quiet failed (inr s) = absurd s.answered_and_summed
-
-generated_nothing : EachHasOneReading → (words : List (List ℕ)) (start : ℕ) (reads left : Option Areas) (before after : IoState) (place status : ℕ) → AreGenerateWords words start → HasLog reads → NoFaults before after
-    → IsUsage words before after place status ⊎ IsNotOpened words reads left before after place status → (status ≡ 0) ⊎ (status ≡ 9)
-generated_nothing one words start reads left before after place status are log quiet (inl wrong) = absurd (wrong.wrong.no_generate start are)
-generated_nothing one words start reads left before after place status are log quiet (inr n) = inr (n.status_is ∙ by_fault one reads left before after log quiet n.fault n.cause)
+generated_ends : (start : ℕ) (opened history : List PlainEntry) (exchanges : List Exchange) (points written : List ℕ) (before after : IoState) (end : SessionEnd) → greatest_session opened + 1 < 2 ^ 64 → ¬ HasRisen before.sink_faults after.sink_faults → SinkFailed end before after
+    → (CouldNotBegin end opened × NoSession opened history exchanges points written) ⊎ IsSummedSession start opened end written history exchanges points before.disk_faults after.disk_faults → (status_of end ≡ 0) ⊎ (status_of end ≡ 9)
+generated_ends start opened history exchanges points written before after ends.Quit has quiet failed leaves = inl refl
+generated_ends start opened history exchanges points written before after ends.End has quiet failed leaves = inl refl
+generated_ends start opened history exchanges points written before after (ends.Malformed at) has quiet failed (inl never) = absurd never.0
+generated_ends start opened history exchanges points written before after (ends.Malformed at) has quiet failed (inr s) = absurd s.answered_and_summed
+generated_ends start opened history exchanges points written before after (ends.Truncated at) has quiet failed (inl never) = absurd never.0
+generated_ends start opened history exchanges points written before after (ends.Truncated at) has quiet failed (inr s) = absurd s.answered_and_summed
+generated_ends start opened history exchanges points written before after ends.ReadFault has quiet failed (inl never) = absurd never.0
+generated_ends start opened history exchanges points written before after ends.ReadFault has quiet failed (inr s) = absurd s.answered_and_summed
+generated_ends start opened history exchanges points written before after ends.WriteFault has quiet failed leaves = absurd (quiet failed)
+generated_ends start opened history exchanges points written before after ends.Memory has quiet failed leaves = inr refl
+generated_ends start opened history exchanges points written before after ends.Budget has quiet failed (inl never) = absurd never.0
+generated_ends start opened history exchanges points written before after ends.Budget has quiet failed (inr s) = absurd s.answered_and_summed
+generated_ends start opened history exchanges points written before after ends.NoNumber has quiet failed (inl never) = absurd (omega (arith, has, never.0))
+generated_ends start opened history exchanges points written before after ends.NoNumber has quiet failed (inr s) = absurd s.answered_and_summed
 
 pub generated_completeness : EachHasOneReading → GeneratedCompleteness
-generated_completeness one words start reads left before after report status are log quiet (inl nothing) = generated_nothing one words start reads left before after report.place status are log quiet nothing.why
-generated_completeness one words start reads left before after report status are log quiet (inr (inl o)) = absurd (not_both words o.limits start o.words_are are)
-generated_completeness one words start reads left before after report status are log quiet (inr (inr o)) =
+generated_completeness one words start reads left before after report exchanges status are log quiet (inl nothing) = by_nothing one words reads left before after report.place status (λ none. none.no_generate start are) log nothing.why
+generated_completeness one words start reads left before after report exchanges status are log quiet (inr (inl o)) = absurd (not_both words o.limits start o.words_are are)
+generated_completeness one words start reads left before after report exchanges status are log quiet (inr (inr o)) =
     let is = opened_is one reads log.entries o.opened log.read o.from in
     let has : greatest_session o.opened + 1 < 2 ^ 64 = omega (arith, log.number, ap greatest_session is, greatest_opened log.entries) in
-    either status (status_of o.end) o.status_is (generated_ends o.start o.opened _ report.points.items o.run.written before after o.end has quiet o.run.cause o.run.leaves)
+    by_end before after status (status_of o.end) o.status_is (generated_ends o.start o.opened _ exchanges report.points.items o.run.written before after o.end has quiet o.run.cause o.run.leaves)

@@ -32,6 +32,7 @@ use Rattle.green_top.specs.Ends.{most_input, Cause, AnsweredAndWritten}
 use Rattle.green_top.specs.inside.Progress.{AnswersAndWrites, Progress}
 use Rattle.green_top.specs.inside.Conversation.{SessionState, session_state, reading, answering, IsAsked, IsNotAsked, IsRound, HasBegun, all_read, IsConversing, IsConversed}
 use Rattle.world_rules.specs.History.{is_live, live_after}
+use Rattle.world_rules.specs.Legal.{Exchange}
 use Rattle.green_store.specs.Sessions.{begin_entry}
 use Rattle.green_top.specs.inside.Opening.{Begins}
 use Rattle.green_top.proofs.Streams.{consumes_more, consumes_nothing, appends_nothing, appends_both, risen_since}
@@ -108,10 +109,10 @@ module _ (limits : LimitsView) (session : ℕ) (h : List PlainEntry) (points : L
   same_length : length (greeting ++ feed.held) ≡ length ((greeting ++ feed.held) ++ [])
   same_length = ap length (sym (append-nil (greeting ++ feed.held)))
 
-  just_begun : Progress limits session h h points [] (codes "P0~") disk_faults disk_faults
+  just_begun : Progress limits session h h [] points [] (codes "P0~") disk_faults disk_faults
   just_begun = rw begun.no_points (progress_begins limits session begun.opened h disk_faults begun.begins)
 
-  pub starts : IsPut taken taken' faults faults' (codes "P0~") put_results.Done → IsConversing limits session start (session_state h points feed turns (io_state left source_faults taken' faults' disk_faults))
+  pub starts : IsPut taken taken' faults faults' (codes "P0~") put_results.Done → IsConversing limits session start (session_state h points feed turns (io_state left source_faults taken' faults' disk_faults)) []
   starts put = record {
     read = [];
     written = codes "P0~";
@@ -126,7 +127,7 @@ module _ (limits : LimitsView) (session : ℕ) (h : List PlainEntry) (points : L
     live = live_from_begin session begun.opened h begun.begins;
   }
 
-  pub greeting_fails : IsPut taken taken' faults faults' (codes "P0~") put_results.WriteFault → IsConversed limits session start (session_state h points feed turns (io_state left source_faults taken' faults' disk_faults)) ends.WriteFault
+  pub greeting_fails : IsPut taken taken' faults faults' (codes "P0~") put_results.WriteFault → IsConversed limits session start (session_state h points feed turns (io_state left source_faults taken' faults' disk_faults)) [] ends.WriteFault
   greeting_fails put = record {
     read = [];
     written = put.written;
@@ -142,7 +143,7 @@ module _ (limits : LimitsView) (session : ℕ) (h : List PlainEntry) (points : L
 
 -- ---- a round
 
-module _ (limits : LimitsView) (session : ℕ) (start now after : SessionState) (c : IsConversing limits session start now) where
+module _ (limits : LimitsView) (session : ℕ) (start now after : SessionState) (earlier next : List Exchange) (c : IsConversing limits session start now earlier) where
   module _ (r : List ℕ) (t : ReadsBytes (reading now) (reading after) r) where
     abbrev stream : List ℕ
     stream = all_read start (c.read ++ r)
@@ -198,7 +199,7 @@ module _ (limits : LimitsView) (session : ℕ) (start now after : SessionState) 
 
   -- ---- a request came
 
-  module _ (request : PlainRequest) (put : Put) (a : IsAsked limits session now after request put) where
+  module _ (request : PlainRequest) (put : Put) (a : IsAsked limits session now after next request put) where
     abbrev asked_stream : List ℕ
     asked_stream = stream a.read a.reads
 
@@ -211,10 +212,13 @@ module _ (limits : LimitsView) (session : ℕ) (start now after : SessionState) 
     one_more : HasRequestPrefix asked_stream (c.requests ++ request ∷ [])
     one_more = request_prefix asked_stream (c.requests ++ request ∷ []) after.feed given_one still_greeted (last_may_quit c.requests request c.no_quits)
 
-    answered : (h : AnswersAndWrites limits session (answering now) (answering after) request put) → Progress limits session start.history after.history after.points (c.requests ++ request ∷ []) (c.written ++ h.output) start.io.disk_faults after.io.disk_faults
-    answered h = progress_goes_on limits session start.history now.history now.points c.requests c.written start.io.disk_faults now.io.disk_faults c.progress request h.output (answering now) (answering after) refl refl refl h.answers
+    answered : (h : AnswersAndWrites limits session (answering now) (answering after) request put next)
+        → Progress limits session start.history after.history (earlier ++ next) after.points (c.requests ++ request ∷ []) (c.written ++ h.output) start.io.disk_faults after.io.disk_faults
+    answered h =
+        subst (λ (es : List Exchange). Progress limits session start.history after.history (earlier ++ es) after.points (c.requests ++ request ∷ []) (c.written ++ h.output) start.io.disk_faults after.io.disk_faults) (sym h.exchanges_are)
+        (progress_goes_on limits session start.history now.history earlier now.points c.requests c.written start.io.disk_faults now.io.disk_faults c.progress request h.output (answering now) (answering after) refl refl refl h.answers)
 
-  pub goes_on : IsRound limits session now after None → IsConversing limits session start after
+  pub goes_on : IsRound limits session now after next None → IsConversing limits session start after (earlier ++ next)
   goes_on ((request, no_quit, a), live) = elim a.answered [
     | inl h ↦ record {
       read = c.read ++ a.read;
@@ -232,7 +236,7 @@ module _ (limits : LimitsView) (session : ℕ) (start now after : SessionState) 
     | inr s ↦ absurd (let e = s.memory in cc)
   ]
 
-  quits : IsAsked limits session now after quit put_results.Done → IsConversed limits session start after ends.Quit
+  quits : IsAsked limits session now after next quit put_results.Done → IsConversed limits session start after (earlier ++ next) ends.Quit
   quits a = elim a.answered [
     | inl h ↦ record {
       read = c.read ++ a.read;
@@ -249,7 +253,7 @@ module _ (limits : LimitsView) (session : ℕ) (start now after : SessionState) 
     | inr s ↦ absurd (let e = s.memory in cc)
   ]
 
-  write_fails : (request : PlainRequest) → IsAsked limits session now after request put_results.WriteFault → IsConversed limits session start after ends.WriteFault
+  write_fails : (request : PlainRequest) → IsAsked limits session now after next request put_results.WriteFault → IsConversed limits session start after (earlier ++ next) ends.WriteFault
   write_fails request a = elim a.answered [
     | inl h ↦ record {
       read = c.read ++ a.read;
@@ -266,7 +270,7 @@ module _ (limits : LimitsView) (session : ℕ) (start now after : SessionState) 
     | inr s ↦ absurd (let e = s.memory in cc)
   ]
 
-  no_memory_to_reply : (request : PlainRequest) → IsAsked limits session now after request put_results.Memory → IsConversed limits session start after ends.Memory
+  no_memory_to_reply : (request : PlainRequest) → IsAsked limits session now after next request put_results.Memory → IsConversed limits session start after (earlier ++ next) ends.Memory
   no_memory_to_reply request a = elim a.answered [
     | inl h ↦ record {
       read = c.read ++ a.read;
@@ -288,7 +292,7 @@ module _ (limits : LimitsView) (session : ℕ) (start now after : SessionState) 
       moves = taking a.read a.reads [] (rw s.sink_stays (appends_nothing now.io.taken)) (omega (arith, s.faults_stay)) (omega (arith, s.disk_faults_stay));
       counted = ap (λ (x : TurnsView). x.taken) (counts a.read a.reads);
       within = bounded a.read a.reads;
-      progress = rw (s.history_stays, s.points_stay, s.disk_faults_stay, append-nil c.written) c.progress;
+      progress = rw (s.history_stays, s.points_stay, s.disk_faults_stay, s.no_exchange, append-nil c.written, append-nil earlier) c.progress;
       cause = tt;
       answered_and_written = (prefix a.read a.reads, ([], sym (append-nil (c.written ++ []))));
     }
@@ -296,7 +300,7 @@ module _ (limits : LimitsView) (session : ℕ) (start now after : SessionState) 
 
   -- ---- none came
 
-  module _ (taken : Taken) (n : IsNotAsked now after taken) where
+  module _ (taken : Taken) (n : IsNotAsked now after next taken) where
     abbrev unasked_stream : List ℕ
     unasked_stream = stream n.read n.reads
 
@@ -304,10 +308,10 @@ module _ (limits : LimitsView) (session : ℕ) (start now after : SessionState) 
     nothing_more = subst (λ (w : List ℕ). Moves start.io after.io (c.read ++ n.read) w) (append-nil c.written)
         (taking n.read n.reads [] (rw n.taken_stays (appends_nothing now.io.taken)) (omega (arith, n.faults_stay)) (omega (arith, n.disk_faults_stay)))
 
-    still : Progress limits session start.history after.history after.points c.requests c.written start.io.disk_faults after.io.disk_faults
-    still = rw (n.history_stays, n.points_stay, n.disk_faults_stay) c.progress
+    still : Progress limits session start.history after.history (earlier ++ next) after.points c.requests c.written start.io.disk_faults after.io.disk_faults
+    still = rw (n.history_stays, n.points_stay, n.disk_faults_stay, n.no_exchange, append-nil earlier) c.progress
 
-    ends_so : (end : SessionEnd) → Cause end unasked_stream start.io after.io → AnsweredAndWritten end unasked_stream c.requests c.written c.written → IsConversed limits session start after end
+    ends_so : (end : SessionEnd) → Cause end unasked_stream start.io after.io → AnsweredAndWritten end unasked_stream c.requests c.written c.written → IsConversed limits session start after (earlier ++ next) end
     ends_so end cause answered_and_written = record {
       read = c.read ++ n.read;
       written = c.written;
@@ -330,21 +334,21 @@ module _ (limits : LimitsView) (session : ℕ) (start now after : SessionState) 
     waits_whole : Waits (with_piece now.feed n.read) after.feed → AreWholeRequests unasked_stream c.requests
     waits_whole w = whole n.read n.reads (waits_none w)
 
-  comes_to_end : IsNotAsked now after take_answers.End → IsConversed limits session start after ends.End
+  comes_to_end : IsNotAsked now after next take_answers.End → IsConversed limits session start after (earlier ++ next) ends.End
   comes_to_end n =
       let w = n.comes.0 in
       let held : now.feed.held ++ n.read ≡ [] = sym (ap (λ (f : FeedView). f.held) w.stays) ∙ n.comes.3 in
       ends_so take_answers.End n ends.End (n.comes.1, below n.read n.reads n.comes.2)
-      (given_is_input (stream n.read n.reads) c.requests (with_piece now.feed n.read) (given n.read n.reads) (none_quits c.requests c.no_quits) c.greeted held, refl)
+      (given_is_input (stream n.read n.reads) c.requests (with_piece now.feed n.read) (given n.read n.reads) (none_quits c.requests c.no_quits) c.greeted held, c.no_quits, refl)
 
-  is_malformed : (at : ℕ) → IsNotAsked now after (take_answers.Malformed at) → IsConversed limits session start after (ends.Malformed at)
+  is_malformed : (at : ℕ) → IsNotAsked now after next (take_answers.Malformed at) → IsConversed limits session start after (earlier ++ next) (ends.Malformed at)
   is_malformed at n =
       ends_so (take_answers.Malformed at) n (ends.Malformed at)
       (wrong_is_malformed (stream n.read n.reads) c.requests (with_piece now.feed n.read) after.feed at (given n.read n.reads) c.no_quits (short n.read n.reads) n.comes)
       (whole n.read n.reads (rw c.greeted at n.comes.bad.none), refl)
 
   -- what is held reaches to the end of what was read
-  cut_off_at : (at : ℕ) (n : IsNotAsked now after (take_answers.Truncated at)) → at ≡ length (stream n.read n.reads)
+  cut_off_at : (at : ℕ) (n : IsNotAsked now after next (take_answers.Truncated at)) → at ≡ length (stream n.read n.reads)
   cut_off_at at n =
       let w = n.comes.0 in
       let g = given n.read n.reads in
@@ -352,7 +356,7 @@ module _ (limits : LimitsView) (session : ℕ) (start now after : SessionState) 
       let place : now.feed.offset ≡ later 0 (length (given_bytes now.feed.greeted c.requests)) = g.place in
       n.comes.4 ∙ ap (λ (f : FeedView). later f.offset (length f.held)) w.stays ∙ omega (arith, whole_length, place, short n.read n.reads)
 
-  is_truncated : (at : ℕ) → IsNotAsked now after (take_answers.Truncated at) → IsConversed limits session start after (ends.Truncated at)
+  is_truncated : (at : ℕ) → IsNotAsked now after next (take_answers.Truncated at) → IsConversed limits session start after (earlier ++ next) (ends.Truncated at)
   is_truncated at n =
       let w = n.comes.0 in
       let some : now.feed.held ++ n.read ≢ [] = λ e. n.comes.3 (ap (λ (f : FeedView). f.held) w.stays ∙ e) in
@@ -360,22 +364,22 @@ module _ (limits : LimitsView) (session : ℕ) (start now after : SessionState) 
       (waiting_is_truncated (stream n.read n.reads) c.requests (with_piece now.feed n.read) after.feed (given n.read n.reads) c.no_quits w some, n.comes.1, below n.read n.reads n.comes.2, cut_off_at at n)
       (waits_whole (take_answers.Truncated at) n w, refl)
 
-  read_fails : IsNotAsked now after take_answers.ReadFault → IsConversed limits session start after ends.ReadFault
+  read_fails : IsNotAsked now after next take_answers.ReadFault → IsConversed limits session start after (earlier ++ next) ends.ReadFault
   read_fails n =
       ends_so take_answers.ReadFault n ends.ReadFault
       (waits_open take_answers.ReadFault n n.comes.0, below n.read n.reads n.comes.1, risen_since start.io.source_faults now.io.source_faults after.io.source_faults c.moves.source_never_falls n.comes.2)
       (waits_whole take_answers.ReadFault n n.comes.0, refl)
 
-  no_memory_to_take : IsNotAsked now after take_answers.Memory → IsConversed limits session start after ends.Memory
+  no_memory_to_take : IsNotAsked now after next take_answers.Memory → IsConversed limits session start after (earlier ++ next) ends.Memory
   no_memory_to_take n = ends_so take_answers.Memory n ends.Memory tt (prefix n.read n.reads, ([], sym (append-nil c.written)))
 
-  is_used_up : IsNotAsked now after take_answers.Budget → IsConversed limits session start after ends.Budget
+  is_used_up : IsNotAsked now after next take_answers.Budget → IsConversed limits session start after (earlier ++ next) ends.Budget
   is_used_up n =
       let all = counts n.read n.reads in
       let enough : most_input ≤ length (stream n.read n.reads) = rw all at n.comes.1 in
       ends_so take_answers.Budget n ends.Budget (waits_open take_answers.Budget n n.comes.0, enough) (waits_whole take_answers.Budget n n.comes.0, refl)
 
-  pub comes_to : (end : SessionEnd) → IsRound limits session now after (Some end) → IsConversed limits session start after end
+  pub comes_to : (end : SessionEnd) → IsRound limits session now after next (Some end) → IsConversed limits session start after (earlier ++ next) end
   comes_to ends.Quit round = quits round
   comes_to ends.End round = comes_to_end round
   comes_to (ends.Malformed at) round = is_malformed at round
@@ -399,24 +403,24 @@ request_filled r bytes used e = at_least used bytes e
 abbrev pub to_come : SessionState → ℕ
 to_come s = (most_input + 4096 - s.turns.taken) + length s.feed.held
 
-less_to_come : (limits : LimitsView) (session : ℕ) (start now after : SessionState) → IsConversing limits session start now → IsRound limits session now after None → to_come after < to_come now
-less_to_come limits session start now after c ((request, no_quit, a), live) =
-    let counted = ap (λ (x : TurnsView). x.taken) (counts limits session start now after c a.read a.reads) in
-    let earlier = before limits session start now after c a.read a.reads in
-    let more = longer limits session start now after c a.read a.reads in
-    let most = bounded limits session start now after c a.read a.reads in
+less_to_come : (limits : LimitsView) (session : ℕ) (start now after : SessionState) (earlier next : List Exchange) → IsConversing limits session start now earlier → IsRound limits session now after next None → to_come after < to_come now
+less_to_come limits session start now after earlier next c ((request, no_quit, a), live) =
+    let counted = ap (λ (x : TurnsView). x.taken) (counts limits session start now after earlier next c a.read a.reads) in
+    let taken_before = before limits session start now after earlier next c a.read a.reads in
+    let more = longer limits session start now after earlier next c a.read a.reads in
+    let most = bounded limits session start now after earlier next c a.read a.reads in
     let some = request_filled request (now.feed.held ++ a.read) a.gives.used a.gives.read.spells.spelled in
     let held : length after.feed.held ≡ length (now.feed.held ++ a.read) - a.gives.used = ap (λ (f : FeedView). length f.held) a.gives.after_is ∙ length-drop a.gives.used (now.feed.held ++ a.read) in
-    omega (arith, counted, earlier, more, most, some, held, length-append now.feed.held a.read, a.gives.read.within)
+    omega (arith, counted, taken_before, more, most, some, held, length-append now.feed.held a.read, a.gives.read.within)
 
 -- ---- the same, for a round under limits that are the session's
 
-module _ (limits own : LimitsView) (same : own ≡ limits) (session : ℕ) (start now after : SessionState) (c : IsConversing limits session start now) where
-  pub goes_on_under : IsRound own session now after None → IsConversing limits session start after
-  goes_on_under round = goes_on limits session start now after c (subst (λ (l : LimitsView). IsRound l session now after None) same round)
+module _ (limits own : LimitsView) (same : own ≡ limits) (session : ℕ) (start now after : SessionState) (earlier next : List Exchange) (c : IsConversing limits session start now earlier) where
+  pub goes_on_under : IsRound own session now after next None → IsConversing limits session start after (earlier ++ next)
+  goes_on_under round = goes_on limits session start now after earlier next c (subst (λ (l : LimitsView). IsRound l session now after next None) same round)
 
-  pub less_under : IsRound own session now after None → to_come after < to_come now
-  less_under round = less_to_come limits session start now after c (subst (λ (l : LimitsView). IsRound l session now after None) same round)
+  pub less_under : IsRound own session now after next None → to_come after < to_come now
+  less_under round = less_to_come limits session start now after earlier next c (subst (λ (l : LimitsView). IsRound l session now after next None) same round)
 
-  pub comes_to_under : (end : SessionEnd) → IsRound own session now after (Some end) → IsConversed limits session start after end
-  comes_to_under end round = comes_to limits session start now after c end (subst (λ (l : LimitsView). IsRound l session now after (Some end)) same round)
+  pub comes_to_under : (end : SessionEnd) → IsRound own session now after next (Some end) → IsConversed limits session start after (earlier ++ next) end
+  comes_to_under end round = comes_to limits session start now after earlier next c end (subst (λ (l : LimitsView). IsRound l session now after next (Some end)) same round)

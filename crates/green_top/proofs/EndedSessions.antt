@@ -15,6 +15,7 @@ use Rattle.febe_fields.specs.Prefixes.{HasNoSpelledPrefix}
 use Rattle.world_rules.specs.World.{empty_world}
 use Rattle.world_rules.specs.Placed.{AllPlaced}
 use Rattle.world_rules.specs.History.{is_live, live_after, entries_of}
+use Rattle.world_rules.specs.Legal.{Exchange}
 use Rattle.green_session.specs.Taking.{TurnsView, ReadState, read_state, IsTaken, MayRead}
 use Rattle.green_session.specs.declared.take.Taken.{Taken}
 use Rattle.green_session.specs.declared.take.Taken.TheVariants as take_answers
@@ -99,18 +100,18 @@ cause_beside ends.Budget read before after m n cause = cause
 cause_beside ends.NoNumber read before after m n cause = cause
 
 module _ (limits : LimitsView) (session : ℕ) (first now : SessionState) (begun : List PlainEntry) (begun_faults last_faults : ℕ) (earlier : first.io.disk_faults ≤ begun_faults) (later_still : now.io.disk_faults ≤ last_faults)
-    (b : Begins session first.history begun) (number : session ≡ greatest_session first.history + 1) (has_number : session < 2 ^ 64) (end : SessionEnd) (c : IsConversed limits session (with_history first begun begun_faults) now end) where
-  is_over : (more after : List PlainEntry) → IsEnding session (entries_of session now.history) more → IsOwn session more → after ≡ now.history ++ more → is_live after session ≡ false → IsOver limits first.history session after now.points c.answered c.output first.io.disk_faults last_faults
+    (b : Begins session first.history begun) (number : session ≡ greatest_session first.history + 1) (has_number : session < 2 ^ 64) (end : SessionEnd) (exchanges : List Exchange) (c : IsConversed limits session (with_history first begun begun_faults) now exchanges end) where
+  is_over : (more after : List PlainEntry) → IsEnding session (entries_of session now.history) more → IsOwn session more → after ≡ now.history ++ more → is_live after session ≡ false → IsOver limits first.history session after exchanges now.points c.answered c.output first.io.disk_faults last_faults
   is_over more after ending own e over = record {
-    history_is = e ∙ entries_behind limits session first.history begun now.history b now.points c.answered c.output begun_faults now.io.disk_faults c.progress more own ∙ ap (λ (x : List PlainEntry). first.history ++ entries_of session x) (sym e);
+    history_is = e ∙ entries_behind limits session first.history begun now.history b exchanges now.points c.answered c.output begun_faults now.io.disk_faults c.progress more own ∙ ap (λ (x : List PlainEntry). first.history ++ entries_of session x) (sym e);
     over = over;
     placed = placed_ends session (entries_of session now.history) now.history more after c.progress.placed ending e;
-    transcript = subst (λ (x : List PlainEntry). Transcript limits session x c.answered now.points c.output first.io.disk_faults last_faults) (sym e)
-        (transcript_of limits session first.history begun now.history b now.points c.answered c.output begun_faults now.io.disk_faults c.progress more ending own first.io.disk_faults last_faults earlier later_still);
+    transcript = subst (λ (x : List PlainEntry). Transcript limits session x exchanges c.answered now.points c.output first.io.disk_faults last_faults) (sym e)
+        (transcript_of limits session first.history begun now.history b exchanges now.points c.answered c.output begun_faults now.io.disk_faults c.progress more ending own first.io.disk_faults last_faults earlier later_still);
   }
 
   ended_session : (more after : List PlainEntry) → IsEnding session (entries_of session now.history) more → IsOwn session more → after ≡ now.history ++ more → is_live after session ≡ false
-      → IsSession limits first (with_history now after last_faults) end
+      → IsSession limits first (with_history now after last_faults) exchanges end
   ended_session more after ending own e over = record {
     read = c.read;
     written = c.written;
@@ -133,11 +134,11 @@ module _ (limits : LimitsView) (session : ℕ) (first now : SessionState) (begun
   own_live : is_live now.history session ≡ true → is_live (entries_of session now.history) session ≡ true
   own_live live =
       let own : List PlainEntry = entries_of session now.history in
-      let e : now.history ≡ first.history ++ own = sym (append-nil now.history) ∙ entries_behind limits session first.history begun now.history b now.points c.answered c.output begun_faults now.io.disk_faults c.progress [] refl ∙ ap (λ (x : List PlainEntry). first.history ++ entries_of session x) (append-nil now.history) in
+      let e : now.history ≡ first.history ++ own = sym (append-nil now.history) ∙ entries_behind limits session first.history begun now.history b exchanges now.points c.answered c.output begun_faults now.io.disk_faults c.progress [] refl ∙ ap (λ (x : List PlainEntry). first.history ++ entries_of session x) (append-nil now.history) in
       let parts : is_live (first.history ++ own) session ≡ fold (live_after session) (is_live first.history session) own = fold-append (live_after session) false first.history own in
       sym (ap (λ (x : List PlainEntry). is_live x session) e ∙ parts ∙ ap (λ (x : Bool). fold (live_after session) x own) b.not_live) ∙ live
 
-  pub session_ends : (before after : StoreView) (answer : StepAnswer) (rose : Bool) → before.history ≡ now.history → IsStep before (steps.End session) after answer rose → IsSession limits first (with_history now after.history last_faults) end
+  pub session_ends : (before after : StoreView) (answer : StepAnswer) (rose : Bool) → before.history ≡ now.history → IsStep before (steps.End session) after answer rose → IsSession limits first (with_history now after.history last_faults) exchanges end
   session_ends before after answer rose is step = elim (after_end session before after answer rose step) [
     | inl e ↦ (let grows : after.history ≡ now.history ++ end_entry now.history session ∷ [] = e.1 ∙ ap (λ (h : List PlainEntry). h ++ end_entry h session ∷ []) is in
         ended_session (end_entry now.history session ∷ []) after.history (inr (own_live (ap (λ (h : List PlainEntry). is_live h session) (sym is) ∙ e.0), refl)) (own_one session (end_entry now.history session) refl) grows
@@ -148,15 +149,15 @@ module _ (limits : LimitsView) (session : ℕ) (first now : SessionState) (begun
 
 -- the same, for a session that was served under limits that are the store's
 pub session_ends_under : (limits own : LimitsView) → own ≡ limits → (session : ℕ) (first now : SessionState) (begun : List PlainEntry) (begun_faults last_faults : ℕ) → first.io.disk_faults ≤ begun_faults → now.io.disk_faults ≤ last_faults
-    → Begins session first.history begun → session ≡ greatest_session first.history + 1 → session < 2 ^ 64 → (end : SessionEnd) → IsConversed own session (with_history first begun begun_faults) now end
-    → (before after : StoreView) (answer : StepAnswer) (rose : Bool) → before.history ≡ now.history → IsStep before (steps.End session) after answer rose → IsSession limits first (with_history now after.history last_faults) end
-session_ends_under limits own same session first now begun begun_faults last_faults earlier later_still b number has_number end c =
-    session_ends limits session first now begun begun_faults last_faults earlier later_still b number has_number end
-    (subst (λ (l : LimitsView). IsConversed l session (with_history first begun begun_faults) now end) same c)
+    → Begins session first.history begun → session ≡ greatest_session first.history + 1 → session < 2 ^ 64 → (end : SessionEnd) (exchanges : List Exchange) → IsConversed own session (with_history first begun begun_faults) now exchanges end
+    → (before after : StoreView) (answer : StepAnswer) (rose : Bool) → before.history ≡ now.history → IsStep before (steps.End session) after answer rose → IsSession limits first (with_history now after.history last_faults) exchanges end
+session_ends_under limits own same session first now begun begun_faults last_faults earlier later_still b number has_number end exchanges c =
+    session_ends limits session first now begun begun_faults last_faults earlier later_still b number has_number end exchanges
+    (subst (λ (l : LimitsView). IsConversed l session (with_history first begun begun_faults) now exchanges end) same c)
 
 -- there was no memory to begin, or no number
 pub did_not_begin : (limits : LimitsView) (end : SessionEnd) (start : SessionState) (history : List PlainEntry) (faults : ℕ) → IsGreeted start → start.points ≡ [] → history ≡ start.history → start.io.disk_faults ≤ faults
-    → NeverBegan start.history end (all_read start []) → Cause end (all_read start []) start.io (with_disk_faults start.io faults) → IsSession limits start (with_history start history faults) end
+    → NeverBegan start.history end (all_read start []) → Cause end (all_read start []) start.io (with_disk_faults start.io faults) → IsSession limits start (with_history start history faults) [] end
 did_not_begin limits end start history faults greeted none stays later_still never_began cause = record {
   read = [];
   written = [];
@@ -164,7 +165,7 @@ did_not_begin limits end start history faults greeted none stays later_still nev
   counted = ap (λ (t : TurnsView). t.taken) greeted.turns_are ∙ ap length (sym (append-nil (greeting ++ start.feed.held)));
   within = omega (arith, greeted.within, ap length (append-nil (greeting ++ start.feed.held)));
   cause = cause;
-  leaves = inl (never_began, record { history_is = stays; no_points = none; nothing = refl });
+  leaves = inl (never_began, record { history_is = stays; none_answered = refl; no_points = none; nothing = refl });
 }
 
 -- ---- the greeting
@@ -225,7 +226,7 @@ module _ (limits : LimitsView) (left left' : Option (List ℕ)) (before after : 
     no_greeting : HasNoSpelledPrefix IsGreeting t.read → IsNotGreeted t.read
     no_greeting none rest e = none 3 (omega (arith, ap length e, length-append greeting rest)) (ap (take 3) e)
 
-    pub never : (end : SessionEnd) (h : List PlainEntry) (points : List ℕ) (n : ℕ) → points ≡ [] → n ≡ turns.taken → Cause end t.read out0 out1 → NeverBegan h end t.read → IsRun limits h out0 out1 h points n end
+    pub never : (end : SessionEnd) (h : List PlainEntry) (points : List ℕ) (n : ℕ) → points ≡ [] → n ≡ turns.taken → Cause end t.read out0 out1 → NeverBegan h end t.read → IsRun limits h out0 out1 h [] points n end
     never end h points n none is cause never_began = record {
       read = t.read;
       written = [];
@@ -233,7 +234,7 @@ module _ (limits : LimitsView) (left left' : Option (List ℕ)) (before after : 
       counted = is ∙ ap (λ (x : TurnsView). x.taken) counts;
       within = bounded;
       cause = cause;
-      leaves = inl (never_began, record { history_is = refl; no_points = none; nothing = refl });
+      leaves = inl (never_began, record { history_is = refl; none_answered = refl; no_points = none; nothing = refl });
     }
 
   -- ---- the greeting came
@@ -250,9 +251,9 @@ module _ (limits : LimitsView) (left left' : Option (List ℕ)) (before after : 
       within = omega (arith, ap length prefix, bounded take_answers.Greeting t);
     }
 
-    pub run_of_session : (h final : List PlainEntry) (points points' : List ℕ) (feed' : FeedView) (turns' : TurnsView) (out2 : IoState) (end : SessionEnd) (n : ℕ)
-        → IsSession limits (session_state h points feed turns out1) (session_state final points' feed' turns' out2) end → n ≡ turns'.taken → IsRun limits h out0 out2 final points' n end
-    run_of_session h final points points' feed' turns' out2 end n s is =
+    pub run_of_session : (h final : List PlainEntry) (exchanges : List Exchange) (points points' : List ℕ) (feed' : FeedView) (turns' : TurnsView) (out2 : IoState) (end : SessionEnd) (n : ℕ)
+        → IsSession limits (session_state h points feed turns out1) (session_state final points' feed' turns' out2) exchanges end → n ≡ turns'.taken → IsRun limits h out0 out2 final exchanges points' n end
+    run_of_session h final exchanges points points' feed' turns' out2 end n s is =
         let stream : (greeting ++ feed.held) ++ s.read ≡ t.read ++ s.read = ap (λ (bytes : List ℕ). bytes ++ s.read) (sym prefix) in
         record {
           read = t.read ++ s.read;
@@ -261,7 +262,7 @@ module _ (limits : LimitsView) (left left' : Option (List ℕ)) (before after : 
           counted = is ∙ s.counted ∙ ap length stream;
           within = omega (arith, s.within, ap length stream);
           cause = cause_since end (t.read ++ s.read) out0 out1 out2 t.reads.never_falls (le_refl faults) (subst (λ (bytes : List ℕ). Cause end bytes out1 out2) stream s.cause);
-          leaves = subst (λ (bytes : List ℕ). Leaves limits h end bytes s.written final points' disk_faults out2.disk_faults) stream s.leaves;
+          leaves = subst (λ (bytes : List ℕ). Leaves limits h end bytes s.written final exchanges points' disk_faults out2.disk_faults) stream s.leaves;
         }
 
   -- ---- it did not
@@ -270,7 +271,7 @@ module _ (limits : LimitsView) (left left' : Option (List ℕ)) (before after : 
   waits_none read w = w.prefix.none
 
   pub run_of_none : (h : List PlainEntry) (points : List ℕ) (n : ℕ) (end : SessionEnd) → points ≡ [] → n ≡ turns.taken
-      → NextIs (IsTaken from to) (Err end) → IsRun limits h out0 out1 h points n end
+      → NextIs (IsTaken from to) (Err end) → IsRun limits h out0 out1 h [] points n end
   run_of_none h points n ends.Quit none is t = absurd t
   run_of_none h points n ends.End none is t =
       never take_answers.End t ends.End h points n none is (t.comes.1, below take_answers.End t t.comes.2) (sym (ap (λ (f : FeedView). f.held) t.comes.0.stays) ∙ t.comes.3)
@@ -310,12 +311,12 @@ module _ (limits : LimitsView) (left left' : Option (List ℕ)) (before after : 
   pub greets : (h : List PlainEntry) (points : List ℕ) → IsTaken (read_state left before feed0 turns0) (read_state left' after feed turns) take_answers.Greeting → IsGreeted (session_state h points feed turns (io_state left' after taken faults disk_faults))
   greets h points t = is_greeted limits left left' before after feed turns taken faults disk_faults (from_fresh take_answers.Greeting t) h points
 
-  pub runs : (h final : List PlainEntry) (points points' : List ℕ) (feed' : FeedView) (turns' : TurnsView) (out2 : IoState) (end : SessionEnd) (n : ℕ) → IsTaken (read_state left before feed0 turns0) (read_state left' after feed turns) take_answers.Greeting
-      → IsSession limits (session_state h points feed turns (io_state left' after taken faults disk_faults)) (session_state final points' feed' turns' out2) end → n ≡ turns'.taken → IsRun limits h (io_state left before taken faults disk_faults) out2 final points' n end
-  runs h final points points' feed' turns' out2 end n t s is = run_of_session limits left left' before after feed turns taken faults disk_faults (from_fresh take_answers.Greeting t) h final points points' feed' turns' out2 end n s is
+  pub runs : (h final : List PlainEntry) (exchanges : List Exchange) (points points' : List ℕ) (feed' : FeedView) (turns' : TurnsView) (out2 : IoState) (end : SessionEnd) (n : ℕ) → IsTaken (read_state left before feed0 turns0) (read_state left' after feed turns) take_answers.Greeting
+      → IsSession limits (session_state h points feed turns (io_state left' after taken faults disk_faults)) (session_state final points' feed' turns' out2) exchanges end → n ≡ turns'.taken → IsRun limits h (io_state left before taken faults disk_faults) out2 final exchanges points' n end
+  runs h final exchanges points points' feed' turns' out2 end n t s is = run_of_session limits left left' before after feed turns taken faults disk_faults (from_fresh take_answers.Greeting t) h final exchanges points points' feed' turns' out2 end n s is
 
   pub runs_nothing : (h : List PlainEntry) (points : List ℕ) (n : ℕ) (end : SessionEnd) → points ≡ [] → n ≡ turns.taken
-      → NextIs (IsTaken (read_state left before feed0 turns0) (read_state left' after feed turns)) (Err end) → IsRun limits h (io_state left before taken faults disk_faults) (io_state left' after taken faults disk_faults) h points n end
+      → NextIs (IsTaken (read_state left before feed0 turns0) (read_state left' after feed turns)) (Err end) → IsRun limits h (io_state left before taken faults disk_faults) (io_state left' after taken faults disk_faults) h [] points n end
   runs_nothing h points n end none is t = run_of_none limits left left' before after feed turns taken faults disk_faults h points n end none is (next_from_fresh end t)
 
 -- ---- the same, seen from before the store was opened
@@ -331,41 +332,40 @@ cause_from ends.Memory read before after m cause = cause
 cause_from ends.Budget read before after m cause = cause
 cause_from ends.NoNumber read before after m cause = cause
 
-unfoldable pub transcript_from : (limits : LimitsView) (session : ℕ) (history : List PlainEntry) (requests : List PlainRequest) (points output : List ℕ) (k m n : ℕ) → k ≤ m → Transcript limits session history requests points output m n → Transcript limits session history requests points output k n
-transcript_from limits session history requests points output k m n le t = record {
-  exchanges = t.exchanges;
+pub transcript_from : (limits : LimitsView) (session : ℕ) (history : List PlainEntry) (exchanges : List Exchange) (requests : List PlainRequest) (points output : List ℕ) (k m n : ℕ) → k ≤ m → Transcript limits session history exchanges requests points output m n → Transcript limits session history exchanges requests points output k n
+transcript_from limits session history exchanges requests points output k m n le t = record {
   requests_are = t.requests_are;
   points_are = t.points_are;
   output_is = t.output_is;
   each = t.each;
-  rises = rises_wider t.exchanges k m n n le (le_refl n) t.rises;
+  rises = rises_wider exchanges k m n n le (le_refl n) t.rises;
   valid_replies = t.valid_replies;
   rising = t.rising;
   begun = t.begun;
   entries = t.entries;
 }
 
-leaves_from : (limits : LimitsView) (opened : List PlainEntry) (end : SessionEnd) (read written : List ℕ) (history : List PlainEntry) (points : List ℕ) (k m n : ℕ) → k ≤ m → Leaves limits opened end read written history points m n → Leaves limits opened end read written history points k n
-leaves_from limits opened end read written history points k m n le (inl never) = inl never
-leaves_from limits opened end read written history points k m n le (inr s) = inr (record {
+leaves_from : (limits : LimitsView) (opened : List PlainEntry) (end : SessionEnd) (read written : List ℕ) (history : List PlainEntry) (exchanges : List Exchange) (points : List ℕ) (k m n : ℕ) → k ≤ m → Leaves limits opened end read written history exchanges points m n → Leaves limits opened end read written history exchanges points k n
+leaves_from limits opened end read written history exchanges points k m n le (inl never) = inl never
+leaves_from limits opened end read written history exchanges points k m n le (inr s) = inr (record {
   session = s.session;
   number_is = s.number_is;
   has_number = s.has_number;
   answered = s.answered;
   output = s.output;
-  over = record { history_is = s.over.history_is; over = s.over.over; placed = s.over.placed; transcript = transcript_from limits s.session history s.answered points s.output k m n le s.over.transcript };
+  over = record { history_is = s.over.history_is; over = s.over.over; placed = s.over.placed; transcript = transcript_from limits s.session history exchanges s.answered points s.output k m n le s.over.transcript };
   answered_and_written = s.answered_and_written;
 })
 
-pub run_from : (limits : LimitsView) (opened : List PlainEntry) (before after : IoState) (m : ℕ) (history reported : List PlainEntry) (points : List ℕ) (bytes_read : ℕ) (end : SessionEnd) → before.disk_faults ≤ m → reported ≡ history
-    → IsRun limits opened (with_disk_faults before m) after history points bytes_read end → IsRun limits opened before after reported points bytes_read end
-run_from limits opened before after m history reported points bytes_read end le is r = record {
+pub run_from : (limits : LimitsView) (opened : List PlainEntry) (before after : IoState) (m : ℕ) (history reported : List PlainEntry) (exchanges : List Exchange) (points : List ℕ) (bytes_read : ℕ) (end : SessionEnd) → before.disk_faults ≤ m → reported ≡ history
+    → IsRun limits opened (with_disk_faults before m) after history exchanges points bytes_read end → IsRun limits opened before after reported exchanges points bytes_read end
+run_from limits opened before after m history reported exchanges points bytes_read end le is r = record {
   read = r.read;
   written = r.written;
   moves = record { consumed = r.moves.consumed; appended = r.moves.appended; source_never_falls = r.moves.source_never_falls; sink_never_falls = r.moves.sink_never_falls; disk_never_falls = omega (arith, le, r.moves.disk_never_falls) };
   counted = r.counted;
   within = r.within;
   cause = cause_from end r.read before after m r.cause;
-  leaves = subst (λ (h : List PlainEntry). Leaves limits opened end r.read r.written h points before.disk_faults after.disk_faults) (sym is)
-      (leaves_from limits opened end r.read r.written history points before.disk_faults m after.disk_faults le r.leaves);
+  leaves = subst (λ (h : List PlainEntry). Leaves limits opened end r.read r.written h exchanges points before.disk_faults after.disk_faults) (sym is)
+      (leaves_from limits opened end r.read r.written history exchanges points before.disk_faults m after.disk_faults le r.leaves);
 }

@@ -12,7 +12,7 @@ use Rattle.febe_data.specs.Validity.{IsRequest}
 use Rattle.green_io.specs.Outside.{HasRisen}
 use Rattle.world_rules.specs.Apply.{world_of}
 use Rattle.world_rules.specs.Effects.{Effect, effect}
-use Rattle.world_rules.specs.Legal.{IsServed, IsRefused, IsQueryAnswered, IsDone, IsDiskFault, wanted_after, entry_after}
+use Rattle.world_rules.specs.Legal.{Exchange, IsServed, IsRefused, IsQueryAnswered, IsDone, IsDiskFault, wanted_after, entry_after}
 use Rattle.green_store.specs.Steps.{Steps}
 use Rattle.green_top.proofs.Rises.{risen}
 use Rattle.green_top.proofs.Streams.{risen_since, risen_until}
@@ -27,12 +27,12 @@ use Rattle.green_store.specs.declared.step.Step.{Step}
 use Rattle.green_store.specs.declared.step.Step.TheVariants as steps
 use Rattle.green_store.specs.declared.step.StepAnswer.{StepAnswer}
 use Rattle.green_store.specs.declared.step.StepAnswer.TheVariants as answers
-use Rattle.green_store.specs.Durable.{has_risen, Keeps, IsEdit, IsEditOf, IsThat, HoldsStep, KeepsStep, IsRefusedForDisk}
+use Rattle.green_store.specs.Durable.{has_risen, Keeps, IsEdit, IsEditOf, IsThat, HoldsWith, HoldsStep, KeepsStep, IsRefusedForDisk}
 use Rattle.green_store.specs.IsStep.{IsStep}
 use Rattle.green_store.specs.Sessions.{begin_entry, end_entry}
 use Rattle.green_store.specs.StoreView.{StoreView, with_one, StandsStill}
 use Rattle.febe_data.specs.declared.request.Request.{Request}
-use Rattle.green_top.specs.Crash.{IsFront, MakesEdit, HoldsFront, WasMade}
+use Rattle.green_top.specs.Crash.{IsFront, MakesEdit, HoldsFront, WasMade, IsRefusedExchange}
 use Rattle.green_top.specs.inside.Enduring.{IsMade, StandsOn, Endures}
 
 -- what is said of a history that has grown
@@ -50,8 +50,29 @@ front_of_more least before now front grows f = record {
 whole_front : (least : ℕ) (before now : List PlainEntry) → Grows before now → least ≤ length before → IsFront least now before
 whole_front least before now grows le = record { back = grows.0; parts = grows.1; no_shorter = le }
 
-holds_more : (limits : LimitsView) (session least : ℕ) (before now : List PlainEntry) (image : Areas) → Grows before now → HoldsFront limits session least before image → HoldsFront limits session least now image
-holds_more limits session least before now image grows h = record { front = h.front; is_front = front_of_more least before now h.front grows h.is_front; holds = h.holds }
+-- what an exchange makes, it makes however many come behind it
+abbrev made_later : (limits : LimitsView) (session : ℕ) (exchanges more : List Exchange) (front : List PlainEntry) (entry : PlainEntry) → MakesEdit limits session exchanges front entry → MakesEdit limits session (exchanges ++ more) front entry
+made_later limits session exchanges more front entry made = record {
+  answered = made.answered;
+  exchange = made.exchange;
+  later = made.later ++ more;
+  parts = ap (λ (es : List Exchange). es ++ more) made.parts ∙ append_assoc made.answered (made.exchange ∷ made.later) more;
+  point_is = made.point_is;
+  live = made.live;
+  valid = made.valid;
+  edit = made.edit;
+}
+
+with_more : (entries : List PlainEntry) (image : Areas) (May Might : PlainEntry → Type 0) → ((entry : PlainEntry) → May entry → Might entry) → HoldsWith entries May image → HoldsWith entries Might image
+with_more entries image May Might wider (inl whole) = inl whole
+with_more entries image May Might wider (inr (entry, may, whole)) = inr (entry, wider entry may, whole)
+
+holds_more : (limits : LimitsView) (session : ℕ) (exchanges more : List Exchange) (least : ℕ) (before now : List PlainEntry) (image : Areas) → Grows before now → HoldsFront limits session exchanges least before image → HoldsFront limits session (exchanges ++ more) least now image
+holds_more limits session exchanges more least before now image grows h = record {
+  front = h.front;
+  is_front = front_of_more least before now h.front grows h.is_front;
+  holds = with_more (kept h.front) image (MakesEdit limits session exchanges h.front) (MakesEdit limits session (exchanges ++ more) h.front) (λ entry made. made_later limits session exchanges more h.front entry made) h.holds;
+}
 
 longer : (least : ℕ) (before now : List PlainEntry) → Grows before now → least ≤ length before → least ≤ length now
 longer least before now grows le = omega (arith, le, ap length grows.1, length-append before grows.0)
@@ -59,89 +80,119 @@ longer least before now grows le = omega (arith, le, ap length grows.1, length-a
 -- ---- parts of a session
 
 -- nothing was done
-pub endures_nothing : (limits : LimitsView) (session : ℕ) (disk : DiskState) (store : StoreView) (faults : ℕ) → Endures limits session disk store faults disk store faults
+pub endures_nothing : (limits : LimitsView) (session : ℕ) (disk : DiskState) (store : StoreView) (faults : ℕ) → Endures limits session [] disk store faults disk store faults
 endures_nothing limits session disk store faults = record {
   grows = ([], sym (append-nil store.history));
   never_falls = omega arith;
-  any_moment = λ least before le s. none_called disk (HoldsFront limits session least store.history);
-  stands = λ least before le s. s;
+  any_moment = λ earlier least before le s. none_called disk (HoldsFront limits session (earlier ++ []) least store.history);
+  stands = λ earlier least before le s. subst (λ (es : List Exchange). StandsOn limits session es least before disk store faults) (sym (append-nil earlier)) s;
   others = untouched_others Log disk;
 }
 
 -- one part, and then another
-pub endures_both : (limits : LimitsView) (session : ℕ) (a b c : DiskState) (s t u : StoreView) (k m n : ℕ) → IsDisk b → Endures limits session a s k b t m → Endures limits session b t m c u n → Endures limits session a s k c u n
-endures_both limits session a b c s t u k m n disk p q = record {
+pub endures_both : (limits : LimitsView) (session : ℕ) (xs ys : List Exchange) (a b c : DiskState) (s t u : StoreView) (k m n : ℕ) → IsDisk b → Endures limits session xs a s k b t m → Endures limits session ys b t m c u n → Endures limits session (xs ++ ys) a s k c u n
+endures_both limits session xs ys a b c s t u k m n disk p q = record {
   grows = (p.grows.0 ++ q.grows.0, q.grows.1 ∙ ap (λ (h : List PlainEntry). h ++ q.grows.0) p.grows.1 ∙ append_assoc s.history p.grows.0 q.grows.0);
   never_falls = omega (arith, p.never_falls, q.never_falls);
-  any_moment = λ least before le stands.
-      after a b c (HoldsFront limits session least t.history) (HoldsFront limits session least u.history) (HoldsFront limits session least u.history) (p.any_moment least before le stands)
-      (q.any_moment least before (longer least s.history t.history p.grows le) (p.stands least before le stands)) (λ image. holds_more limits session least t.history u.history image q.grows) (λ image holds. holds);
-  stands = λ least before le stands. q.stands least before (longer least s.history t.history p.grows le) (p.stands least before le stands);
+  any_moment = λ earlier least before le stands.
+      subst (λ (es : List Exchange). LeavesOnly a c (HoldsFront limits session es least u.history)) (append_assoc earlier xs ys)
+      (after a b c (HoldsFront limits session (earlier ++ xs) least t.history) (HoldsFront limits session ((earlier ++ xs) ++ ys) least u.history) (HoldsFront limits session ((earlier ++ xs) ++ ys) least u.history)
+      (p.any_moment earlier least before le stands)
+      (q.any_moment (earlier ++ xs) least before (longer least s.history t.history p.grows le) (p.stands earlier least before le stands))
+      (λ image. holds_more limits session (earlier ++ xs) ys least t.history u.history image q.grows) (λ image holds. holds));
+  stands = λ earlier least before le stands.
+      subst (λ (es : List Exchange). StandsOn limits session es least before c u n) (append_assoc earlier xs ys)
+      (q.stands (earlier ++ xs) least before (longer least s.history t.history p.grows le) (p.stands earlier least before le stands));
   others = then_others Log a b c disk p.others q.others;
 }
 
+-- a part, and then one without exchanges
+pub endures_still : (limits : LimitsView) (session : ℕ) (xs : List Exchange) (a b c : DiskState) (s t u : StoreView) (k m n : ℕ) → IsDisk b → Endures limits session xs a s k b t m → Endures limits session [] b t m c u n → Endures limits session xs a s k c u n
+endures_still limits session xs a b c s t u k m n disk p q =
+    subst (λ (es : List Exchange). Endures limits session es a s k c u n) (append-nil xs) (endures_both limits session xs [] a b c s t u k m n disk p q)
+
 -- the same, where the second part has the limits of the store between
-pub endures_then : (limits own : LimitsView) → own ≡ limits → (session : ℕ) (a b c : DiskState) (s t u : StoreView) (k m n : ℕ) → IsDisk b → Endures limits session a s k b t m → Endures own session b t m c u n → Endures limits session a s k c u n
-endures_then limits own same session a b c s t u k m n disk p q = endures_both limits session a b c s t u k m n disk p (subst (λ (l : LimitsView). Endures l session b t m c u n) same q)
+pub endures_then : (limits own : LimitsView) → own ≡ limits → (session : ℕ) (xs ys : List Exchange) (a b c : DiskState) (s t u : StoreView) (k m n : ℕ) → IsDisk b → Endures limits session xs a s k b t m → Endures own session ys b t m c u n → Endures limits session (xs ++ ys) a s k c u n
+endures_then limits own same session xs ys a b c s t u k m n disk p q = endures_both limits session xs ys a b c s t u k m n disk p (subst (λ (l : LimitsView). Endures l session ys b t m c u n) same q)
 
 -- the begin of a session, what it asks, and its end
-pub session_endures : (limits own : LimitsView) → own ≡ limits → (number session : ℕ) → session ≡ number → (a b c d : DiskState) (s t u v : StoreView) (j k m n : ℕ) → IsDisk b → IsDisk c
-    → Endures limits number a s j b t k → Endures own session b t k c u m → Endures limits number c u m d v n → Endures limits number a s j d v n
-session_endures limits own same number session is a b c d s t u v j k m n disk_b disk_c begins asks ends =
-    endures_both limits number a c d s u v j m n disk_c
-    (endures_both limits number a b c s t u j k m disk_b begins (subst (λ (x : ℕ). Endures limits x b t k c u m) is (subst (λ (l : LimitsView). Endures l session b t k c u m) same asks))) ends
+pub session_endures : (limits own : LimitsView) → own ≡ limits → (number session : ℕ) → session ≡ number → (xs : List Exchange) (a b c d : DiskState) (s t u v : StoreView) (j k m n : ℕ) → IsDisk b → IsDisk c
+    → Endures limits number [] a s j b t k → Endures own session xs b t k c u m → Endures limits number [] c u m d v n → Endures limits number xs a s j d v n
+session_endures limits own same number session is xs a b c d s t u v j k m n disk_b disk_c begins asks ends =
+    endures_still limits number xs a c d s u v j m n disk_c
+    (endures_both limits number [] xs a b c s t u j k m disk_b begins (subst (λ (x : ℕ). Endures limits x xs b t k c u m) is (subst (λ (l : LimitsView). Endures l session xs b t k c u m) same asks))) ends
 
 -- ---- one step
 
-pub was_made : (limits : LimitsView) (session least : ℕ) (history : List PlainEntry) (first now : ℕ) (pending : Option PlainEntry) (entry : PlainEntry) → IsMade limits session least history first now pending → IsThat pending entry
-    → WasMade limits session least history first now entry
-was_made limits session least history first now None entry made that = absurd that
-was_made limits session least history first now (Some e) entry made that = subst (WasMade limits session least history first now) (sym that) made
+pub was_made : (limits : LimitsView) (session : ℕ) (exchanges : List Exchange) (least : ℕ) (history : List PlainEntry) (first now : ℕ) (pending : Option PlainEntry) (entry : PlainEntry) → IsMade limits session exchanges least history first now pending → IsThat pending entry
+    → WasMade limits session exchanges least history first now entry
+was_made limits session exchanges least history first now None entry made that = absurd that
+was_made limits session exchanges least history first now (Some e) entry made that = subst (WasMade limits session exchanges least history first now) (sym that) made
 
--- the edit of a step was refused for the disk, and is not in the history: so the disk failed
-abbrev FailsFor : StoreView → StoreView → Step → StepAnswer → ℕ → ℕ → Type 0
-FailsFor before after step answer m n = (entry : PlainEntry) → IsEditOf before step entry → IsRefusedForDisk answer → kept after.history ≡ kept before.history → HasRisen m n
+-- after the exchanges so far, the edit of a step is made by one of these
+abbrev Edits : LimitsView → ℕ → List Exchange → StoreView → Step → Type 0
+Edits limits session exchanges before step = (earlier : List Exchange) (entry : PlainEntry) → IsEditOf before step entry → MakesEdit limits session (earlier ++ exchanges) before.history entry
+
+-- Where it was refused for the disk, and is not in the history, the disk failed.
+abbrev Fails : (limits : LimitsView) (session : ℕ) (exchanges : List Exchange) (before after : StoreView) (step : Step) → StepAnswer → ℕ → ℕ → Edits limits session exchanges before step → Type 0
+Fails limits session exchanges before after step answer m n edits =
+    (earlier : List Exchange) (entry : PlainEntry) (edit : IsEditOf before step entry) → IsRefusedForDisk answer → kept after.history ≡ kept before.history → IsRefusedExchange (edits earlier entry edit).exchange × HasRisen m n
 
 -- a step whose edit, if it is one, a request of the session makes
-module _ (limits : LimitsView) (session : ℕ) (before after : StoreView) (disk disk' : DiskState) (m n : ℕ) (step : Step) (answer : StepAnswer) (grows : Grows before.history after.history) (rises : m ≤ n)
-    (edits : (entry : PlainEntry) → IsEditOf before step entry → MakesEdit limits session before.history entry) (fails : FailsFor before after step answer m n) where
-  module _ (least first : ℕ) (le : least ≤ length before.history) (pending : Option PlainEntry) (made : IsMade limits session least before.history first m pending) where
-    holds : (image : Areas) → HoldsStep before pending step image → HoldsFront limits session least after.history image
+module _ (limits : LimitsView) (session : ℕ) (exchanges : List Exchange) (before after : StoreView) (disk disk' : DiskState) (m n : ℕ) (step : Step) (answer : StepAnswer) (grows : Grows before.history after.history) (rises : m ≤ n)
+    (edits : Edits limits session exchanges before step) (fails : Fails limits session exchanges before after step answer m n edits) where
+  module _ (earlier : List Exchange) (least first : ℕ) (le : least ≤ length before.history) (pending : Option PlainEntry) (made : IsMade limits session earlier least before.history first m pending) where
+    holds : (image : Areas) → HoldsStep before pending step image → HoldsFront limits session (earlier ++ exchanges) least after.history image
     holds image (inl whole) = record { front = before.history; is_front = whole_front least before.history after.history grows le; holds = inl whole }
     holds image (inr (entry, inl that, whole)) =
-        let was = was_made limits session least before.history first m pending entry made that in
+        let was = was_made limits session earlier least before.history first m pending entry made that in
         record {
           front = was.front;
           is_front = front_of_more least before.history after.history was.front grows was.is_front;
-          holds = inr (entry, was.made, subst (λ (h : List PlainEntry). IsWhole (h ++ entry ∷ []) image.log) (sym was.none_kept) whole);
+          holds = inr (entry, made_later limits session earlier exchanges was.front entry was.made, subst (λ (h : List PlainEntry). IsWhole (h ++ entry ∷ []) image.log) (sym was.none_kept) whole);
         }
-    holds image (inr (entry, inr edit, whole)) = record { front = before.history; is_front = whole_front least before.history after.history grows le; holds = inr (entry, edits entry edit, whole) }
+    holds image (inr (entry, inr edit, whole)) = record { front = before.history; is_front = whole_front least before.history after.history grows le; holds = inr (entry, edits earlier entry edit, whole) }
 
-    stands : first ≤ m → KeepsStep before pending step after answer disk' → StandsOn limits session least first disk' after n
+    stands : first ≤ m → KeepsStep before pending step after answer disk' → StandsOn limits session (earlier ++ exchanges) least first disk' after n
     stands from (inl keeps) = record { pending = None; keeps = keeps; made = tt; since = omega (arith, from, rises) }
     stands from (inr s) = elim s.which [
-      | inl that ↦ (let was = was_made limits session least before.history first m pending s.entry made that in
+      | inl that ↦ (let was = was_made limits session earlier least before.history first m pending s.entry made that in
           record {
             pending = Some s.entry;
             keeps = s.keeps;
-            made = record { front = was.front; is_front = front_of_more least before.history after.history was.front grows was.is_front; none_kept = was.none_kept ∙ sym s.none_kept; made = was.made; failed = risen_until first m n rises was.failed };
+            made = record {
+              front = was.front;
+              is_front = front_of_more least before.history after.history was.front grows was.is_front;
+              none_kept = was.none_kept ∙ sym s.none_kept;
+              made = made_later limits session earlier exchanges was.front s.entry was.made;
+              refused_is = was.refused_is;
+              failed = risen_until first m n rises was.failed;
+            };
             since = omega (arith, from, rises);
           })
-      | inr edit ↦ record {
-        pending = Some s.entry;
-        keeps = s.keeps;
-        made = record { front = before.history; is_front = whole_front least before.history after.history grows le; none_kept = sym s.none_kept; made = edits s.entry edit.0; failed = risen_since first m n from (fails s.entry edit.0 edit.1 s.none_kept) };
-        since = omega (arith, from, rises);
-      }
+      | inr edit ↦ (let failed = fails earlier s.entry edit.0 edit.1 s.none_kept in
+          record {
+            pending = Some s.entry;
+            keeps = s.keeps;
+            made = record {
+              front = before.history;
+              is_front = whole_front least before.history after.history grows le;
+              none_kept = sym s.none_kept;
+              made = edits earlier s.entry edit.0;
+              refused_is = failed.0;
+              failed = risen_since first m n from failed.1;
+            };
+            since = omega (arith, from, rises);
+          })
     ]
 
   stepped : ((pending : Option PlainEntry) → Keeps disk before pending → LeavesOnly disk disk' (HoldsStep before pending step))
-      → ((pending : Option PlainEntry) → Keeps disk before pending → KeepsStep before pending step after answer disk') → LeavesOthers Log disk disk' → Endures limits session disk before m disk' after n
+      → ((pending : Option PlainEntry) → Keeps disk before pending → KeepsStep before pending step after answer disk') → LeavesOthers Log disk disk' → Endures limits session exchanges disk before m disk' after n
   stepped any keeps others = record {
     grows = grows;
     never_falls = rises;
-    any_moment = λ least first le s. weaker disk disk' (HoldsStep before s.pending step) (HoldsFront limits session least after.history) (any s.pending s.keeps) (holds least first le s.pending s.made);
-    stands = λ least first le s. stands least first le s.pending s.made s.since (keeps s.pending s.keeps);
+    any_moment = λ earlier least first le s. weaker disk disk' (HoldsStep before s.pending step) (HoldsFront limits session (earlier ++ exchanges) least after.history) (any s.pending s.keeps) (holds earlier least first le s.pending s.made);
+    stands = λ earlier least first le s. stands earlier least first le s.pending s.made s.since (keeps s.pending s.keeps);
     others = others;
   }
 
@@ -171,14 +222,14 @@ end_grows before after session answers.NoSession rose step = stayed before after
 end_grows before after session other rose step = absurd step
 
 pub endures_begin : (limits : LimitsView) (session : ℕ) (before after : StoreView) (disk disk' : DiskState) (m n : ℕ) (answer : StepAnswer) (rose : Bool) → m ≤ n → IsStep before steps.Begin after answer rose
-    → Any before disk disk' steps.Begin → Kept before after disk disk' steps.Begin answer → LeavesOthers Log disk disk' → Endures limits session disk before m disk' after n
+    → Any before disk disk' steps.Begin → Kept before after disk disk' steps.Begin answer → LeavesOthers Log disk disk' → Endures limits session [] disk before m disk' after n
 endures_begin limits session before after disk disk' m n answer rose rises step =
-    stepped limits session before after disk disk' m n steps.Begin answer (begin_grows before after answer rose step) rises (λ entry none. absurd none) (λ entry none. absurd none)
+    stepped limits session [] before after disk disk' m n steps.Begin answer (begin_grows before after answer rose step) rises (λ earlier entry none. absurd none) (λ earlier entry none. absurd none)
 
 pub endures_end : (limits : LimitsView) (session other : ℕ) (before after : StoreView) (disk disk' : DiskState) (m n : ℕ) (answer : StepAnswer) (rose : Bool) → m ≤ n → IsStep before (steps.End other) after answer rose
-    → Any before disk disk' (steps.End other) → Kept before after disk disk' (steps.End other) answer → LeavesOthers Log disk disk' → Endures limits session disk before m disk' after n
+    → Any before disk disk' (steps.End other) → Kept before after disk disk' (steps.End other) answer → LeavesOthers Log disk disk' → Endures limits session [] disk before m disk' after n
 endures_end limits session other before after disk disk' m n answer rose rises step =
-    stepped limits session before after disk disk' m n (steps.End other) answer (end_grows before after other answer rose step) rises (λ entry none. absurd none) (λ entry none. absurd none)
+    stepped limits session [] before after disk disk' m n (steps.End other) answer (end_grows before after other answer rose step) rises (λ earlier entry none. absurd none) (λ earlier entry none. absurd none)
 
 as_it_was : (before after : StoreView) → after ≡ before → StandsStill before after
 as_it_was before after stays = record { history = ap (λ (v : StoreView). v.history) stays; limits = ap (λ (v : StoreView). v.limits) stays; log = ap (λ (v : StoreView). v.log) stays }
@@ -191,10 +242,10 @@ background_is_still before after answers.Memory rose step = as_it_was before aft
 background_is_still before after other rose step = absurd step
 
 pub endures_background : (limits : LimitsView) (session : ℕ) (before after : StoreView) (disk disk' : DiskState) (m n : ℕ) (answer : StepAnswer) (rose : Bool) → m ≤ n → IsStep before steps.Background after answer rose
-    → Any before disk disk' steps.Background → Kept before after disk disk' steps.Background answer → LeavesOthers Log disk disk' → Endures limits session disk before m disk' after n
+    → Any before disk disk' steps.Background → Kept before after disk disk' steps.Background answer → LeavesOthers Log disk disk' → Endures limits session [] disk before m disk' after n
 endures_background limits session before after disk disk' m n answer rose rises step =
-    stepped limits session before after disk disk' m n steps.Background answer ([], (background_is_still before after answer rose step).history ∙ sym (append-nil before.history)) rises (λ entry none. absurd none)
-    (λ entry none. absurd none)
+    stepped limits session [] before after disk disk' m n steps.Background answer ([], (background_is_still before after answer rose step).history ∙ sym (append-nil before.history)) rises (λ earlier entry none. absurd none)
+    (λ earlier entry none. absurd none)
 
 -- ---- a request
 
@@ -207,24 +258,33 @@ module _ (limits : LimitsView) (session : ℕ) (before after : List PlainEntry) 
       let all : length (kept after) ≡ length (kept before) + length (kept s.added) = ap (λ (h : List PlainEntry). length (kept h)) s.grows ∙ ap length (filter-append (λ (e : PlainEntry). is_counted e.change) before s.added) ∙ length-append (kept before) (kept s.added) in
       omega (arith, one, all, ap length none)
 
-  served_fails : (made : Option Effect) → made ≡ Some edit.made → MatchOption made (IsQueryAnswered before request reply s.added) (λ m. IsDone before session m reply s.added ⊎ IsDiskFault m reply s.added rose) → rose ≡ true
+  served_fails : (made : Option Effect) → made ≡ Some edit.made → MatchOption made (IsQueryAnswered before request reply s.added) (λ m. IsDone before session m reply s.added ⊎ IsDiskFault m reply s.added rose) → (rose ≡ true) × (s.added ≡ [])
   served_fails None is a = absurd (let e = is in cc)
   served_fails (Some made) is (inl a) = absurd (one_kept made (let e = is in cc) a.entry)
-  served_fails (Some made) is (inr a) = a.failed
+  served_fails (Some made) is (inr a) = (a.failed, a.nothing)
 
-  given_fails : (wanted : Option Refusal) → wanted ≡ None → MatchOption wanted (IsServed before session request reply s.added rose) (λ refusal. IsRefused refusal reply s.added) → rose ≡ true
+  given_fails : (wanted : Option Refusal) → wanted ≡ None → MatchOption wanted (IsServed before session request reply s.added rose) (λ refusal. IsRefused refusal reply s.added) → (rose ≡ true) × (s.added ≡ [])
   given_fails None is g = served_fails (effect (world_of before) session request) edit.effect_is g
   given_fails (Some other) is g = absurd (let e = is in cc)
 
-  disk_failed : rose ≡ true
+  disk_failed : (rose ≡ true) × (s.added ≡ [])
   disk_failed = elim s.legal.given [
     | inl m ↦ absurd (let e = sym refusal ∙ m.reply_is in cc)
     | inr g ↦ given_fails (wanted_after limits before session request) edit.allowed g
   ]
 
+-- the exchange of a request that was replied to by this step
+abbrev one_of : (limits : LimitsView) (session : ℕ) (request : PlainRequest) (reply : PlainReply) (before after : List PlainEntry) (rose : Bool) → Steps limits session before request reply after rose → Exchange
+one_of limits session request reply before after rose s = record { request = request; reply = reply; point = length after; added = s.added; rose = rose }
+
 pub endures_ask : (session : ℕ) (request : Request) (reply : Reply) (point : ℕ) (before after : StoreView) (disk disk' : DiskState) (m n : ℕ) → m ≤ n → IsRequest (plain_request request)
-    → Steps before.limits session before.history (plain_request request) (plain_reply reply) after.history (has_risen m n) → Any before disk disk' (steps.Ask session request)
-    → Kept before after disk disk' (steps.Ask session request) (answers.Reply reply point) → LeavesOthers Log disk disk' → Endures before.limits session disk before m disk' after n
+    → (s : Steps before.limits session before.history (plain_request request) (plain_reply reply) after.history (has_risen m n)) → Any before disk disk' (steps.Ask session request)
+    → Kept before after disk disk' (steps.Ask session request) (answers.Reply reply point) → LeavesOthers Log disk disk'
+    → Endures before.limits session (one_of before.limits session (plain_request request) (plain_reply reply) before.history after.history (has_risen m n) s ∷ []) disk before m disk' after n
 endures_ask session request reply point before after disk disk' m n rises valid s =
-    stepped before.limits session before after disk disk' m n (steps.Ask session request) (answers.Reply reply point) (s.added, s.grows) rises (λ entry edit. record { live = s.legal.live; request = plain_request request; valid = valid; edit = edit })
-    (λ entry edit refusal none. risen m n (disk_failed before.limits session before.history after.history (plain_request request) (plain_reply reply) (has_risen m n) entry edit refusal none s))
+    let one = one_of before.limits session (plain_request request) (plain_reply reply) before.history after.history (has_risen m n) s in
+    stepped before.limits session (one ∷ []) before after disk disk' m n (steps.Ask session request) (answers.Reply reply point) (s.added, s.grows) rises
+    (λ earlier entry edit. record { answered = earlier; exchange = one; later = []; parts = refl; point_is = ap length s.grows; live = s.legal.live; valid = valid; edit = edit })
+    (λ earlier entry edit refusal none.
+    let failed = disk_failed before.limits session before.history after.history (plain_request request) (plain_reply reply) (has_risen m n) entry edit refusal none s in
+    (record { reply_is = refusal; failed = failed.0; nothing = failed.1 }, risen m n failed.0))

@@ -21,7 +21,7 @@ use Rattle.green_store.specs.Sessions.{begin_entry}
 use Rattle.world_rules.specs.Serials.{CountFromOne}
 use Rattle.green_top.specs.Transcript.{output_of, BeginsBefore, IsEnding, HasValidReply, InTurn, Transcript}
 use Rattle.green_top.specs.inside.Opening.{Begins}
-use Rattle.green_top.specs.inside.Progress.{AnswerState, Answers, Progress}
+use Rattle.green_top.specs.inside.Progress.{AnswerState, Answers, exchange_of, Progress}
 use Rattle.green_store.proofs.Places.{placed_push, placed_goes_on}
 use Rattle.green_top.proofs.Serials.{own_behind, serials_go_on, serials_end}
 use Rattle.green_store.specs.Durable.{has_risen}
@@ -95,11 +95,11 @@ own_append session xs ys p q =
 
 -- ---- one exchange more
 
-module _ (limits : LimitsView) (session : ℕ) (begun h : List PlainEntry) (points : List ℕ) (answered : List PlainRequest) (output : List ℕ) (first now : ℕ) (p : Progress limits session begun h points answered output first now) where
-  pub entries_so_far : entries_of session h ≡ begin_entry session ∷ flat_map adds p.exchanges
+module _ (limits : LimitsView) (session : ℕ) (begun h : List PlainEntry) (exchanges : List Exchange) (points : List ℕ) (answered : List PlainRequest) (output : List ℕ) (first now : ℕ) (p : Progress limits session begun h exchanges points answered output first now) where
+  pub entries_so_far : entries_of session h ≡ begin_entry session ∷ flat_map adds exchanges
   entries_so_far =
-      ap (entries_of session) p.history_is ∙ filter-append (λ (e : PlainEntry). eqb e.session session) begun (flat_map adds p.exchanges)
-      ∙ ap (λ (x : List PlainEntry). x ++ entries_of session (flat_map adds p.exchanges)) p.first ∙ ap (λ (x : List PlainEntry). begin_entry session ∷ x) p.own
+      ap (entries_of session) p.history_is ∙ filter-append (λ (e : PlainEntry). eqb e.session session) begun (flat_map adds exchanges)
+      ∙ ap (λ (x : List PlainEntry). x ++ entries_of session (flat_map adds exchanges)) p.first ∙ ap (λ (x : List PlainEntry). begin_entry session ∷ x) p.own
 
   module _ (request : PlainRequest) (o : List ℕ) (before after : AnswerState) (here : before.history ≡ h) (noted : before.points ≡ points) (counted : before.disk_faults ≡ now) (a : Answers limits session before after request o) where
     grows : after.history ≡ h ++ a.step.added
@@ -115,7 +115,7 @@ module _ (limits : LimitsView) (session : ℕ) (begun h : List PlainEntry) (poin
     points_are = a.points_are ∙ ap (λ (ps : List ℕ). ps ++ length after.history ∷ []) noted
 
     abbrev one : Exchange
-    one = record { request = request; reply = a.reply; point = length after.history; added = a.step.added; rose = rose }
+    one = exchange_of before after request a.reply a.step.added
 
     longer : length h ≤ length after.history
     longer = rw grows (omega (arith, length-append h a.step.added))
@@ -123,8 +123,8 @@ module _ (limits : LimitsView) (session : ℕ) (begun h : List PlainEntry) (poin
     took_place : TookPlace limits session after.history one
     took_place = record { before = h; more = []; parts = grows ∙ sym (append-nil (h ++ a.step.added)); point_is = ap length grows; legal = legal }
 
-    earlier : AllByRecursion (TookPlace limits session after.history) p.exchanges
-    earlier = subst (λ (x : List PlainEntry). AllByRecursion (TookPlace limits session x) p.exchanges) (sym grows) (each_before limits session h a.step.added p.exchanges p.each)
+    earlier : AllByRecursion (TookPlace limits session after.history) exchanges
+    earlier = subst (λ (x : List PlainEntry). AllByRecursion (TookPlace limits session x) exchanges) (sym grows) (each_before limits session h a.step.added exchanges p.each)
 
     all_within : All (λ point. point ≤ length after.history) points
     all_within = All-weaker (λ point. point ≤ length h) (λ point. point ≤ length after.history) (λ x le. le_trans le longer) points p.within
@@ -135,29 +135,28 @@ module _ (limits : LimitsView) (session : ℕ) (begun h : List PlainEntry) (poin
     abbrev start : List PlainEntry
     start = begin_entry session ∷ []
 
-    turns : InTurn session after.history start p.exchanges
-    turns = subst (λ (x : List PlainEntry). InTurn session x start p.exchanges) (sym grows) (turn_before limits session h a.step.added start p.exchanges p.each p.in_turn)
+    turns : InTurn session after.history start exchanges
+    turns = subst (λ (x : List PlainEntry). InTurn session x start exchanges) (sym grows) (turn_before limits session h a.step.added start exchanges p.each p.in_turn)
 
-    last : entries_of session (take (length after.history) after.history) ≡ (start ++ flat_map adds p.exchanges) ++ a.step.added
+    last : entries_of session (take (length after.history) after.history) ≡ (start ++ flat_map adds exchanges) ++ a.step.added
     last = ap (entries_of session) (take-length after.history ∙ grows) ∙ sym (own_behind session h a.step.added own) ∙ ap (λ (x : List PlainEntry). x ++ a.step.added) entries_so_far
 
     above_begun : length begun ≤ length after.history
-    above_begun = omega (arith, longer, ap length p.history_is, length-append begun (flat_map adds p.exchanges))
+    above_begun = omega (arith, longer, ap length p.history_is, length-append begun (flat_map adds exchanges))
 
-    pub progress_goes_on : Progress limits session begun after.history after.points (answered ++ request ∷ []) (output ++ o) first after.disk_faults
+    pub progress_goes_on : Progress limits session begun after.history (exchanges ++ exchange_of before after request a.reply a.step.added ∷ []) after.points (answered ++ request ∷ []) (output ++ o) first after.disk_faults
     progress_goes_on = record {
-      exchanges = p.exchanges ++ one ∷ [];
-      requests_are = ap (λ (rs : List PlainRequest). rs ++ request ∷ []) p.requests_are ∙ sym (map_push asked p.exchanges one);
-      points_are = points_are ∙ ap (λ (ps : List ℕ). ps ++ length after.history ∷ []) p.points_are ∙ sym (map_push at_point p.exchanges one);
-      output_is = ap (λ (x : List ℕ). x ++ o) p.output_is ∙ ap (λ (x : List ℕ). output_of p.exchanges ++ x) a.output_is ∙ ap (λ (x : List ℕ). codes "P0~" ++ x) (sym (flat_map_push says p.exchanges one));
-      each = each_push limits session after.history p.exchanges one earlier took_place;
-      rises = rises_push p.exchanges one first before.disk_faults after.disk_faults (rises_wider p.exchanges first first now before.disk_faults (omega arith) (omega (arith, counted)) p.rises) a.never_falls refl;
-      valid_replies = valid_push p.exchanges one p.valid_replies a.valid;
+      requests_are = ap (λ (rs : List PlainRequest). rs ++ request ∷ []) p.requests_are ∙ sym (map_push asked exchanges one);
+      points_are = points_are ∙ ap (λ (ps : List ℕ). ps ++ length after.history ∷ []) p.points_are ∙ sym (map_push at_point exchanges one);
+      output_is = ap (λ (x : List ℕ). x ++ o) p.output_is ∙ ap (λ (x : List ℕ). output_of exchanges ++ x) a.output_is ∙ ap (λ (x : List ℕ). codes "P0~" ++ x) (sym (flat_map_push says exchanges one));
+      each = each_push limits session after.history exchanges one earlier took_place;
+      rises = rises_push exchanges one first before.disk_faults after.disk_faults (rises_wider exchanges first first now before.disk_faults (omega arith) (omega (arith, counted)) p.rises) a.never_falls refl;
+      valid_replies = valid_push exchanges one p.valid_replies a.valid;
       first = p.first;
-      history_is = grows ∙ ap (λ (x : List PlainEntry). x ++ a.step.added) p.history_is ∙ append_assoc begun (flat_map adds p.exchanges) a.step.added ∙ ap (λ (x : List PlainEntry). begun ++ x) (sym (flat_map_push adds p.exchanges one));
-      own = subst (IsOwn session) (sym (flat_map_push adds p.exchanges one)) (own_append session (flat_map adds p.exchanges) a.step.added p.own own);
+      history_is = grows ∙ ap (λ (x : List PlainEntry). x ++ a.step.added) p.history_is ∙ append_assoc begun (flat_map adds exchanges) a.step.added ∙ ap (λ (x : List PlainEntry). begun ++ x) (sym (flat_map_push adds exchanges one));
+      own = subst (IsOwn session) (sym (flat_map_push adds exchanges one)) (own_append session (flat_map adds exchanges) a.step.added p.own own);
       serials = serials_go_on session h request a.reply a.step.added rose p.serials limits after.history legal own grows;
-      in_turn = turn_push session after.history start p.exchanges one turns last;
+      in_turn = turn_push session after.history start exchanges one turns last;
       placed = placed_goes_on limits session h request a.reply a.step.added after.history rose p.placed legal grows;
       rising = rw points_are (IsNonDecreasingBy-push (λ n. n) points (length after.history) p.rising (λ d filled. all_within (length points - 1) d (omega arith)));
       within = rw points_are (All-push (λ point. point ≤ length after.history) points (length after.history) all_within (omega arith));
@@ -171,11 +170,10 @@ first_of session opened begun b =
     ap (entries_of session) b.grows ∙ filter-append (λ (e : PlainEntry). eqb e.session session) opened (begin_entry session ∷ [])
     ∙ ap (λ (x : List PlainEntry). x ++ entries_of session (begin_entry session ∷ [])) b.no_entry ∙ own_one session (begin_entry session) refl
 
-pub progress_begins : (limits : LimitsView) (session : ℕ) (opened begun : List PlainEntry) (faults : ℕ) → Begins session opened begun → Progress limits session begun begun [] [] (codes "P0~") faults faults
+pub progress_begins : (limits : LimitsView) (session : ℕ) (opened begun : List PlainEntry) (faults : ℕ) → Begins session opened begun → Progress limits session begun begun [] [] [] (codes "P0~") faults faults
 progress_begins limits session opened begun faults b =
     let first = first_of session opened begun b in
     record {
-      exchanges = [];
       requests_are = refl;
       points_are = refl;
       output_is = refl;
@@ -195,17 +193,17 @@ progress_begins limits session opened begun faults b =
 
 -- ---- the whole
 
-module _ (limits : LimitsView) (session : ℕ) (opened begun h : List PlainEntry) (b : Begins session opened begun) (points : List ℕ) (answered : List PlainRequest) (output : List ℕ) (first now : ℕ) (p : Progress limits session begun h points answered output first now) where
+module _ (limits : LimitsView) (session : ℕ) (opened begun h : List PlainEntry) (b : Begins session opened begun) (exchanges : List Exchange) (points : List ℕ) (answered : List PlainRequest) (output : List ℕ) (first now : ℕ) (p : Progress limits session begun h exchanges points answered output first now) where
   -- the history behind the one that the back end opened with
-  parts : (more : List PlainEntry) → h ++ more ≡ opened ++ (begin_entry session ∷ (flat_map adds p.exchanges ++ more))
+  parts : (more : List PlainEntry) → h ++ more ≡ opened ++ (begin_entry session ∷ (flat_map adds exchanges ++ more))
   parts more =
-      ap (λ (x : List PlainEntry). x ++ more) (p.history_is ∙ ap (λ (x : List PlainEntry). x ++ flat_map adds p.exchanges) b.grows)
-      ∙ append_assoc (opened ++ begin_entry session ∷ []) (flat_map adds p.exchanges) more ∙ append_assoc opened (begin_entry session ∷ []) (flat_map adds p.exchanges ++ more)
+      ap (λ (x : List PlainEntry). x ++ more) (p.history_is ∙ ap (λ (x : List PlainEntry). x ++ flat_map adds exchanges) b.grows)
+      ∙ append_assoc (opened ++ begin_entry session ∷ []) (flat_map adds exchanges) more ∙ append_assoc opened (begin_entry session ∷ []) (flat_map adds exchanges ++ more)
 
   begins_before : (more : List PlainEntry) → BeginsBefore session (h ++ more) points
   begins_before more = record {
     before = opened;
-    more = flat_map adds p.exchanges ++ more;
+    more = flat_map adds exchanges ++ more;
     parts = parts more;
     above = All-weaker (λ point. length begun ≤ point) (λ point. length opened + 1 ≤ point) (λ x le. omega (arith, le, ap length b.grows, length-append opened (begin_entry session ∷ []))) points p.above;
   }
@@ -214,26 +212,25 @@ module _ (limits : LimitsView) (session : ℕ) (opened begun h : List PlainEntry
   pub entries_behind : (more : List PlainEntry) → IsOwn session more → h ++ more ≡ opened ++ entries_of session (h ++ more)
   entries_behind more own =
       parts more
-      ∙ ap (λ (x : List PlainEntry). opened ++ x) (sym (filter-append (λ (e : PlainEntry). eqb e.session session) h more ∙ ap (λ (x : List PlainEntry). x ++ entries_of session more) (entries_so_far limits session begun h points answered output first now p) ∙ ap (λ (x : List PlainEntry). (begin_entry session ∷ flat_map adds p.exchanges) ++ x) own))
+      ∙ ap (λ (x : List PlainEntry). opened ++ x) (sym (filter-append (λ (e : PlainEntry). eqb e.session session) h more ∙ ap (λ (x : List PlainEntry). x ++ entries_of session more) (entries_so_far limits session begun h exchanges points answered output first now p) ∙ ap (λ (x : List PlainEntry). (begin_entry session ∷ flat_map adds exchanges) ++ x) own))
 
-  pub transcript_of : (more : List PlainEntry) → IsEnding session (entries_of session h) more → IsOwn session more → (before after : ℕ) → before ≤ first → now ≤ after → Transcript limits session (h ++ more) answered points output before after
+  pub transcript_of : (more : List PlainEntry) → IsEnding session (entries_of session h) more → IsOwn session more → (before after : ℕ) → before ≤ first → now ≤ after → Transcript limits session (h ++ more) exchanges answered points output before after
   transcript_of more ending own before after earlier later = record {
-    exchanges = p.exchanges;
     requests_are = p.requests_are;
     points_are = p.points_are;
     output_is = p.output_is;
-    each = each_before limits session h more p.exchanges p.each;
-    rises = rises_wider p.exchanges before first now after earlier later p.rises;
+    each = each_before limits session h more exchanges p.each;
+    rises = rises_wider exchanges before first now after earlier later p.rises;
     valid_replies = p.valid_replies;
     rising = p.rising;
     begun = begins_before more;
     entries = record {
       own = entries_of session h;
       ending = more;
-      own_are = entries_so_far limits session begun h points answered output first now p;
+      own_are = entries_so_far limits session begun h exchanges points answered output first now p;
       is_ending = ending;
       parts = filter-append (λ (e : PlainEntry). eqb e.session session) h more ∙ ap (λ (x : List PlainEntry). entries_of session h ++ x) own;
       serials = serials_end session h more p.serials ending own;
-      in_turn = turn_before limits session h more (begin_entry session ∷ []) p.exchanges p.each p.in_turn;
+      in_turn = turn_before limits session h more (begin_entry session ∷ []) exchanges p.each p.in_turn;
     };
   }

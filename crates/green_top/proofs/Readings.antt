@@ -51,9 +51,9 @@ module _ (one : EachHasOneReading) where
   not_opened (Some areas) at damaged history from = not_damaged areas.log from.entries from.read from.are_entries.fit at damaged
 
   pub damage_is_told : DamageIsTold
-  damage_is_told words reads left before after report status has (inl nothing) = nothing
-  damage_is_told words reads left before after report status has (inr (inl o)) = absurd (not_opened reads has.0 has.1 o.opened o.from)
-  damage_is_told words reads left before after report status has (inr (inr o)) = absurd (not_opened reads has.0 has.1 o.opened o.from)
+  damage_is_told words reads left before after report exchanges status has (inl nothing) = nothing
+  damage_is_told words reads left before after report exchanges status has (inr (inl o)) = absurd (not_opened reads has.0 has.1 o.opened o.from)
+  damage_is_told words reads left before after report exchanges status has (inr (inr o)) = absurd (not_opened reads has.0 has.1 o.opened o.from)
 
 -- ---- the history with which a store opens
 

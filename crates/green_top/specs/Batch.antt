@@ -5,6 +5,7 @@ use Rattle.febe_data.specs.Plain.{PlainEntry, plain_history}
 use Rattle.green_io.specs.Areas.{Areas}
 use Rattle.green_io.specs.Disk.{WhereTold}
 use Rattle.green_io.specs.Outside.{HasRisen}
+use Rattle.world_rules.specs.Legal.{Exchange}
 use Rattle.green_store.specs.declared.opening.OpenFault.{OpenFault}
 use Rattle.green_store.specs.declared.opening.OpenFault.TheVariants as faults
 use Rattle.green_store.specs.Opening.{IsOpenedFrom, IsDamagedLog, ReadsAsBefore, opened_with}
@@ -69,17 +70,18 @@ pub record IsNotOpened (words : List (List ℕ)) (reads left : Option Areas) (be
   pub place_is : place ≡ fault_place fault
 
 -- no session was served, and nothing was read from the source or written to the sink
-pub record NothingOpened (words : List (List ℕ)) (reads left : Option Areas) (before after : IoState) (report : Report) (status : ℕ) : Type 0 where
+pub record NothingOpened (words : List (List ℕ)) (reads left : Option Areas) (before after : IoState) (report : Report) (exchanges : List Exchange) (status : ℕ) : Type 0 where
   pub why : IsUsage words before after report.place status ⊎ IsNotOpened words reads left before after report.place status
   pub stays : after ≡ with_disk_faults before after.disk_faults
   pub history_is : report.history.items ≡ []
   pub opened_is : report.opened ≡ 0
+  pub none_answered : exchanges ≡ []
   pub no_points : report.points.items ≡ []
   pub counted : report.bytes_read ≡ 0
 
 -- A back end opened with the entries of the log as it was read and a restart, under the limits of the words, and its session
 -- ended so.
-pub record Opened (words : List (List ℕ)) (reads : Option Areas) (before after : IoState) (report : Report) (status : ℕ) : Type 0 where
+pub record Opened (words : List (List ℕ)) (reads : Option Areas) (before after : IoState) (report : Report) (exchanges : List Exchange) (status : ℕ) : Type 0 where
   pub limits : LimitsView
   pub opened : List PlainEntry
   pub end : SessionEnd
@@ -88,11 +90,11 @@ pub record Opened (words : List (List ℕ)) (reads : Option Areas) (before after
   pub status_is : status ≡ status_of end
   pub place_is : report.place ≡ place_of end
   pub opened_is : report.opened ≡ length opened
-  pub run : IsRun limits opened before after (plain_history report.history.items) report.points.items report.bytes_read end
+  pub run : IsRun limits opened before after (plain_history report.history.items) exchanges report.points.items report.bytes_read end
 
 -- A back end opened so under the standard limits, and the session that the words' start generates ended so. No byte of the source
 -- was read.
-pub record OpenedGenerated (words : List (List ℕ)) (reads : Option Areas) (before after : IoState) (report : Report) (status : ℕ) : Type 0 where
+pub record OpenedGenerated (words : List (List ℕ)) (reads : Option Areas) (before after : IoState) (report : Report) (exchanges : List Exchange) (status : ℕ) : Type 0 where
   pub start : ℕ
   pub opened : List PlainEntry
   pub end : SessionEnd
@@ -102,13 +104,14 @@ pub record OpenedGenerated (words : List (List ℕ)) (reads : Option Areas) (bef
   pub place_is : report.place ≡ 0
   pub opened_is : report.opened ≡ length opened
   pub counted : report.bytes_read ≡ 0
-  pub run : IsGeneratedRun start opened before after (plain_history report.history.items) report.points.items end
+  pub run : IsGeneratedRun start opened before after (plain_history report.history.items) exchanges report.points.items end
 
--- A call from this source, sink and disk to those left the report and answered the status. The areas of the disk read this
--- before, and that after, where it tells that.
-abbrev pub IsBatch : List (List ℕ) → Option Areas → Option Areas → IoState → IoState → Report → ℕ → Type 0
-IsBatch words reads left before after report status =
-    NothingOpened words reads left before after report status ⊎ Opened words reads before after report status ⊎ OpenedGenerated words reads before after report status
+-- A call from this source, sink and disk to those left the report, answered requests in these exchanges, and then the status. The
+-- areas of the disk read this before, and that after, where it tells that.
+abbrev pub IsBatch : List (List ℕ) → Option Areas → Option Areas → IoState → IoState → Report → List Exchange → ℕ → Type 0
+IsBatch words reads left before after report exchanges status =
+    NothingOpened words reads left before after report exchanges status
+    ⊎ Opened words reads before after report exchanges status ⊎ OpenedGenerated words reads before after report exchanges status
 
 -- The log was not told to be damaged, and no entry of it is lost: the history is these and a restart, and then what came
 -- behind them, unless nothing was opened.

@@ -4,7 +4,7 @@ use Rattle.std.specs.Io.KnownBytes.{IsAtEnd}
 use Rattle.green_io.specs.Outside.{HasRisen}
 use Rattle.febe_data.specs.Plain.{PlainRequest, PlainEntry}
 use Rattle.febe_wire.specs.Sessions.{IsInputOf, EndsInQuit, IsMalformedAt, IsTruncated}
-use Rattle.febe_feed.specs.Inputs.{IsOpenInput}
+use Rattle.febe_feed.specs.Inputs.{NoQuits, IsOpenInput}
 use Rattle.green_store.specs.Sessions.{greatest_session}
 use Rattle.green_top.specs.declared.session_end.SessionEnd.{SessionEnd}
 use Rattle.green_top.specs.declared.session_end.SessionEnd.TheVariants as ends
@@ -29,10 +29,11 @@ Cause ends.Memory read before after = Unit {0}
 Cause ends.Budget read before after = IsOpenInput read × (most_input ≤ length read)
 Cause ends.NoNumber read before after = Unit {0}
 
--- how many of the requests read were answered with this output, and how much of it was written
+-- how many of the requests read were answered with this output, and how much of it was written; and whether a quit was among them
+-- where the status is 0
 abbrev pub AnsweredAndWritten : SessionEnd → List ℕ → List PlainRequest → List ℕ → List ℕ → Type 0
 AnsweredAndWritten ends.Quit read answered output written = AreWholeRequests read answered × EndsInQuit answered × (written ≡ output)
-AnsweredAndWritten ends.End read answered output written = IsInputOf answered read × (written ≡ output)
+AnsweredAndWritten ends.End read answered output written = IsInputOf answered read × NoQuits answered × (written ≡ output)
 AnsweredAndWritten ends.WriteFault read answered output written = HasRequestPrefix read answered × IsPrefixOf written output
 AnsweredAndWritten ends.Memory read answered output written = HasRequestPrefix read answered × IsPrefixOf written output
 AnsweredAndWritten ends.NoNumber read answered output written = ⊥

@@ -5,6 +5,7 @@ use Rattle.febe_data.specs.LimitsView.{standard_limits}
 use Rattle.febe_data.specs.Plain.{PlainRequest, PlainEntry}
 use Rattle.green_io.specs.Outside.{HasRisen}
 use Rattle.world_rules.specs.Apply.{world_of}
+use Rattle.world_rules.specs.Legal.{Exchange}
 use Rattle.green_store.specs.Sessions.{greatest_session}
 use Rattle.green_top.specs.declared.session_end.SessionEnd.{SessionEnd}
 use Rattle.green_top.specs.declared.session_end.SessionEnd.TheVariants as ends
@@ -40,18 +41,18 @@ CouldNotBegin other opened = ⊥
 
 -- The session with the next number began, answered the requests that this start generates, or the first of them, and ended so;
 -- and the summary of its replies and of the world that it left was written.
-pub record IsSummedSession (start : ℕ) (opened : List PlainEntry) (end : SessionEnd) (written : List ℕ) (history : List PlainEntry) (points : List ℕ) (faults_before faults_after : ℕ) : Type 0 where
+pub record IsSummedSession (start : ℕ) (opened : List PlainEntry) (end : SessionEnd) (written : List ℕ) (history : List PlainEntry) (exchanges : List Exchange) (points : List ℕ) (faults_before faults_after : ℕ) : Type 0 where
   pub session : ℕ
   pub number_is : session ≡ greatest_session opened + 1
   pub has_number : session < 2 ^ 64
   pub answered : List PlainRequest
   pub output : List ℕ
-  pub over : IsOver standard_limits opened session history points answered output faults_before faults_after
-  pub answered_and_summed : AnsweredAndSummed end (generated_requests start) answered (summary_of start (replies_of over.transcript.exchanges) (world_of history)) written
+  pub over : IsOver standard_limits opened session history exchanges points answered output faults_before faults_after
+  pub answered_and_summed : AnsweredAndSummed end (generated_requests start) answered (summary_of start (replies_of exchanges) (world_of history)) written
 
 -- A back end that opened with this history held a session that this start generates, with the standard limits, and left this history
--- and these points. The source was left alone, and the sink took of the summary what was written.
-pub record IsGeneratedRun (start : ℕ) (opened : List PlainEntry) (before after : IoState) (history : List PlainEntry) (points : List ℕ) (end : SessionEnd) : Type 0 where
+-- and these points after these exchanges. The source was left alone, and the sink took of the summary what was written.
+pub record IsGeneratedRun (start : ℕ) (opened : List PlainEntry) (before after : IoState) (history : List PlainEntry) (exchanges : List Exchange) (points : List ℕ) (end : SessionEnd) : Type 0 where
   pub written : List ℕ
   pub left_stays : after.left ≡ before.left
   pub source_faults_stay : after.source_faults ≡ before.source_faults
@@ -59,4 +60,4 @@ pub record IsGeneratedRun (start : ℕ) (opened : List PlainEntry) (before after
   pub sink_never_falls : before.sink_faults ≤ after.sink_faults
   pub disk_never_falls : before.disk_faults ≤ after.disk_faults
   pub cause : SinkFailed end before after
-  pub leaves : (CouldNotBegin end opened × NoSession opened history points written) ⊎ IsSummedSession start opened end written history points before.disk_faults after.disk_faults
+  pub leaves : (CouldNotBegin end opened × NoSession opened history exchanges points written) ⊎ IsSummedSession start opened end written history exchanges points before.disk_faults after.disk_faults

@@ -49,5 +49,6 @@ pub mod Generated
 pub mod Summary
 pub mod GeneratedRun
 pub mod Batch
+pub mod Call
 pub mod Laws
 pub mod inside

@@ -61,11 +61,10 @@ pub record EntriesAre (session : ℕ) (history : List PlainEntry) (exchanges : L
   pub serials : CountFromOne (entries_of session history)
   pub in_turn : InTurn session history (begin_entry session ∷ []) exchanges
 
--- The requests were answered at these points, with this output, while the count of disk faults rose from this to that: each
--- exchange took place in the history, its reply is one that can be spelled, no more of them met a disk fault than there were,
+-- In these exchanges the requests were answered at these points, with this output, while the count of disk faults rose from this
+-- to that: each exchange took place in the history, its reply is one that can be spelled, no more of them met a disk fault than there were,
 -- the points never fall, and the session's entries are those of its accepted changes.
-pub record Transcript (limits : LimitsView) (session : ℕ) (history : List PlainEntry) (requests : List PlainRequest) (points output : List ℕ) (faults_before faults_after : ℕ) : Type 0 where
-  pub exchanges : List Exchange
+pub record Transcript (limits : LimitsView) (session : ℕ) (history : List PlainEntry) (exchanges : List Exchange) (requests : List PlainRequest) (points output : List ℕ) (faults_before faults_after : ℕ) : Type 0 where
   pub requests_are : requests ≡ map (λ (e : Exchange). e.request) exchanges
   pub points_are : points ≡ map (λ (e : Exchange). e.point) exchanges
   pub output_is : output ≡ output_of exchanges

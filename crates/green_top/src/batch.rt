@@ -1,19 +1,19 @@
 //! One run of the program.
-ghost use Rattle.std.specs.Prelude.{◌≡◌, ◌+◌, ◌≤◌, [], List, map, string_bytes, IsSome};
-ghost use Rattle.febe_data.specs.Plain.{PlainEntry, plain_history};
-ghost use Rattle.green_io.specs.Areas.{Areas};
-ghost use Rattle.green_io.specs.Disk.{images_now, LeavesOnly, LeavesOthers};
+ghost use Rattle.std.specs.Prelude.{◌≡◌, ◌+◌, ◌≤◌, [], ℕ, List, map, string_bytes};
+ghost use Rattle.febe_data.specs.Plain.{PlainEntry};
+ghost use Rattle.green_io.specs.Disk.{LeavesOthers};
 ghost use Rattle.edit_log.specs.Images.{AsRead};
 ghost use Rattle.edit_log.specs.Log.{IsWhole};
 ghost use Rattle.world_rules.specs.Placed.{AllPlaced};
 ghost use Rattle.world_rules.specs.World.{empty_world};
+ghost use Rattle.world_rules.specs.Legal.{Exchange};
 ghost use Rattle.green_store.specs.Sessions.{greatest_session};
 ghost use Rattle.green_top.specs.IoState.{io_state};
-ghost use Rattle.green_top.specs.Batch.{IsBatch, BeginsWith, fault_status, fault_place};
-ghost use Rattle.green_top.specs.Crash.{HoldsRun, HoldsAll};
-ghost use Rattle.green_top.specs.Words.{AreNoWords};
+ghost use Rattle.green_top.specs.Batch.{BeginsWith, fault_status, fault_place};
+ghost use Rattle.green_top.specs.Call.{IsCall};
+ghost use Rattle.green_top.specs.Words.{AreNoWords, AreGenerateWords};
 ghost use Rattle.green_top.specs.inside.Enduring.{Endures};
-ghost use Rattle.green_top.specs.inside.Forms.{limits_of, IsFormRun};
+ghost use Rattle.green_top.specs.inside.Forms.{limits_of, IsFormRun, IsGenerated};
 
 use crate::generate::serve_generated;
 use crate::report::Report;
@@ -62,11 +62,12 @@ fn serve_form<S: Source, K: Sink, D: Disk>(
     requires placed { AllPlaced empty_world store.old.history }
     requires no_points { report.old.points.items ≡ [] }
     requires limits { store.old.limits ≡ limits_of form.now }
-    ensures run { IsFormRun form.now store.old.history
+    ensures run { (exchanges : List Exchange) × IsFormRun form.now store.old.history
         (io_state (S.left source.old) (S.fault_count source.old) (K.taken sink.old) (K.fault_count sink.old) (D.fault_count disk.old))
         (io_state (S.left source.new) (S.fault_count source.new) (K.taken sink.new) (K.fault_count sink.new) (D.fault_count disk.new))
-        store.new.history report.new.points.items report.new.bytes_read result }
-    ensures endures { Endures store.old.limits (greatest_session store.old.history + 1) (D.state disk.old) store.old (D.fault_count disk.old) (D.state disk.new) store.new (D.fault_count disk.new) }
+        store.new.history exchanges report.new.points.items report.new.bytes_read result
+        × Endures store.old.limits (greatest_session store.old.history + 1) exchanges (D.state disk.old) store.old (D.fault_count disk.old) (D.state disk.new) store.new (D.fault_count disk.new) }
+    ensures source { IsGenerated form.now → source.new ≡ source.old }
 {
     match form {
         Form::Session { .. } => serve(alloc, store, source, sink, disk, report),
@@ -96,15 +97,12 @@ pub fn run_batch<S: Source, K: Sink, D: Disk>(
     disk: &mut D,
     report: &mut Report,
 ) -> u8
-    ensures batch { IsBatch (map string_bytes words.now) (D.state disk.old).reads (D.state disk.new).reads
+    ensures call { IsCall (map string_bytes words.now) (D.state disk.old) (D.state disk.new)
         (io_state (S.left source.old) (S.fault_count source.old) (K.taken sink.old) (K.fault_count sink.old) (D.fault_count disk.old))
         (io_state (S.left source.new) (S.fault_count source.new) (K.taken sink.new) (K.fault_count sink.new) (D.fault_count disk.new)) report.new result }
+    ensures source { (start : ℕ) → AreGenerateWords (map string_bytes words.now) start → source.new ≡ source.old }
     ensures untouched { AreNoWords (map string_bytes words.now) → disk.new ≡ disk.old }
     ensures whole { (entries : List PlainEntry) → AsRead (D.state disk.old).reads (IsWhole entries) → BeginsWith entries report.new result }
-    ensures any_moment { (entries : List PlainEntry) → AsRead (D.state disk.old).reads (IsWhole entries)
-        → LeavesOnly (D.state disk.old) (D.state disk.new) (HoldsRun (map string_bytes words.now) (D.state disk.old).reads entries (plain_history report.new.history.items)) }
-    ensures kept { IsSome (D.state disk.old).reads → 1 ≤ report.new.opened
-        → (image : Areas) → images_now (D.state disk.new) image → HoldsAll (map string_bytes words.now) report.new.opened (plain_history report.new.history.items) (D.fault_count disk.old) (D.fault_count disk.new) image }
     ensures others { LeavesOthers Area.Log (D.state disk.old) (D.state disk.new) }
     ensures never_falls { D.fault_count disk.old ≤ D.fault_count disk.new }
 {

@@ -1,5 +1,5 @@
 //! One request of a session, and its reply.
-ghost use Rattle.std.specs.Prelude.{◌≡◌, ◌≢◌, ◌↔◌, ℕ, true, IsTrue};
+ghost use Rattle.std.specs.Prelude.{◌≡◌, ◌≢◌, ◌↔◌, ℕ, true, [], IsTrue};
 ghost use Rattle.febe_data.specs.LimitsView.{LimitsView};
 ghost use Rattle.febe_data.specs.Plain.{plain_request, quit};
 ghost use Rattle.febe_data.specs.Validity.{IsRequest};
@@ -59,11 +59,11 @@ fn answer_one<K: Sink, D: Disk>(
 ) -> Put
     requires live { is_live store.old.history session ≡ true }
     requires valid { IsRequest (plain_request request) }
-    ensures answered { HandlesRequest store.old.limits session
+    ensures answered { (exchanges : _) × HandlesRequest store.old.limits session
         (answer_state store.old.history points.old.items (K.taken sink.old) (K.fault_count sink.old) (D.fault_count disk.old))
-        (answer_state store.new.history points.new.items (K.taken sink.new) (K.fault_count sink.new) (D.fault_count disk.new)) (plain_request request) result }
+        (answer_state store.new.history points.new.items (K.taken sink.new) (K.fault_count sink.new) (D.fault_count disk.new)) (plain_request request) result exchanges
+        × Endures store.old.limits session exchanges (D.state disk.old) store.old (D.fault_count disk.old) (D.state disk.new) store.new (D.fault_count disk.new) }
     ensures limits { store.new.limits ≡ store.old.limits }
-    ensures endures { Endures store.old.limits session (D.state disk.old) store.old (D.fault_count disk.old) (D.state disk.new) store.new (D.fault_count disk.new) }
     ensures stays { plain_request request ≢ quit → is_live store.new.history session ≡ true }
 {
     if points.reserve(1).is_err() {
@@ -83,7 +83,7 @@ pub(crate) fn tend<D: Disk>(alloc: Global, store: &mut Store, disk: &mut D) -> b
     ensures history { store.new.history ≡ store.old.history }
     ensures limits { store.new.limits ≡ store.old.limits }
     ensures untouched { disk.new ≡ disk.old }
-    ensures endures { (limits : LimitsView) (session : ℕ) → Endures limits session (D.state disk.old) store.old (D.fault_count disk.old) (D.state disk.new) store.new (D.fault_count disk.new) }
+    ensures endures { (limits : LimitsView) (session : ℕ) → Endures limits session [] (D.state disk.old) store.old (D.fault_count disk.old) (D.state disk.new) store.new (D.fault_count disk.new) }
 {
     let answer = store.step(alloc, disk, Step::Background);
     matches!(&answer, StepAnswer::Balanced | StepAnswer::Swept)
@@ -104,11 +104,11 @@ pub(crate) fn answer_next<S: Source, K: Sink, D: Disk>(
 ) -> Option<SessionEnd>
     requires live { is_live store.old.history session ≡ true }
     requires greeted { feed.old.greeted ≡ true }
-    ensures round { IsRound store.old.limits session
+    ensures round { (exchanges : _) × IsRound store.old.limits session
         (session_state store.old.history points.old.items feed.old turns.old (io_state (S.left source.old) (S.fault_count source.old) (K.taken sink.old) (K.fault_count sink.old) (D.fault_count disk.old)))
-        (session_state store.new.history points.new.items feed.new turns.new (io_state (S.left source.new) (S.fault_count source.new) (K.taken sink.new) (K.fault_count sink.new) (D.fault_count disk.new))) result }
+        (session_state store.new.history points.new.items feed.new turns.new (io_state (S.left source.new) (S.fault_count source.new) (K.taken sink.new) (K.fault_count sink.new) (D.fault_count disk.new))) exchanges result
+        × Endures store.old.limits session exchanges (D.state disk.old) store.old (D.fault_count disk.old) (D.state disk.new) store.new (D.fault_count disk.new) }
     ensures limits { store.new.limits ≡ store.old.limits }
-    ensures endures { Endures store.old.limits session (D.state disk.old) store.old (D.fault_count disk.old) (D.state disk.new) store.new (D.fault_count disk.new) }
 {
     let request = match take_next(alloc, source, feed, turns) {
         Ok(Some(request)) => request,

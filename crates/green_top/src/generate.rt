@@ -3,6 +3,7 @@ ghost use Rattle.std.specs.Prelude.{◌≡◌, ◌+◌, [], List, ℕ, Option, I
 ghost use Rattle.febe_data.specs.LimitsView.{LimitsView, standard_limits};
 ghost use Rattle.febe_wire.specs.Sessions.{IsInputOf};
 ghost use Rattle.world_rules.specs.Apply.{world_of};
+ghost use Rattle.world_rules.specs.Legal.{Exchange};
 ghost use Rattle.world_rules.specs.Placed.{AllPlaced};
 ghost use Rattle.world_rules.specs.World.{empty_world};
 ghost use Rattle.green_store.specs.Sessions.{greatest_session};
@@ -72,8 +73,8 @@ fn serve_input<D: Disk>(
     requires no_points { report.old.points.items ≡ [] }
     requires limits { store.old.limits ≡ standard_limits }
     requires none_yet { output.old.taken ≡ [] }
-    ensures run { IsInnerRun start result store.old.history store.new.history report.new.points.items output.new.taken (D.fault_count disk.old) (D.fault_count disk.new) }
-    ensures endures { Endures store.old.limits (greatest_session store.old.history + 1) (D.state disk.old) store.old (D.fault_count disk.old) (D.state disk.new) store.new (D.fault_count disk.new) }
+    ensures run { (exchanges : List Exchange) × IsInnerRun start result store.old.history store.new.history exchanges report.new.points.items output.new.taken (D.fault_count disk.old) (D.fault_count disk.new)
+        × Endures store.old.limits (greatest_session store.old.history + 1) exchanges (D.state disk.old) store.old (D.fault_count disk.old) (D.state disk.new) store.new (D.fault_count disk.new) }
 {
     let Ok(input) = input_of(alloc, start) else {
         return Err(SessionEnd::Memory);
@@ -87,7 +88,7 @@ fn serve_input<D: Disk>(
 fn settle<D: Disk>(alloc: Global, store: &mut Store, disk: &mut D)
     ensures history { store.new.history ≡ store.old.history }
     ensures untouched { disk.new ≡ disk.old }
-    ensures endures { (limits : LimitsView) (session : ℕ) → Endures limits session (D.state disk.old) store.old (D.fault_count disk.old) (D.state disk.new) store.new (D.fault_count disk.new) }
+    ensures endures { (limits : LimitsView) (session : ℕ) → Endures limits session [] (D.state disk.old) store.old (D.fault_count disk.old) (D.state disk.new) store.new (D.fault_count disk.new) }
 {
     for _ in 0..MOST_STEPS {
         if !tend(alloc, store, disk) {
@@ -131,12 +132,12 @@ pub(crate) fn serve_generated<K: Sink, D: Disk>(
     requires placed { AllPlaced empty_world store.old.history }
     requires no_points { report.old.points.items ≡ [] }
     requires limits { store.old.limits ≡ standard_limits }
-    ensures run { (left : Option (List ℕ)) (faults : ℕ) → IsGeneratedRun start store.old.history
+    ensures run { (exchanges : List Exchange) × ((left : Option (List ℕ)) (faults : ℕ) → IsGeneratedRun start store.old.history
         (io_state left faults (K.taken sink.old) (K.fault_count sink.old) (D.fault_count disk.old))
         (io_state left faults (K.taken sink.new) (K.fault_count sink.new) (D.fault_count disk.new))
-        store.new.history report.new.points.items result }
+        store.new.history exchanges report.new.points.items result)
+        × Endures store.old.limits (greatest_session store.old.history + 1) exchanges (D.state disk.old) store.old (D.fault_count disk.old) (D.state disk.new) store.new (D.fault_count disk.new) }
     ensures nothing_read { report.new.bytes_read ≡ 0 }
-    ensures endures { Endures store.old.limits (greatest_session store.old.history + 1) (D.state disk.old) store.old (D.fault_count disk.old) (D.state disk.new) store.new (D.fault_count disk.new) }
 {
     let mut output = KeptSink::new(alloc);
     let outcome = serve_input(alloc, start, store, &mut output, disk, report);

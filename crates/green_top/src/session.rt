@@ -34,11 +34,11 @@ fn converse<S: Source, K: Sink, D: Disk>(
     points: &mut List<u64>,
 ) -> SessionEnd
     requires begun { HasBegun session (session_state store.old.history points.old.items feed.old turns.old (io_state (S.left source.old) (S.fault_count source.old) (K.taken sink.old) (K.fault_count sink.old) (D.fault_count disk.old))) }
-    ensures conversed { IsConversed store.old.limits session
+    ensures conversed { (exchanges : _) × IsConversed store.old.limits session
         (session_state store.old.history points.old.items feed.old turns.old (io_state (S.left source.old) (S.fault_count source.old) (K.taken sink.old) (K.fault_count sink.old) (D.fault_count disk.old)))
-        (session_state store.new.history points.new.items feed.new turns.new (io_state (S.left source.new) (S.fault_count source.new) (K.taken sink.new) (K.fault_count sink.new) (D.fault_count disk.new))) result }
+        (session_state store.new.history points.new.items feed.new turns.new (io_state (S.left source.new) (S.fault_count source.new) (K.taken sink.new) (K.fault_count sink.new) (D.fault_count disk.new))) exchanges result
+        × Endures store.old.limits session exchanges (D.state disk.old) store.old (D.fault_count disk.old) (D.state disk.new) store.new (D.fault_count disk.new) }
     ensures limits { store.new.limits ≡ store.old.limits }
-    ensures endures { Endures store.old.limits session (D.state disk.old) store.old (D.fault_count disk.old) (D.state disk.new) store.new (D.fault_count disk.new) }
 {
     match put_bytes(sink, b"P0~") {
         Put::Done => {}
@@ -69,10 +69,10 @@ fn run_session<S: Source, K: Sink, D: Disk>(
     requires placed { AllPlaced empty_world store.old.history }
     requires no_points { points.old.items ≡ [] }
     requires greeted { IsGreeted (session_state store.old.history points.old.items feed.old turns.old (io_state (S.left source.old) (S.fault_count source.old) (K.taken sink.old) (K.fault_count sink.old) (D.fault_count disk.old))) }
-    ensures session { IsSession store.old.limits
+    ensures session { (exchanges : _) × IsSession store.old.limits
         (session_state store.old.history points.old.items feed.old turns.old (io_state (S.left source.old) (S.fault_count source.old) (K.taken sink.old) (K.fault_count sink.old) (D.fault_count disk.old)))
-        (session_state store.new.history points.new.items feed.new turns.new (io_state (S.left source.new) (S.fault_count source.new) (K.taken sink.new) (K.fault_count sink.new) (D.fault_count disk.new))) result }
-    ensures endures { Endures store.old.limits (greatest_session store.old.history + 1) (D.state disk.old) store.old (D.fault_count disk.old) (D.state disk.new) store.new (D.fault_count disk.new) }
+        (session_state store.new.history points.new.items feed.new turns.new (io_state (S.left source.new) (S.fault_count source.new) (K.taken sink.new) (K.fault_count sink.new) (D.fault_count disk.new))) exchanges result
+        × Endures store.old.limits (greatest_session store.old.history + 1) exchanges (D.state disk.old) store.old (D.fault_count disk.old) (D.state disk.new) store.new (D.fault_count disk.new) }
 {
     let session = match store.step(alloc, disk, Step::Begin) {
         StepAnswer::Begun { session } => session,
@@ -99,11 +99,11 @@ pub(crate) fn serve<S: Source, K: Sink, D: Disk>(
 ) -> SessionEnd
     requires placed { AllPlaced empty_world store.old.history }
     requires no_points { report.old.points.items ≡ [] }
-    ensures run { IsRun store.old.limits store.old.history
+    ensures run { (exchanges : _) × IsRun store.old.limits store.old.history
         (io_state (S.left source.old) (S.fault_count source.old) (K.taken sink.old) (K.fault_count sink.old) (D.fault_count disk.old))
         (io_state (S.left source.new) (S.fault_count source.new) (K.taken sink.new) (K.fault_count sink.new) (D.fault_count disk.new))
-        store.new.history report.new.points.items report.new.bytes_read result }
-    ensures endures { Endures store.old.limits (greatest_session store.old.history + 1) (D.state disk.old) store.old (D.fault_count disk.old) (D.state disk.new) store.new (D.fault_count disk.new) }
+        store.new.history exchanges report.new.points.items report.new.bytes_read result
+        × Endures store.old.limits (greatest_session store.old.history + 1) exchanges (D.state disk.old) store.old (D.fault_count disk.old) (D.state disk.new) store.new (D.fault_count disk.new) }
 {
     let mut feed = Feed::new(alloc);
     let mut turns = Turns::new(MOST_INPUT);

@@ -7,6 +7,7 @@ use Rattle.febe_feed.specs.FeedView.{with_piece, FeedView, GivesRequest}
 use Rattle.febe_feed.specs.Pieces.{HasGiven}
 use Rattle.febe_feed.specs.Inputs.{NoQuits}
 use Rattle.world_rules.specs.History.{is_live}
+use Rattle.world_rules.specs.Legal.{Exchange}
 use Rattle.green_session.specs.Taking.{TurnsView, ReadState, read_state, ReadsBytes, Comes}
 use Rattle.green_session.specs.declared.take.Taken.{Taken}
 use Rattle.green_session.specs.declared.take.Taken.TheVariants as take_answers
@@ -43,18 +44,19 @@ reading s = read_state s.io.left s.io.source_faults s.feed s.turns
 abbrev pub answering : SessionState → AnswerState
 answering s = answer_state s.history s.points s.io.taken s.io.sink_faults s.io.disk_faults
 
--- a request came, was answered, and this came of its reply
-pub record IsAsked (limits : LimitsView) (session : ℕ) (before after : SessionState) (request : PlainRequest) (put : Put) : Type 0 where
+-- a request came, was answered in these exchanges, and this came of its reply
+pub record IsAsked (limits : LimitsView) (session : ℕ) (before after : SessionState) (exchanges : List Exchange) (request : PlainRequest) (put : Put) : Type 0 where
   pub read : List ℕ
   pub reads : ReadsBytes (reading before) (reading after) read
   pub gives : GivesRequest (with_piece before.feed read) after.feed request
-  pub answered : HandlesRequest limits session (answering before) (answering after) request put
+  pub answered : HandlesRequest limits session (answering before) (answering after) request put exchanges
 
 -- no request came, but this
-pub record IsNotAsked (before after : SessionState) (taken : Taken) : Type 0 where
+pub record IsNotAsked (before after : SessionState) (exchanges : List Exchange) (taken : Taken) : Type 0 where
   pub read : List ℕ
   pub reads : ReadsBytes (reading before) (reading after) read
   pub comes : Comes taken (reading before) (reading after) read
+  pub no_exchange : exchanges ≡ []
   pub history_stays : after.history ≡ before.history
   pub points_stay : after.points ≡ before.points
   pub taken_stays : after.io.taken ≡ before.io.taken
@@ -62,17 +64,17 @@ pub record IsNotAsked (before after : SessionState) (taken : Taken) : Type 0 whe
   pub disk_faults_stay : after.io.disk_faults ≡ before.io.disk_faults
 
 -- what came of taking one request and answering it: the session goes on, or ends
-abbrev pub IsRound : LimitsView → ℕ → SessionState → SessionState → Option SessionEnd → Type 0
-IsRound limits session before after None = ((request : PlainRequest) × (request ≢ quit) × IsAsked limits session before after request put_results.Done) × (is_live after.history session ≡ true)
-IsRound limits session before after (Some ends.Quit) = IsAsked limits session before after quit put_results.Done
-IsRound limits session before after (Some ends.End) = IsNotAsked before after take_answers.End
-IsRound limits session before after (Some (ends.Malformed at)) = IsNotAsked before after (take_answers.Malformed at)
-IsRound limits session before after (Some (ends.Truncated at)) = IsNotAsked before after (take_answers.Truncated at)
-IsRound limits session before after (Some ends.ReadFault) = IsNotAsked before after take_answers.ReadFault
-IsRound limits session before after (Some ends.WriteFault) = (request : PlainRequest) × IsAsked limits session before after request put_results.WriteFault
-IsRound limits session before after (Some ends.Memory) = IsNotAsked before after take_answers.Memory ⊎ ((request : PlainRequest) × IsAsked limits session before after request put_results.Memory)
-IsRound limits session before after (Some ends.Budget) = IsNotAsked before after take_answers.Budget
-IsRound limits session before after (Some ends.NoNumber) = ⊥
+abbrev pub IsRound : LimitsView → ℕ → SessionState → SessionState → List Exchange → Option SessionEnd → Type 0
+IsRound limits session before after exchanges None = ((request : PlainRequest) × (request ≢ quit) × IsAsked limits session before after exchanges request put_results.Done) × (is_live after.history session ≡ true)
+IsRound limits session before after exchanges (Some ends.Quit) = IsAsked limits session before after exchanges quit put_results.Done
+IsRound limits session before after exchanges (Some ends.End) = IsNotAsked before after exchanges take_answers.End
+IsRound limits session before after exchanges (Some (ends.Malformed at)) = IsNotAsked before after exchanges (take_answers.Malformed at)
+IsRound limits session before after exchanges (Some (ends.Truncated at)) = IsNotAsked before after exchanges (take_answers.Truncated at)
+IsRound limits session before after exchanges (Some ends.ReadFault) = IsNotAsked before after exchanges take_answers.ReadFault
+IsRound limits session before after exchanges (Some ends.WriteFault) = (request : PlainRequest) × IsAsked limits session before after exchanges request put_results.WriteFault
+IsRound limits session before after exchanges (Some ends.Memory) = IsNotAsked before after exchanges take_answers.Memory ⊎ ((request : PlainRequest) × IsAsked limits session before after exchanges request put_results.Memory)
+IsRound limits session before after exchanges (Some ends.Budget) = IsNotAsked before after exchanges take_answers.Budget
+IsRound limits session before after exchanges (Some ends.NoNumber) = ⊥
 
 -- the greeting was given, and as many bytes as were read are counted
 pub record IsGreeted (start : SessionState) : Type 0 where
@@ -92,8 +94,8 @@ pub record HasBegun (session : ℕ) (start : SessionState) : Type 0 where
   pub begins : Begins session opened start.history
   pub no_points : start.points ≡ []
 
--- from its begin on the session's requests were answered and written, and it goes on
-pub record IsConversing (limits : LimitsView) (session : ℕ) (start now : SessionState) : Type 0 where
+-- from its begin on the session's requests were answered in these exchanges and written, and it goes on
+pub record IsConversing (limits : LimitsView) (session : ℕ) (start now : SessionState) (exchanges : List Exchange) : Type 0 where
   pub read : List ℕ
   pub written : List ℕ
   pub requests : List PlainRequest
@@ -103,11 +105,11 @@ pub record IsConversing (limits : LimitsView) (session : ℕ) (start now : Sessi
   pub no_quits : NoQuits requests
   pub turns_are : now.turns ≡ record { limit = most_input; taken = length (all_read start read) }
   pub within : length (all_read start read) ≤ most_input + 4095
-  pub progress : Progress limits session start.history now.history now.points requests written start.io.disk_faults now.io.disk_faults
+  pub progress : Progress limits session start.history now.history exchanges now.points requests written start.io.disk_faults now.io.disk_faults
   pub live : is_live now.history session ≡ true
 
--- from its begin on the session's requests were answered, up to this end
-pub record IsConversed (limits : LimitsView) (session : ℕ) (start after : SessionState) (end : SessionEnd) : Type 0 where
+-- from its begin on the session's requests were answered in these exchanges, up to this end
+pub record IsConversed (limits : LimitsView) (session : ℕ) (start after : SessionState) (exchanges : List Exchange) (end : SessionEnd) : Type 0 where
   pub read : List ℕ
   pub written : List ℕ
   pub answered : List PlainRequest
@@ -115,16 +117,16 @@ pub record IsConversed (limits : LimitsView) (session : ℕ) (start after : Sess
   pub moves : Moves start.io after.io read written
   pub counted : after.turns.taken ≡ length (all_read start read)
   pub within : length (all_read start read) ≤ most_input + 4095
-  pub progress : Progress limits session start.history after.history after.points answered output start.io.disk_faults after.io.disk_faults
+  pub progress : Progress limits session start.history after.history exchanges after.points answered output start.io.disk_faults after.io.disk_faults
   pub cause : Cause end (all_read start read) start.io after.io
   pub answered_and_written : AnsweredAndWritten end (all_read start read) answered output written
 
 -- from its greeting on the session was served to its end, or did not begin
-pub record IsSession (limits : LimitsView) (start after : SessionState) (end : SessionEnd) : Type 0 where
+pub record IsSession (limits : LimitsView) (start after : SessionState) (exchanges : List Exchange) (end : SessionEnd) : Type 0 where
   pub read : List ℕ
   pub written : List ℕ
   pub moves : Moves start.io after.io read written
   pub counted : after.turns.taken ≡ length (all_read start read)
   pub within : length (all_read start read) ≤ most_input + 4095
   pub cause : Cause end (all_read start read) start.io after.io
-  pub leaves : Leaves limits start.history end (all_read start read) written after.history after.points start.io.disk_faults after.io.disk_faults
+  pub leaves : Leaves limits start.history end (all_read start read) written after.history exchanges after.points start.io.disk_faults after.io.disk_faults

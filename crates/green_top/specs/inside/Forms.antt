@@ -4,6 +4,7 @@ use Rattle.febe_data.specs.LimitsView.{LimitsView, standard_limits}
 use Rattle.green_top.specs.declared.words.Form.{Form}
 use Rattle.green_top.specs.declared.words.Form.TheVariants as forms
 use Rattle.febe_data.specs.Plain.{PlainEntry}
+use Rattle.world_rules.specs.Legal.{Exchange}
 use Rattle.green_top.specs.declared.session_end.SessionEnd.{SessionEnd}
 use Rattle.green_top.specs.GeneratedRun.{IsGeneratedRun}
 use Rattle.green_top.specs.IoState.{IoState}
@@ -21,6 +22,11 @@ IsForm words (forms.Session limits) = AreWords words limits
 IsForm words (forms.Generate start) = AreGenerateWords words start
 
 -- a run of this form, over a store that opened with this history
-abbrev pub IsFormRun : Form → (opened : List PlainEntry) → (before after : IoState) → (history : List PlainEntry) → (points : List ℕ) → (bytes_read : ℕ) → SessionEnd → Type 0
-IsFormRun (forms.Session limits) opened before after history points bytes_read end = IsRun limits opened before after history points bytes_read end
-IsFormRun (forms.Generate start) opened before after history points bytes_read end = IsGeneratedRun start opened before after history points end × (bytes_read ≡ 0)
+abbrev pub IsFormRun : Form → (opened : List PlainEntry) → (before after : IoState) → (history : List PlainEntry) → List Exchange → (points : List ℕ) → (bytes_read : ℕ) → SessionEnd → Type 0
+IsFormRun (forms.Session limits) opened before after history exchanges points bytes_read end = IsRun limits opened before after history exchanges points bytes_read end
+IsFormRun (forms.Generate start) opened before after history exchanges points bytes_read end = IsGeneratedRun start opened before after history exchanges points end × (bytes_read ≡ 0)
+
+-- a run of this form makes its requests itself
+abbrev pub IsGenerated : Form → Type 0
+IsGenerated (forms.Session limits) = ⊥
+IsGenerated (forms.Generate start) = Unit {0}

@@ -41,28 +41,35 @@ pub record Answers (limits : LimitsView) (session : ℕ) (before after : AnswerS
   pub points_are : after.points ≡ before.points ++ length after.history ∷ []
   pub output_is : output ≡ spell_reply reply
 
--- the request was answered, and this came of writing its reply
-pub record AnswersAndWrites (limits : LimitsView) (session : ℕ) (before after : AnswerState) (request : PlainRequest) (result : Put) : Type 0 where
+-- its exchange, with this reply, in which this was added
+abbrev pub exchange_of : (before after : AnswerState) → PlainRequest → PlainReply → List PlainEntry → Exchange
+exchange_of before after request reply added =
+    record { request = request; reply = reply; point = length after.history; added = added; rose = has_risen before.disk_faults after.disk_faults }
+
+-- the request was answered in this one exchange, and this came of writing its reply
+pub record AnswersAndWrites (limits : LimitsView) (session : ℕ) (before after : AnswerState) (request : PlainRequest) (result : Put) (exchanges : List Exchange) : Type 0 where
   pub output : List ℕ
   pub answers : Answers limits session before after request output
+  pub exchanges_are : exchanges ≡ exchange_of before after request answers.reply answers.step.added ∷ []
   pub put : IsPut before.taken after.taken before.faults after.faults output result
 
 -- there was no memory, and all is as it was
-pub record IsOutOfMemory (before after : AnswerState) (result : Put) : Type 0 where
+pub record IsOutOfMemory (before after : AnswerState) (result : Put) (exchanges : List Exchange) : Type 0 where
   pub memory : result ≡ Memory
+  pub no_exchange : exchanges ≡ []
   pub history_stays : after.history ≡ before.history
   pub points_stay : after.points ≡ before.points
   pub sink_stays : after.taken ≡ before.taken
   pub faults_stay : after.faults ≡ before.faults
   pub disk_faults_stay : after.disk_faults ≡ before.disk_faults
 
-abbrev pub HandlesRequest : LimitsView → ℕ → AnswerState → AnswerState → PlainRequest → Put → Type 0
-HandlesRequest limits session before after request result = AnswersAndWrites limits session before after request result ⊎ IsOutOfMemory before after result
+abbrev pub HandlesRequest : LimitsView → ℕ → AnswerState → AnswerState → PlainRequest → Put → List Exchange → Type 0
+HandlesRequest limits session before after request result exchanges =
+    AnswersAndWrites limits session before after request result exchanges ⊎ IsOutOfMemory before after result exchanges
 
--- The session so far: the requests answered, with their points and the output, while the count of disk faults rose from this
+-- The session so far: the requests answered in these exchanges, with their points and the output, while the count of disk faults rose from this
 -- to that. The history is the one with which the session had begun, and what the exchanges added.
-pub record Progress (limits : LimitsView) (session : ℕ) (begun history : List PlainEntry) (points : List ℕ) (answered : List PlainRequest) (output : List ℕ) (faults_before faults_after : ℕ) : Type 0 where
-  pub exchanges : List Exchange
+pub record Progress (limits : LimitsView) (session : ℕ) (begun history : List PlainEntry) (exchanges : List Exchange) (points : List ℕ) (answered : List PlainRequest) (output : List ℕ) (faults_before faults_after : ℕ) : Type 0 where
   pub requests_are : answered ≡ map (λ (e : Exchange). e.request) exchanges
   pub points_are : points ≡ map (λ (e : Exchange). e.point) exchanges
   pub output_is : output ≡ output_of exchanges

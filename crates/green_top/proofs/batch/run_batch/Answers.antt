@@ -1,34 +1,54 @@
-use Rattle.std.proofs.Common.{◌∙◌, map, refl, subst, sym, inl, inr, string_bytes}
+use Rattle.std.proofs.Common.{◌∙◌, [], map, refl, subst, sym, inl, inr, string_bytes, arith}
 use Rattle.green_io.specs.declared.disk.Area.TheVariants.{Log}
 use Rattle.green_io.proofs.Beside.{then_others}
+use Rattle.green_io.proofs.Crash.{none_called}
 use Rattle.green_top.specs.IoState.{io_state}
 use Rattle.green_top.specs.Words.{HasLimits}
-use Rattle.green_top.proofs.Batches.{counts_all, has_limits, no_form, batch_of, why_not, not_opened_begins, not_opened_moment, opened_begins, opened_moment, opened_kept}
+use Rattle.green_top.proofs.Batches.{counts_all, has_limits, no_form, generates, batch_of, why_not, not_opened_begins, not_opened_moment, opened_begins, opened_moment, opened_kept}
 use Rattle.green_top.proofs.Readings.{opened_placed}
 use Rattle.green_top.proofs.batch.run_batch.Goals as goal
 
-pub returns-in-Err-clause-batch : goal.returns-in-Err-clause-batch
-returns-in-Err-clause-batch g c = inl (record {
-  why = inr (record {
-    limits = c.limits.result;
-    words_are = subst (HasLimits (map string_bytes c.args.words.now)) (sym c.limits.ensures) (has_limits _ c.in-Some.form c.in-Some.ensures.some);
-    fault = c.in-Err.fault;
-    cause = why_not c.in-Err.fault _ _ _ _ c.in-Err.ensures.damaged c.in-Err.ensures.left c.in-Err.ensures.failed;
-    status_is = c.status_of.ensures;
-    place_is = c.place_of-report.ensures;
+pub returns-in_default-clause-call : goal.returns-in_default-clause-call
+returns-in_default-clause-call g c = record {
+  exchanges = [];
+  batch = inl (record {
+    why = inl (record { wrong = c.in_default.ensures.none; status_is = refl; place_is = c.new.ensures.place; disk_stays = refl });
+    stays = refl;
+    history_is = c.new.ensures.history;
+    opened_is = c.new.ensures.opened;
+    none_answered = refl;
+    no_points = c.new.ensures.points;
+    counted = c.new.ensures.bytes_read;
   });
-  stays = refl;
-  history_is = c.new.ensures.history;
-  opened_is = c.new.ensures.opened;
-  no_points = c.new.ensures.points;
-  counted = c.new.ensures.bytes_read;
-})
+  any_moment = λ entries whole. none_called _ _;
+  kept = λ told some. absurd (omega (arith, some, c.new.ensures.opened));
+}
+
+pub returns-in-Err-clause-call : goal.returns-in-Err-clause-call
+returns-in-Err-clause-call g c = record {
+  exchanges = [];
+  batch = inl (record {
+    why = inr (record {
+      limits = c.limits.result;
+      words_are = subst (HasLimits (map string_bytes c.args.words.now)) (sym c.limits.ensures) (has_limits _ c.in-Some.form c.in-Some.ensures.some);
+      fault = c.in-Err.fault;
+      cause = why_not c.in-Err.fault _ _ _ _ c.in-Err.ensures.damaged c.in-Err.ensures.left c.in-Err.ensures.failed;
+      status_is = c.status_of.ensures;
+      place_is = c.place_of-report.ensures;
+    });
+    stays = refl;
+    history_is = c.new.ensures.history;
+    opened_is = c.new.ensures.opened;
+    none_answered = refl;
+    no_points = c.new.ensures.points;
+    counted = c.new.ensures.bytes_read;
+  });
+  any_moment = λ entries whole. not_opened_moment _ _ entries _ _ _ _ (c.in-Err.ensures.any_moment entries whole);
+  kept = λ told some. absurd (omega (arith, some, c.new.ensures.opened));
+}
 
 pub returns-in-Err-clause-whole : goal.returns-in-Err-clause-whole
 returns-in-Err-clause-whole g c = λ entries whole. not_opened_begins c.in-Err.fault entries _ _ (c.in-Err.ensures.whole entries whole) c.status_of.ensures c.new.ensures.history
-
-pub returns-in-Err-clause-any_moment : goal.returns-in-Err-clause-any_moment
-returns-in-Err-clause-any_moment g c = λ entries whole. not_opened_moment _ _ entries _ _ _ (c.in-Err.ensures.any_moment entries whole)
 
 pub returns-in-Err-clause-untouched : goal.returns-in-Err-clause-untouched
 returns-in-Err-clause-untouched g c = λ none. absurd (no_form _ c.in-Some.form c.in-Some.ensures.some none)
@@ -39,27 +59,28 @@ serve_form-end-requires-clause-placed g c = opened_placed _ _ c.in-Ok.ensures.hi
 pub serve_form-end-requires-clause-limits : goal.serve_form-end-requires-clause-limits
 serve_form-end-requires-clause-limits g c = c.in-Ok.ensures.limits ∙ c.limits.ensures
 
-pub returns-clause-batch : goal.returns-clause-batch
-returns-clause-batch g c =
+pub returns-clause-call : goal.returns-clause-call
+returns-clause-call g c =
     let before = io_state (g.S.Source.left c.args.source.now) (g.S.Source.fault_count c.args.source.now) (g.K.Sink.taken c.args.sink.now) (g.K.Sink.fault_count c.args.sink.now) (g.D.Disk.fault_count c.args.disk.now) in
-    batch_of _ c.in-Some.form _ _ before _ (g.D.Disk.fault_count c.open.new.disk) _ _ _ _ c.serve_form-end.result c.in-Some.ensures.some c.in-Ok.ensures.history c.status.ensures c.place-report.ensures
-    (c.len-opened.ensures ∙ counts_all _ _ c.history.ensures) c.in-Ok.ensures.never_falls c.into_history.ensures c.serve_form-end.ensures.run
+    let limits = subst (HasLimits (map string_bytes c.args.words.now)) (sym (c.in-Ok.ensures.limits ∙ c.limits.ensures)) (has_limits _ c.in-Some.form c.in-Some.ensures.some) in
+    let count = c.len-opened.ensures ∙ counts_all _ _ c.history.ensures in
+    let run = c.serve_form-end.ensures.run in
+    record {
+      exchanges = run.0;
+      batch = batch_of _ c.in-Some.form _ _ before _ (g.D.Disk.fault_count c.open.new.disk) _ _ _ _ run.0 c.serve_form-end.result c.in-Some.ensures.some c.in-Ok.ensures.history c.status.ensures c.place-report.ensures count c.in-Ok.ensures.never_falls c.into_history.ensures run.1;
+      any_moment = λ entries whole. opened_moment _ c.in-Ok.store.limits limits _ _ _ _ _ run.0 _ _ _ c.in-Ok.ensures.never_falls c.in-Ok.ensures.keeps run.2 _ c.into_history.ensures entries whole (c.in-Ok.ensures.whole entries whole) (c.in-Ok.ensures.any_moment entries whole);
+      kept = λ told some.
+          opened_kept _ c.in-Ok.store.limits limits (g.D.Disk.state c.args.disk.now) _ _ _ _ run.0 _ _ _ c.in-Ok.ensures.never_falls c.in-Ok.ensures.keeps run.2 _ c.into_history.ensures _ count told c.images_are_kept.ensures;
+    }
+
+pub returns-clause-source : goal.returns-clause-source
+returns-clause-source g c = λ start generate. c.serve_form-end.ensures.source (generates _ c.in-Some.form c.in-Some.ensures.some start generate)
 
 pub returns-clause-untouched : goal.returns-clause-untouched
 returns-clause-untouched g c = λ none. absurd (no_form _ c.in-Some.form c.in-Some.ensures.some none)
 
 pub returns-clause-whole : goal.returns-clause-whole
-returns-clause-whole g c = λ entries whole. opened_begins c.serve_form-end.result entries _ _ _ _ (c.in-Ok.ensures.whole entries whole) c.serve_form-end.ensures.endures.grows c.status.ensures c.into_history.ensures
-
-pub returns-clause-any_moment : goal.returns-clause-any_moment
-returns-clause-any_moment g c = λ entries whole.
-    opened_moment _ c.in-Ok.store.limits (subst (HasLimits (map string_bytes c.args.words.now)) (sym (c.in-Ok.ensures.limits ∙ c.limits.ensures)) (has_limits _ c.in-Some.form c.in-Some.ensures.some)) _ _ _ _ _ _ _ _ c.in-Ok.ensures.never_falls c.in-Ok.ensures.keeps c.serve_form-end.ensures.endures _ c.into_history.ensures
-    entries whole (c.in-Ok.ensures.whole entries whole) (c.in-Ok.ensures.any_moment entries whole)
-
-pub returns-clause-kept : goal.returns-clause-kept
-returns-clause-kept g c = λ told some.
-    opened_kept _ c.in-Ok.store.limits (subst (HasLimits (map string_bytes c.args.words.now)) (sym (c.in-Ok.ensures.limits ∙ c.limits.ensures)) (has_limits _ c.in-Some.form c.in-Some.ensures.some)) (g.D.Disk.state c.args.disk.now) _ _ _ _ _ _ _ c.in-Ok.ensures.never_falls c.in-Ok.ensures.keeps c.serve_form-end.ensures.endures _ c.into_history.ensures
-    _ (c.len-opened.ensures ∙ counts_all _ _ c.history.ensures) told c.images_are_kept.ensures
+returns-clause-whole g c = λ entries whole. opened_begins c.serve_form-end.result entries _ _ _ _ (c.in-Ok.ensures.whole entries whole) c.serve_form-end.ensures.run.2.grows c.status.ensures c.into_history.ensures
 
 pub returns-clause-others : goal.returns-clause-others
-returns-clause-others g c = then_others Log _ _ _ (g.met.D.Disk.is_disk c.open.new.disk) c.in-Ok.ensures.others c.serve_form-end.ensures.endures.others
+returns-clause-others g c = then_others Log _ _ _ (g.met.D.Disk.is_disk c.open.new.disk) c.in-Ok.ensures.others c.serve_form-end.ensures.run.2.others

@@ -1,4 +1,3 @@
-use Rattle.std.proofs.Common.{true}
 use Rattle.green_top.proofs.Endurings.{background_is_still, endures_background}
 use Rattle.green_top.proofs.exchange.tend.Goals as goal
 

@@ -1,4 +1,4 @@
-use Rattle.std.proofs.Common.{refl, sym, subst, inl, Result}
+use Rattle.std.proofs.Common.{[], refl, sym, subst, inl, Result}
 use Rattle.febe_wire.specs.Sessions.{IsInputOf}
 use Rattle.green_top.specs.declared.session_end.SessionEnd.{SessionEnd}
 use Rattle.green_top.specs.Generated.{generated_requests}
@@ -7,17 +7,22 @@ use Rattle.green_top.proofs.Endurings.{endures_nothing}
 use Rattle.green_top.proofs.Generateds.{can_end, inner_run}
 use Rattle.green_top.proofs.generate.serve_input.Goals as goal
 
-pub returns-in_default-clause-run : goal.returns-in_default-clause-run
-returns-in_default-clause-run g c = inl (record { history_is = refl; no_points = c.requires.no_points; nothing = refl })
-
-pub returns-in_default-clause-endures : goal.returns-in_default-clause-endures
-returns-in_default-clause-endures g c = endures_nothing _ _ _ _ _
+pub returns-in_default : goal.returns-in_default
+returns-in_default g c = record { run = ([], inl (record { history_is = refl; none_answered = refl; no_points = c.requires.no_points; nothing = refl }), endures_nothing _ _ _ _ _) }
 
 pub outcome_of-requires : goal.outcome_of-requires
 outcome_of-requires g c =
-    can_end c.args.start _ _ _ _ _ _ _ _ (subst (IsInputOf (generated_requests c.args.start)) (sym c.new-source.ensures) c.in-Ok.ensures) c.requires.none_yet _ _ _ _ c.serve-end.result (rw c.requires.limits at c.serve-end.ensures.run)
+    can_end c.args.start _ _ _ _ _ _ _ _ (subst (IsInputOf (generated_requests c.args.start)) (sym c.new-source.ensures) c.in-Ok.ensures) c.requires.none_yet _ _ _ _ _ c.serve-end.result (rw c.requires.limits at c.serve-end.ensures.run.1)
 
-pub returns-clause-run : goal.returns-clause-run
-returns-clause-run g c =
-    subst (λ (r : Result (Unit {0}) SessionEnd). IsInnerRun c.args.start r c.args.store.now.history c.serve-end.new.store.history c.serve-end.new.report.points.items c.serve-end.new.sink.taken (g.D.Disk.fault_count c.args.disk.now) (g.D.Disk.fault_count c.serve-end.new.disk)) (sym c.outcome_of.ensures)
-    (inner_run c.args.start _ _ _ _ _ _ _ _ (subst (IsInputOf (generated_requests c.args.start)) (sym c.new-source.ensures) c.in-Ok.ensures) c.requires.none_yet _ _ _ _ c.serve-end.result (rw c.requires.limits at c.serve-end.ensures.run))
+pub returns : goal.returns
+returns g c =
+    let run = c.serve-end.ensures.run in
+    record {
+      run = (
+        run.0,
+        subst (λ (r : Result (Unit {0}) SessionEnd). IsInnerRun c.args.start r c.args.store.now.history c.serve-end.new.store.history run.0 c.serve-end.new.report.points.items c.serve-end.new.sink.taken (g.D.Disk.fault_count c.args.disk.now) (g.D.Disk.fault_count c.serve-end.new.disk))
+            (sym c.outcome_of.ensures)
+            (inner_run c.args.start _ _ _ _ _ _ _ _ (subst (IsInputOf (generated_requests c.args.start)) (sym c.new-source.ensures) c.in-Ok.ensures) c.requires.none_yet _ _ _ _ _ c.serve-end.result (rw c.requires.limits at run.1)),
+        run.2,
+      );
+    }

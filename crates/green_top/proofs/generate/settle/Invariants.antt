@@ -1,4 +1,4 @@
-use Rattle.std.proofs.Common.{◌≡◌, ℕ}
+use Rattle.std.proofs.Common.{◌≡◌, ℕ, []}
 use Rattle.febe_data.specs.LimitsView.{LimitsView}
 use Rattle.green_top.specs.inside.Enduring.{Endures}
 use Rattle.green_top.proofs.generate.settle.Given as goal
@@ -7,5 +7,5 @@ abbrev pub invariant-loop : goal.invariant-loop
 invariant-loop g l = record {
   history : l.store.history ≡ l.fn.store.history;
   untouched : l.disk ≡ l.fn.disk;
-  endures : (limits : LimitsView) (session : ℕ) → Endures limits session (g.D.Disk.state l.fn.disk) l.fn.store (g.D.Disk.fault_count l.fn.disk) (g.D.Disk.state l.disk) l.store (g.D.Disk.fault_count l.disk);
+  endures : (limits : LimitsView) (session : ℕ) → Endures limits session [] (g.D.Disk.state l.fn.disk) l.fn.store (g.D.Disk.fault_count l.fn.disk) (g.D.Disk.state l.disk) l.store (g.D.Disk.fault_count l.disk);
 }
