@@ -37,11 +37,12 @@ fn inserts(rt: &impl Abort, alloc: Global, opened: &mut Opened, entries: u64) ->
     Ok(())
 }
 
-/// The document's text is so often `x`, with so many entries.
+/// The text of a document is so often `x`, with so many entries.
 fn check_text(
     rt: &impl Abort,
     alloc: Global,
     opened: &mut Opened,
+    document: &[u32],
     count: u32,
     entries: u64,
 ) -> Result<(), Fail> {
@@ -50,7 +51,7 @@ fn check_text(
         start: Tumbler::from_places(alloc, &[1, 1])?,
         width: Tumbler::from_places(alloc, &[0, count])?,
     })?;
-    let document = Tumbler::from_places(alloc, &DOCUMENT)?;
+    let document = Tumbler::from_places(alloc, document)?;
     let mut specs = List::new(alloc);
     specs.push(Spec { document, spans })?;
     let reply = opened.asks(rt, alloc, 1, Request::Retrieve { specs }, entries);
@@ -105,17 +106,48 @@ fn a_root_with_too_many_leaves_is_split(rt: HostRuntime) -> Result<(), Fail> {
     assert!(rt; settle(&rt, alloc, &mut opened) < 8);
     assert!(rt; !opened.store.can_balance());
     assert_eq!(rt; opened.store.depth(), 2);
-    check_text(&rt, alloc, &mut opened, 17, 21)
+    check_text(&rt, alloc, &mut opened, &DOCUMENT, 17, 21)
 }
 
-/// Session 1 makes 1,200 inserts, each with a background step behind it, and the sweeps among these are counted.
+/// The version of the document that is made of its first text.
+const VERSION: [u32; 7] = [1, 1, 0, 1, 0, 1, 1];
+
+/// A store with a document that has the text `x`, and a version of it: six entries.
+fn with_version(rt: &impl Abort, alloc: Global) -> Result<Opened, Fail> {
+    let mut opened = with_document(rt, alloc)?;
+    inserts(rt, alloc, &mut opened, 5)?;
+    let request = Request::Version {
+        document: Tumbler::from_places(alloc, &DOCUMENT)?,
+    };
+    let reply = opened.asks(rt, alloc, 1, request, 6);
+    let version = Tumbler::from_places(alloc, &VERSION)?;
+    assert!(rt; matches!(&reply, Reply::Versioned(made) if *made == version));
+    Ok(opened)
+}
+
+/// The document has so many bytes, and the version the one that it was made with.
+fn check_both(rt: &impl Abort, alloc: Global, opened: &mut Opened, made: u32) -> Result<(), Fail> {
+    let entries = u64::from(made) + 6;
+    check_text(
+        rt,
+        alloc,
+        opened,
+        &DOCUMENT,
+        made.saturating_add(1),
+        entries,
+    )?;
+    check_text(rt, alloc, opened, &VERSION, 1, entries)
+}
+
+/// Session 1 makes 5,000 inserts in front of the document's text, each with a background step behind it. After each sweep
+/// both texts are as before. The sweeps are counted.
 fn count_sweeps(rt: &impl Abort, alloc: Global, opened: &mut Opened) -> Result<u64, Fail> {
     let mut sweeps: u64 = 0;
-    for made in 1..1_201u32 {
-        inserts(rt, alloc, opened, u64::from(made) + 4)?;
+    for made in 1..5_001u32 {
+        inserts(rt, alloc, opened, u64::from(made) + 6)?;
         if let StepAnswer::Swept = tends(rt, alloc, opened) {
             sweeps = sweeps.saturating_add(1);
-            check_text(rt, alloc, opened, made, u64::from(made) + 4)?;
+            check_both(rt, alloc, opened, made)?;
         }
     }
     Ok(sweeps)
@@ -124,11 +156,11 @@ fn count_sweeps(rt: &impl Abort, alloc: Global, opened: &mut Opened) -> Result<u
 #[test]
 fn what_no_tree_reaches_is_swept(rt: HostRuntime) -> Result<(), Fail> {
     let alloc = rt.alloc();
-    let mut opened = with_document(&rt, alloc)?;
+    let mut opened = with_version(&rt, alloc)?;
     assert!(rt; count_sweeps(&rt, alloc, &mut opened)? > 0);
     settle(&rt, alloc, &mut opened);
     assert!(rt; !opened.store.can_balance());
-    check_text(&rt, alloc, &mut opened, 1_200, 1_204)?;
+    check_both(&rt, alloc, &mut opened, 5_000)?;
     let store = Store::open(alloc, &mut opened.disk, limits()?)?;
     assert_eq!(rt; store.base(), store.nodes());
     assert!(rt; store.depth() < 8);

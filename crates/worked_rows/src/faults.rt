@@ -25,7 +25,11 @@ const WRONG: &[&[&str]] = &[
     &["green_batch", "work", "--limits", "3", "100", "4294967552"],
     &["green_batch", "work", "--limits", "3", "100"],
     &["green_batch", "work", "--limit", "3", "100", "256"],
+    &["green_batch", "work", "--generate"],
     &["green_batch", "work", "--generate", "07"],
+    &["green_batch", "work", "--generate", "-1"],
+    &["green_batch", "work", "--generate", "4294967296"],
+    &["green_batch", "work", "--generate", "7", "7"],
 ];
 
 const NOTHING_DONE: Figures = Figures {

@@ -1,7 +1,7 @@
 //! The requests that the program makes itself: how they are spelled, and what they are answered.
 
 use crate::sessions::Sessions;
-use crate::store_rows::{House, ask, begin, fresh};
+use crate::store_rows::{House, ask, begin, fresh, stays_small};
 use febe_data::{Limits, Memory, Request};
 use febe_wire::write_request;
 use green_top::generated;
@@ -35,7 +35,7 @@ const WHOLES: &[Whole] = &[
 ];
 
 /// The fold of the bytes: each counts 31 times as much as the one behind it.
-fn folded(bytes: &[u8]) -> u64 {
+pub(crate) fn folded(bytes: &[u8]) -> u64 {
     let mut sum: u64 = 0;
     for byte in bytes {
         sum = sum.wrapping_mul(31).wrapping_add(u64::from(*byte));
@@ -44,7 +44,7 @@ fn folded(bytes: &[u8]) -> u64 {
 }
 
 /// All requests from the start, one behind the other.
-fn spelled(alloc: Global, start: u32) -> Result<Text, Memory> {
+pub(crate) fn spelled(alloc: Global, start: u32) -> Result<Text, Memory> {
     let requests = generated(alloc, start)?;
     let mut bytes = Text::new(alloc);
     for request in requests.as_slice() {
@@ -115,6 +115,19 @@ fn generated_requests_are_answered_alike(rt: HostRuntime) -> Result<(), Fail> {
     let mut both = Both::new(&rt, alloc)?;
     for request in requests.as_slice() {
         both.check(&rt, alloc, request)?;
+    }
+    Ok(())
+}
+
+#[test]
+fn few_nodes_are_kept_that_no_tree_reaches(rt: HostRuntime) -> Result<(), Fail> {
+    let alloc = rt.alloc();
+    let requests = generated(alloc, 7)?;
+    let mut house = fresh(alloc)?;
+    assert_eq!(rt; begin(alloc, &mut house), Some(1));
+    for request in requests.as_slice() {
+        let _told = ask(alloc, &mut house, 1, request.try_clone(alloc)?)?;
+        assert!(rt; stays_small(alloc, &mut house));
     }
     Ok(())
 }

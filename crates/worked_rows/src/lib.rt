@@ -30,6 +30,8 @@ mod sessions;
 #[cfg(test)]
 mod store_rows;
 #[cfg(test)]
+mod summary_rows;
+#[cfg(test)]
 mod tables;
 #[cfg(test)]
 mod taking_rows;
