@@ -1,15 +1,14 @@
 -- Trees after a step of the balancer in one document's.
-use Rattle.std.proofs.Common.{◌≡◌, ◌∙◌, ℕ, zero, suc, ◌+◌, ◌<◌, ◌≤◌, ◌||◌, Bool, true, false, cond, List, [], ◌∷◌, ◌++◌, length, take, get_or, Option, Some, None, Ordering, Less, nat_cmp, refl, sym, ap, subst, true≢false, arith}
-use Rattle.std.specs.Prelude.{All, not, IfSome, IfNone}
-use Rattle.std.specs.List.{AllByRecursion, slice_get, list_any, find}
+use Rattle.std.proofs.Common.{◌≡◌, ◌∙◌, ℕ, zero, suc, ◌+◌, ◌<◌, ◌≤◌, ◌||◌, Bool, true, false, cond, List, [], ◌∷◌, length, Option, Some, None, Less, nat_cmp, refl, sym, ap, subst, true≢false, arith}
+use Rattle.std.specs.Prelude.{All, not}
+use Rattle.std.specs.List.{AllByRecursion, slice_get, find}
 use Rattle.std.specs.List.Sorted.{IsStrictlySortedBy}
-use Rattle.std.specs.Option.{option_map, is_some}
+use Rattle.std.specs.Option.{option_map}
 use Rattle.std.specs.Ordering.{is_eq}
 use Rattle.std.specs.Cmp.Lexicographic.{slice_cmp}
-use Rattle.std.proofs.lemmas.Option.{get_or_from_slice_get, slice_get_within, slice_get-map}
+use Rattle.std.proofs.lemmas.Option.{slice_get-map}
 use Rattle.std.proofs.lemmas.List.Elements.{All-head, All-tail, All-weaker}
 use Rattle.std.proofs.lemmas.List.Sums.{sum_by-cons}
-use Rattle.std.proofs.lemmas.List.Folds.{list_any_more}
 use Rattle.std.proofs.lemmas.Map.Keys.{sorted_head, sorted_tail}
 use Rattle.std.proofs.lemmas.Map.Text.{is_eq-slice_cmp}
 use Rattle.enfilade_core.specs.declared.tree.Node.{Node}
@@ -51,19 +50,6 @@ row_at rows k root read = step (slice_get rows k) refl read
 -- the row at k allows a step
 abbrev pub AllowsAt : List (Shape ℕ) → List (DocumentRow Node) → ℕ → Type 0
 AllowsAt nodes rows k = (row : DocumentRow Node) × (slice_get rows k ≡ Some row) × (tree_allows nodes row.root.0 ≡ true)
-
-pub allows_at : (nodes : List (Shape ℕ)) (rows : List (DocumentRow Node)) (k : ℕ) (root : Node) → option_map (λ (row : DocumentRow Node). row.root) (slice_get rows k) ≡ Some root → tree_allows nodes root.0 ≡ true → AllowsAt nodes rows k
-allows_at nodes rows k root read allows =
-    let at = row_at rows k root read in
-    (at.row, at.here, ap (λ (n : Node). tree_allows nodes n.0) at.is ∙ allows)
-
-pub allow_more : (nodes : List (Shape ℕ)) (rows : List (DocumentRow Node)) (k : ℕ) (root : Node) → option_map (λ (row : DocumentRow Node). row.root) (slice_get rows k) ≡ Some root
-    → documents_allow nodes (take k rows) ≡ false → tree_allows nodes root.0 ≡ false → documents_allow nodes (take (k + 1) rows) ≡ false
-allow_more nodes rows k root read so_far not_here =
-    let at = row_at rows k root read in
-    list_any_more (λ (row : DocumentRow Node). tree_allows nodes row.root.0) rows k at.row (slice_get_within rows k at.row at.here)
-    ∙ (λ i. so_far i || tree_allows nodes (get_or_from_slice_get rows k at.row at.row at.here i).root.0)
-    ∙ ap (λ (n : Node). tree_allows nodes n.0) at.is ∙ not_here
 
 pub allows_there : (nodes : List (Shape ℕ)) (rows : List (DocumentRow Node)) (k : ℕ) (row : DocumentRow Node) → slice_get rows k ≡ Some row → tree_allows nodes row.root.0 ≡ true → documents_allow nodes rows ≡ true
 allows_there nodes [] k row e allows = absurd (none_there row (sym e))
@@ -224,23 +210,6 @@ module _ (before after : Trees) (k : ℕ) (document : List ℕ) (root : Node) (m
 pub same_self : (trees now : Trees) → now ≡ trees → RootsStand trees.nodes trees.documents → SameRows trees now
 same_self trees now is stand = subst (λ ts. SameRows trees ts) (sym is) (same_trees trees trees stand refl refl refl refl refl refl refl refl refl refl refl refl)
 
--- ---- as the function has it
-
-pub some_document : (nodes : List (Shape ℕ)) (rows : List (DocumentRow Node)) (k : ℕ) → AllowsAt nodes rows k → (found : Option (List ℕ)) → found ≡ slice_get (documents_in rows) k → found ≡ None → ⊥
-some_document nodes rows k at found read none =
-    none_there at.0.document (sym (ap (option_map (λ (r : DocumentRow Node). r.document)) at.1) ∙ sym (slice_get-map (λ (r : DocumentRow Node). r.document) rows k) ∙ sym read ∙ none)
-
-pub root_below : (nodes : List (Shape ℕ)) (rows : List (DocumentRow Node)) (k : ℕ) (root : Node) → RootsStand nodes rows → Some root ≡ option_map (λ (row : DocumentRow Node). row.root) (slice_get rows k) → root.0 < length nodes
-root_below nodes [] k root stand read = absurd (none_there root read)
-root_below nodes (row ∷ rows) zero root stand read = subst (λ (n : Node). n.0 < length nodes) (sym (one_value root row.root read)) (All-head (λ (r : DocumentRow Node). IsRoot nodes r.root.0) row rows stand).there
-root_below nodes (row ∷ rows) (suc k) root stand read = root_below nodes rows k root (All-tail (λ (r : DocumentRow Node). IsRoot nodes r.root.0) row rows stand) read
-
-pub told_in : (before now : Trees) (k : ℕ) → before ≡ now → AllowsAt before.nodes before.documents k → documents_allow now.nodes now.documents ≡ true
-told_in before now k is at = subst (λ (t : Trees). documents_allow t.nodes t.documents ≡ true) is (allows_there before.nodes before.documents k at.0 at.1 at.2)
-
-pub few_before : (nodes : List (Shape ℕ)) (rows : List (DocumentRow Node)) (k many : ℕ) → AllowsAt nodes rows k → many ≡ length rows → many ≤ 4294967294 → k < 4294967296
-few_before nodes rows k many at is few = omega (arith, slice_get_within rows k at.0 at.1, is, few)
-
 -- ---- whether one allows a step
 
 pub tree_off : {L : Type 0} (arena nodes : List (Shape L)) (root number : ℕ) (told : Bool) → arena ≡ nodes → root ≡ number → told ≡ tree_allows arena root → told ≡ false → tree_allows nodes number ≡ false
@@ -248,7 +217,3 @@ tree_off arena nodes root number told is at says off = (λ i. tree_allows (sym i
 
 pub last_allows : (a b c d e f : Bool) → a ≡ false → b ≡ false → c ≡ false → d ≡ false → e ≡ false → f ≡ (a || b || c || d || e || f)
 last_allows a b c d e f ea eb ec ed ee = λ i. sym ea i || sym eb i || sym ec i || sym ed i || sym ee i || f
-
-pub some_allows : (nodes : List (Shape ℕ)) (rows : List (DocumentRow Node)) (found : Option ℕ) → IfSome found (AllowsAt nodes rows) → IfNone found (documents_allow nodes rows ≡ false) → is_some found ≡ documents_allow nodes rows
-some_allows nodes rows None some none = sym none
-some_allows nodes rows (Some k) some none = sym (allows_there nodes rows k some.0 some.1 some.2)

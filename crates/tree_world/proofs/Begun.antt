@@ -20,12 +20,12 @@ use Rattle.tree_world.specs.Trees.{Trees}
 use Rattle.tree_world.specs.Standing.{Stands, EachIdOnce, IsCovered, byte_row}
 use Rattle.tree_world.proofs.Options.{none_there}
 
-abbrev first : ContentTree → List (Shape ℕ) → List (DocumentRow Node) → IndexTree → LinkLists → AccessRows → List SessionRow → Trees
-first contents nodes documents index links access sessions =
-    record { contents = contents; content = 0; nodes = nodes; documents = documents; index = index; links = links; access = access; counted = 0; sessions = sessions }
+abbrev first : ContentTree → List (Shape ℕ) → List (DocumentRow Node) → IndexTree → LinkLists → AccessRows → List SessionRow → List (List ℕ) → Trees
+first contents nodes documents index links access sessions due =
+    record { contents = contents; content = 0; nodes = nodes; documents = documents; index = index; links = links; access = access; counted = 0; sessions = sessions; due = due }
 
-module _ (contents : ContentTree) (nodes : List (Shape ℕ)) (index : IndexTree) (links : LinkLists) (none : content contents ≡ []) (unlinked : links.links ≡ []) where
-  begun_so : HoldsRuns 1 links.links links.from → HoldsRuns 2 links.links links.to → HoldsRuns 3 links.links links.three → Stands (first contents nodes [] index links no_rows []) nothing_yet
+module _ (contents : ContentTree) (nodes : List (Shape ℕ)) (index : IndexTree) (links : LinkLists) (none : content contents ≡ []) (unlinked : links.links ≡ []) (due : List (List ℕ)) where
+  begun_so : HoldsRuns 1 links.links links.from → HoldsRuns 2 links.links links.to → HoldsRuns 3 links.links links.three → Stands (first contents nodes [] index links no_rows [] due) nothing_yet
   begun_so from to three = record {
     documents = IsPermutation-refl [];
     documents_once = tt;
@@ -47,8 +47,8 @@ module _ (contents : ContentTree) (nodes : List (Shape ℕ)) (index : IndexTree)
   }
 
   pub begun : (documents : List (DocumentRow Node)) (access : AccessRows) (sessions : List SessionRow) → documents ≡ [] → access ≡ no_rows → sessions ≡ []
-      → HoldsRuns 1 links.links links.from → HoldsRuns 2 links.links links.to → HoldsRuns 3 links.links links.three → Stands (first contents nodes documents index links access sessions) nothing_yet
+      → HoldsRuns 1 links.links links.from → HoldsRuns 2 links.links links.to → HoldsRuns 3 links.links links.three → Stands (first contents nodes documents index links access sessions due) nothing_yet
   begun documents access sessions d a s from to three =
-      subst (λ ds. Stands (first contents nodes ds index links access sessions) nothing_yet) (sym d)
-      (subst (λ table. Stands (first contents nodes [] index links table sessions) nothing_yet) (sym a)
-      (subst (λ ss. Stands (first contents nodes [] index links no_rows ss) nothing_yet) (sym s) (begun_so from to three)))
+      subst (λ ds. Stands (first contents nodes ds index links access sessions due) nothing_yet) (sym d)
+      (subst (λ table. Stands (first contents nodes [] index links table sessions due) nothing_yet) (sym a)
+      (subst (λ ss. Stands (first contents nodes [] index links no_rows ss due) nothing_yet) (sym s) (begun_so from to three)))

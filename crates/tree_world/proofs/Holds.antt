@@ -13,13 +13,24 @@ use Rattle.granfilade.specs.Puts.{IsContent}
 use Rattle.poom.specs.Laid.{IsRoot, IsOneDocument}
 use Rattle.doc_table.specs.declared.rows.DocumentRow.{DocumentRow}
 use Rattle.doc_table.specs.DocumentRows.{is_of, has_in, root_in, content_in, row_cmp, added, with_root}
-use Rattle.tree_world.specs.Trees.{IsCounted, AreCounted}
+use Rattle.tree_world.specs.Trees.{IsCounted, AreCounted, AreDue}
 use Rattle.tree_world.proofs.Tables.{root_contents, content_added}
 use Rattle.tree_world.proofs.Roots.{roots_added, roots_set}
 
 abbrev pub Holds : List (Shape ℕ) → List (DocumentRow Node) → ContentTree → Type 0
 Holds nodes documents contents =
     All (λ (row : DocumentRow Node). IsRoot nodes row.root.0) documents × All (λ (row : DocumentRow Node). IsDocument row.document) documents × IsContent (tree_rows contents) × AreCounted documents contents
+
+-- the same, and each document whose tree allows a step is marked
+abbrev pub HoldsDue : List (Shape ℕ) → List (DocumentRow Node) → ContentTree → List (List ℕ) → Type 0
+HoldsDue nodes documents contents due =
+    All (λ (row : DocumentRow Node). IsRoot nodes row.root.0) documents × All (λ (row : DocumentRow Node). IsDocument row.document) documents × IsContent (tree_rows contents) × AreCounted documents contents × AreDue nodes documents due
+
+pub unmarked : (nodes : List (Shape ℕ)) (documents : List (DocumentRow Node)) (contents : ContentTree) (due : List (List ℕ)) → HoldsDue nodes documents contents due → Holds nodes documents contents
+unmarked nodes documents contents due holds = (holds.0, holds.1, holds.2, holds.3)
+
+pub with_due : (nodes : List (Shape ℕ)) (documents : List (DocumentRow Node)) (contents : ContentTree) (due : List (List ℕ)) → Holds nodes documents contents → AreDue nodes documents due → HoldsDue nodes documents contents due
+with_due nodes documents contents due holds is = (holds.0, holds.1, holds.2, holds.3, is)
 
 module _ (nodes more : List (Shape ℕ)) (documents : List (DocumentRow Node)) (contents : ContentTree) (holds : Holds nodes documents contents) (kept : KeepsRows nodes more) (grows : Grows nodes more) (document : List ℕ) (made : Node) (root : IsRoot more made.0) where
   abbrev IsRooted : DocumentRow Node → Type 0

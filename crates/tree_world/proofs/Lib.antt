@@ -22,6 +22,7 @@ pub mod Roots
 pub mod Holds
 pub mod SameRows
 pub mod Balanced
+pub mod Marked
 pub mod Swept
 pub mod Made
 pub mod Edited

@@ -21,7 +21,7 @@ use Rattle.access_table.specs.AccessRows.{AccessRows, mode_in, account_in}
 use Rattle.world_rules.specs.World.{is_same}
 use Rattle.world_rules.specs.Edits.{new_rows}
 use Rattle.world_rules.specs.FlatView.{FlatView, entries_in}
-use Rattle.tree_world.specs.Trees.{Trees, text_at, links_at, text_in, IsCounted, AreCounted, AreSound}
+use Rattle.tree_world.specs.Trees.{Trees, text_at, links_at, text_in, IsCounted, AreCounted, AreDue, AreSound}
 use Rattle.tree_world.specs.Standing.{Stands, EndsStand, EachIdOnce, link_rows, covers, IsCovered, byte_row, is_known}
 use Rattle.tree_world.specs.inside.SameRows.{SameRows}
 use Rattle.tree_world.proofs.Tables.{root_set, root_documents, root_contents}
@@ -97,8 +97,8 @@ module _ (before after : Trees) (same : SameRows before after) where
       subst (λ bytes. All (IsCounted after.documents) bytes) (sym bytes_same)
       (All-weaker (IsCounted before.documents) (IsCounted after.documents) (λ at h d n is. subst (λ k. n ≤ k) (sym (same.counts d)) (h d n is)) (content before.contents) counted)
 
-  pub sound_over : AreSound before → AreSound after
-  sound_over sound = (same.roots, addresses_over sound.1, subst IsContent (sym same.contents) sound.2, counted_over sound.3)
+  pub sound_over : AreDue after.nodes after.documents after.due → AreSound before → AreSound after
+  sound_over due sound = (same.roots, addresses_over sound.1, subst IsContent (sym same.contents) sound.2, counted_over sound.3, due)
 
 -- ---- a tree has other nodes and the same rows; the documents are as before
 

@@ -25,6 +25,7 @@ use Rattle.tree_world.specs.inside.SameRows.{SameRows}
 use Rattle.tree_world.specs.inside.Swept.{IsSweptContent, IsSweptIndex, AreSweptDocuments}
 use Rattle.tree_world.proofs.SameRows.{stands_over, sound_over}
 use Rattle.tree_world.proofs.Roots.{RootsStand}
+use Rattle.tree_world.proofs.Marked.{due_swept}
 
 abbrev root_of : Option (DocumentRow Node) → Option Node
 root_of found = option_map (λ (row : DocumentRow Node). row.root) found
@@ -123,13 +124,14 @@ same_roots old new (row ∷ rows) (m ∷ made) same stand below =
 
 -- the same, as `swept_pooms` has it
 pub copied_documents : (old arena new poom : List (Shape ℕ)) (rows : List (DocumentRow Node)) (roots made : List Node) → arena ≡ old → poom ≡ new → roots ≡ roots_taken rows → map (rows_of new) (numbers made) ≡ map (rows_of arena) (numbers roots)
-    → IsSwept arena (numbers roots) new (numbers made) → are_held new (numbers made) ≡ true → RootsStand old rows → AreSweptDocuments old rows poom made
-copied_documents old arena new poom rows roots made lent installed are same swept held stand =
+    → map (tree_allows new) (numbers made) ≡ map (tree_allows arena) (numbers roots) → IsSwept arena (numbers roots) new (numbers made) → are_held new (numbers made) ≡ true → RootsStand old rows → AreSweptDocuments old rows poom made
+copied_documents old arena new poom rows roots made lent installed are same allows swept held stand =
     let each : SameEach old poom rows made = ap (λ ns. map (rows_of ns) (numbers made)) installed ∙ same ∙ (λ i. map (rows_of (lent i)) ((ap numbers are ∙ numbers_taken rows) i)) in
     record {
       long = same_long old poom rows made each;
       each = same_roots old poom rows made each stand (subst (λ ns. All (λ k. k < length ns) (numbers made)) (sym installed) (roots_below arena new (numbers roots) (numbers made) swept));
       rows = each;
+      allowed = ap (λ ns. map (tree_allows ns) (numbers made)) installed ∙ allows ∙ (λ i. map (tree_allows (lent i)) ((ap numbers are ∙ numbers_taken rows) i));
       held = ap (λ ns. are_held ns (numbers made)) installed ∙ held;
     }
 
@@ -208,7 +210,9 @@ module _ (before : Trees) (contents : ContentTree) (index from to three : IndexT
   swept_stands view stand = stands_over before _ swept_same view stand
 
   pub swept_sound : AreSound before → AreSound (record before { contents = contents; index = index; nodes = nodes; documents = documents; links = links })
-  swept_sound sound = sound_over before (record before { contents = contents; index = index; nodes = nodes; documents = documents; links = links }) swept_same sound
+  swept_sound sound =
+      sound_over before (record before { contents = contents; index = index; nodes = nodes; documents = documents; links = links }) swept_same
+      (due_swept before.nodes nodes before.documents documents made before.due now by_documents.allowed sound.4) sound
 
   pub swept_reached : reached_of (record before { contents = contents; index = index; nodes = nodes; documents = documents; links = links }) ≡ true
   swept_reached =

@@ -177,8 +177,8 @@ contents_back old put back count root grows is same nodes root_is = λ i. record
 pub holds_back : (nodes more : List (Shape ℕ)) (rows : List (DocumentRow Node)) (contents now : ContentTree) → more ≡ nodes → now ≡ contents → Holds nodes rows contents → Holds more rows now
 holds_back nodes more rows contents now e f holds = subst (λ ns. Holds ns rows now) (sym e) (subst (Holds nodes rows) (sym f) holds)
 
-pub same_trees : (trees : Trees) (contents : ContentTree) (nodes : List (Shape ℕ)) → contents ≡ trees.contents → nodes ≡ trees.nodes → record trees { contents = contents; nodes = nodes } ≡ trees
-same_trees trees contents nodes e f = λ i. record trees { contents = e i; nodes = f i }
+pub same_trees : (trees : Trees) (contents : ContentTree) (nodes : List (Shape ℕ)) (due : List (List ℕ)) → contents ≡ trees.contents → nodes ≡ trees.nodes → due ≡ trees.due → record trees { contents = contents; nodes = nodes; due = due } ≡ trees
+same_trees trees contents nodes due e f g = λ i. record trees { contents = e i; nodes = f i; due = g i }
 
 -- ---- where the bytes go
 

@@ -33,13 +33,14 @@ use Rattle.tree_world.specs.declared.undoing.Touched.{Touched}
 use Rattle.tree_world.specs.declared.undoing.Touched.TheVariants as touched
 use Rattle.tree_world.specs.Trees.{Trees, AreSound}
 use Rattle.tree_world.specs.Standing.{Stands, CountsStand, EachOnce}
-use Rattle.tree_world.specs.Undone.{Tables, tables_of, NodesCame, DocumentCame, DocumentEdited, LinkCame, EntryCame, ChangeCame, IsRow, IsKept, IsTouched, TablesGoBack, TablesWere, TablesMayGoBack, ComesBack, MayComeBack}
+use Rattle.tree_world.specs.Undone.{Tables, tables_of, MarksStay, NodesCame, DocumentCame, DocumentEdited, LinkCame, EntryCame, ChangeCame, IsRow, IsKept, IsTouched, TablesGoBack, TablesWere, TablesMayGoBack, ComesBack, MayComeBack}
 use Rattle.tree_world.proofs.Options.{none_there, one_value}
 use Rattle.tree_world.proofs.Found.{either_none, address_is, address_alike}
 use Rattle.tree_world.proofs.Tables.{root_set, content_roots, has_some, has_added, removed_added}
 use Rattle.tree_world.proofs.Roots.{taken_back}
-use Rattle.tree_world.proofs.Holds.{Holds, holds_same}
-use Rattle.tree_world.proofs.EntryCounted.{with_sessions}
+use Rattle.tree_world.proofs.Holds.{Holds, HoldsDue, unmarked, with_due, holds_same}
+use Rattle.tree_world.proofs.EntryCounted.{with_sessions, with_marks}
+use Rattle.tree_world.proofs.Marked.{due_same, due_stay}
 use Rattle.tree_world.proofs.AccessChanged.{fresh, all_apart, opens_own}
 
 -- ---- nodes
@@ -193,11 +194,11 @@ content_as_was rows document content once is =
 pub of_old : (IsChange : Tables → Tables → Type 0) (trees old after : Trees) → trees ≡ old → EntryCame IsChange trees after → EntryCame IsChange old after
 of_old IsChange trees old after is came = subst (λ t. EntryCame IsChange t after) is came
 
-pub came_in : (trees : Trees) (session : ℕ) (document : List ℕ) (root : Node) (nodes : List (Shape ℕ)) (index : IndexTree) (documents : List (DocumentRow Node)) (access : AccessRows) (counted : ℕ) → Grows trees.nodes nodes → Grows trees.index.nodes index.nodes
+pub came_in : (trees : Trees) (session : ℕ) (document : List ℕ) (root : Node) (nodes : List (Shape ℕ)) (index : IndexTree) (documents : List (DocumentRow Node)) (access : AccessRows) (counted : ℕ) (due : List (List ℕ)) → MarksStay trees.due due → Grows trees.nodes nodes → Grows trees.index.nodes index.nodes
     → has_in trees.documents document ≡ false → mode_in trees.access.open_rows session document ≡ None → documents ≡ added trees.documents document root → access ≡ opened trees.access session document Write
-    → EntryCame (DocumentCame session document) trees (record trees { nodes = nodes; documents = documents; access = access; index = index; counted = counted })
-came_in trees session document root nodes index documents access counted grows index_grows absent unopened now opens_now = (
-  record { contents = grown_none trees.contents.nodes; nodes = grows; index = index_grows; links = links_grown_none trees.links },
+    → EntryCame (DocumentCame session document) trees (record trees { nodes = nodes; documents = documents; access = access; index = index; counted = counted; due = due })
+came_in trees session document root nodes index documents access counted due stays grows index_grows absent unopened now opens_now = (
+  record { contents = grown_none trees.contents.nodes; nodes = grows; index = index_grows; links = links_grown_none trees.links; due = stays },
   record {
     there = ap (λ rows. has_in rows document) now ∙ has_added trees.documents document root absent;
     documents = ap (λ rows. removed rows document) now ∙ removed_added trees.documents document root absent;
@@ -213,10 +214,10 @@ module _ (trees : Trees) (document : List ℕ) (old : Node) (is_root : root_in t
   still_there : has_in (with_root trees.documents document made) document ≡ true
   still_there = has_some (with_root trees.documents document made) document made own_root
 
-  pub was_edited : (nodes : List (Shape ℕ)) (index : IndexTree) (documents : List (DocumentRow Node)) (counted : ℕ) → Grows trees.nodes nodes → Grows trees.index.nodes index.nodes → documents ≡ with_root trees.documents document made
-      → EntryCame (DocumentEdited document) trees (record trees { nodes = nodes; documents = documents; index = index; counted = counted })
-  was_edited nodes index documents counted grows index_grows now = (
-    record { contents = grown_none trees.contents.nodes; nodes = grows; index = index_grows; links = links_grown_none trees.links },
+  pub was_edited : (nodes : List (Shape ℕ)) (index : IndexTree) (documents : List (DocumentRow Node)) (counted : ℕ) (due : List (List ℕ)) → MarksStay trees.due due → Grows trees.nodes nodes → Grows trees.index.nodes index.nodes → documents ≡ with_root trees.documents document made
+      → EntryCame (DocumentEdited document) trees (record trees { nodes = nodes; documents = documents; index = index; counted = counted; due = due })
+  was_edited nodes index documents counted due stays grows index_grows now = (
+    record { contents = grown_none trees.contents.nodes; nodes = grows; index = index_grows; links = links_grown_none trees.links; due = stays },
     record {
       there = ap (λ rows. has_in rows document) now ∙ still_there;
       documents = λ root content. ap (λ rows. with_content (with_root rows document root) document content) now ∙ ap (λ rows. with_content rows document content) (rooted_twice document root made 0 content trees.documents);
@@ -225,12 +226,12 @@ module _ (trees : Trees) (document : List ℕ) (old : Node) (is_root : root_in t
     },
   )
 
-  pub text_came : (contents : ContentTree) (total : ℕ) (nodes : List (Shape ℕ)) (index : IndexTree) (rooted documents : List (DocumentRow Node)) (bytes counted : ℕ) → Grows trees.contents.nodes contents.nodes → Grows trees.nodes nodes → Grows trees.index.nodes index.nodes
+  pub text_came : (contents : ContentTree) (total : ℕ) (nodes : List (Shape ℕ)) (index : IndexTree) (rooted documents : List (DocumentRow Node)) (bytes counted : ℕ) (due : List (List ℕ)) → MarksStay trees.due due → Grows trees.contents.nodes contents.nodes → Grows trees.nodes nodes → Grows trees.index.nodes index.nodes
       → rooted ≡ with_root trees.documents document made → documents ≡ with_content rooted document bytes
-      → EntryCame (DocumentEdited document) trees (record trees { contents = contents; content = total; nodes = nodes; documents = documents; index = index; counted = counted })
-  text_came contents total nodes index rooted documents bytes counted contents_grow grows index_grows set now =
+      → EntryCame (DocumentEdited document) trees (record trees { contents = contents; content = total; nodes = nodes; documents = documents; index = index; counted = counted; due = due })
+  text_came contents total nodes index rooted documents bytes counted due stays contents_grow grows index_grows set now =
       let is = now ∙ ap (λ rows. with_content rows document bytes) set in (
-        record { contents = contents_grow; nodes = grows; index = index_grows; links = links_grown_none trees.links },
+        record { contents = contents_grow; nodes = grows; index = index_grows; links = links_grown_none trees.links; due = stays },
         record {
           there = ap (λ rows. has_in rows document) is ∙ has_some (with_content (with_root trees.documents document made) document bytes) document made (content_roots (with_root trees.documents document made) document bytes document ∙ own_root);
           documents = λ root content. ap (λ rows. with_content (with_root rows document root) document content) is ∙ filled_twice document root made bytes content trees.documents;
@@ -239,11 +240,11 @@ module _ (trees : Trees) (document : List ℕ) (old : Node) (is_root : root_in t
         },
       )
 
-  pub link_came : (id : List ℕ) (link : LinkRow) (nodes : List (Shape ℕ)) (documents : List (DocumentRow Node)) (lists : LinkLists) (counted : ℕ) → Grows trees.nodes nodes → AllGrow trees.links lists → documents ≡ with_root trees.documents document made
+  pub link_came : (id : List ℕ) (link : LinkRow) (nodes : List (Shape ℕ)) (documents : List (DocumentRow Node)) (lists : LinkLists) (counted : ℕ) (due : List (List ℕ)) → MarksStay trees.due due → Grows trees.nodes nodes → AllGrow trees.links lists → documents ≡ with_root trees.documents document made
       → links.has_in trees.links.links link.id ≡ false → lists.links ≡ links.added trees.links.links link → link.id ≡ id
-      → EntryCame (LinkCame document id) trees (record trees { nodes = nodes; documents = documents; links = lists; counted = counted })
-  link_came id link nodes documents lists counted grows links_grow now absent is address = (
-    record { contents = grown_none trees.contents.nodes; nodes = grows; index = grown_none trees.index.nodes; links = links_grow },
+      → EntryCame (LinkCame document id) trees (record trees { nodes = nodes; documents = documents; links = lists; counted = counted; due = due })
+  link_came id link nodes documents lists counted due stays grows links_grow now absent is address = (
+    record { contents = grown_none trees.contents.nodes; nodes = grows; index = grown_none trees.index.nodes; links = links_grow; due = stays },
     record {
       there = ap (λ rows. has_in rows document) now ∙ still_there;
       documents = λ root. ap (λ rows. with_root rows document root) now ∙ rooted_twice document root made 0 0 trees.documents;
@@ -311,16 +312,18 @@ tables_may after undo may = record { before = tables_of may.back.before; were = 
 pub contents_were : (before after new : ContentTree) (mark : TreeMark) → mark.root.0 ≡ before.root → mark.count ≡ length before.nodes → Grows before.nodes after.nodes → new.nodes ≡ take mark.count after.nodes → new.root ≡ mark.root.0 → new ≡ before
 contents_were before after new mark root count grows nodes at = λ i. record { nodes = (nodes ∙ taken_back before.nodes after.nodes mark.count grows count) i; root = (at ∙ root) i }
 
-pub sound_again : (before : Trees) (nodes : List (Shape ℕ)) (documents : List (DocumentRow Node)) (contents : ContentTree) → AreSound before → nodes ≡ before.nodes → documents ≡ before.documents → contents ≡ before.contents → Holds nodes documents contents
-sound_again before nodes documents contents sound e f g =
-    holds_same before.nodes nodes before.documents documents contents e f (subst (λ (tree : ContentTree). Holds before.nodes before.documents tree) (sym g) sound)
+pub sound_again : (before : Trees) (nodes : List (Shape ℕ)) (documents : List (DocumentRow Node)) (contents : ContentTree) (due : List (List ℕ)) → AreSound before → nodes ≡ before.nodes → documents ≡ before.documents → contents ≡ before.contents → MarksStay before.due due → HoldsDue nodes documents contents due
+sound_again before nodes documents contents due sound e f g stays =
+    with_due nodes documents contents due
+    (holds_same before.nodes nodes before.documents documents contents e f (subst (λ (tree : ContentTree). Holds before.nodes before.documents tree) (sym g) (unmarked before.nodes before.documents before.contents before.due sound)))
+    (due_stay nodes documents before.due due stays (due_same before.nodes nodes before.documents documents before.due before.due e f refl sound.4))
 
 pub all_back : (before : Trees) (view : FlatView) (now : Trees) → Stands before view → now.contents ≡ before.contents → now.content ≡ before.content → now.nodes ≡ before.nodes → now.documents ≡ before.documents → now.index ≡ before.index → now.links ≡ before.links
     → now.access ≡ before.access → now.counted ≡ before.counted → CountsStand now.sessions view.sessions → Stands now view
 all_back before view now stood contents content nodes documents index links access counted counts =
     subst (λ t. Stands t view)
-    (λ i. record { contents = sym contents i; content = sym content i; nodes = sym nodes i; documents = sym documents i; index = sym index i; links = sym links i; access = sym access i; counted = sym counted i; sessions = now.sessions })
-    (with_sessions before view now.sessions view.sessions stood counts)
+    (λ i. record { contents = sym contents i; content = sym content i; nodes = sym nodes i; documents = sym documents i; index = sym index i; links = sym links i; access = sym access i; counted = sym counted i; sessions = now.sessions; due = now.due })
+    (with_marks (record before { sessions = now.sessions }) view now.due (with_sessions before view now.sessions view.sessions stood counts))
 
 -- ---- an entry can be taken back
 
@@ -351,7 +354,7 @@ pub came_inside : (session : ℕ) (change : PlainChange) (before now inside : Tr
 came_inside session change before now inside is came = subst (λ t. ChangeCame session change before t) (sym is) came
 
 pub recounted : (before after : Trees) (held : List SessionRow) → NodesCame before after → NodesCame before (record after { sessions = held })
-recounted before after held came = record { contents = came.contents; nodes = came.nodes; index = came.index; links = came.links }
+recounted before after held came = record { contents = came.contents; nodes = came.nodes; index = came.index; links = came.links; due = came.due }
 
 abbrev pub comes_back : (before : Trees) (view : FlatView) (session : ℕ) (change : PlainChange) (undo : Undo) (after : Trees) (held : List SessionRow) → Stands before view → AreSound before → IsKept before undo → undo.session ≡ session → IsTouched before change undo.touched
     → ChangeCame session change before after → CountsStand held (with_entry session view.sessions) → ComesBack (record after { sessions = held }) undo view

@@ -17,17 +17,22 @@ use Rattle.tree_world.specs.declared.undoing.Undo.{Undo}
 use Rattle.tree_world.specs.declared.undoing.Touched.{Touched}
 use Rattle.tree_world.specs.declared.undoing.Touched.TheVariants as touched
 use Rattle.tree_world.specs.Condition.{Condition, condition_of}
-use Rattle.tree_world.specs.Trees.{Trees, AreSound}
+use Rattle.tree_world.specs.Trees.{Trees, is_marked, AreSound}
 use Rattle.tree_world.specs.Standing.{Stands, CountsStand, EachOnce, EndsStand}
 
 -- ---- what an entry does
 
--- in each tree nodes came in behind the others
+-- no mark went
+pub record MarksStay (before after : List (List ℕ)) : Type 0 where
+  pub stay : (document : List ℕ) → IsTrue (is_marked before document) → IsTrue (is_marked after document)
+
+-- in each tree nodes came in behind the others, and no mark of a document went
 pub record NodesCame (before after : Trees) : Type 0 where
   pub contents : Grows before.contents.nodes after.contents.nodes
   pub nodes : Grows before.nodes after.nodes
   pub index : Grows before.index.nodes after.index.nodes
   pub links : AllGrow before.links after.links
+  pub due : MarksStay before.due after.due
 
 -- the tables that an entry changes: documents, who has what open, and links
 pub record Tables : Type 0 where

@@ -1,4 +1,4 @@
--- How the counts of entries are kept, what specs pick from trees, what ends are to meet, and trees of the same rows or without other nodes. No public clause cites these.
+-- How the counts of entries are kept, what specs pick from trees, what ends are to meet, trees of the same rows or without other nodes, and marks of documents. No public clause cites these.
 pub mod Counted
 pub mod Seen
 pub mod Met
@@ -6,3 +6,4 @@ pub mod InEnds
 pub mod Asked
 pub mod SameRows
 pub mod Swept
+pub mod Marked

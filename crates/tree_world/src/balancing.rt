@@ -1,38 +1,19 @@
 //! Steps of the balancer, in one tree of the world after the other.
-ghost use Rattle.std.specs.Prelude.{◌≡◌, ◌⊎◌, ◌+◌, ◌<◌, ◌≤◌, true, false, not, length, slice_get, All, IsOk, IsTrue, IfOk, IfSome, IfNone, OnErr, Some};
+ghost use Rattle.std.specs.Prelude.{◌≡◌, ◌⊎◌, ◌+◌, ◌≤◌, false, not, IsOk, IsTrue, IfOk, OnErr};
 ghost use Rattle.enfilade_core.specs.Standing.{tree_allows};
 ghost use Rattle.enfilade_balance.specs.Steps.{root_after, is_idle};
 ghost use Rattle.links.specs.LinkLists.{index_at};
-ghost use Rattle.doc_table.specs.declared.rows.DocumentRow.{DocumentRow};
 ghost use Rattle.world_rules.specs.FlatView.{FlatView};
-ghost use Rattle.tree_world.specs.Condition.{debt_of, allows_of, documents_allow};
+ghost use Rattle.tree_world.specs.Condition.{debt_of, allows_of, documents_allow, condition_of};
 ghost use Rattle.tree_world.specs.Standing.{Stands};
 ghost use Rattle.tree_world.specs.inside.SameRows.{SameRows};
 
+use crate::marking::{due_tree, some_due};
 use crate::world::TreeWorld;
-use doc_table::DocTable;
 use enfilade_balance::laws::debts_stay;
 use enfilade_balance::{Balance, allows};
 use enfilade_core::Node;
 use febe_data::Memory;
-use poom::Poom;
-
-/// The place of the first document whose tree allows a step, if there is one.
-fn allowing(pooms: &Poom, documents: &DocTable<Node>) -> Option<usize>
-    requires { All (λ row. row.root.0 < length pooms.now) documents.now }
-    ensures some { IfSome result (λ k. (row : DocumentRow Node) × (slice_get documents.now k ≡ Some row) × (tree_allows pooms.now row.root.0 ≡ true)) }
-    ensures none { IfNone result (documents_allow pooms.now documents.now ≡ false) }
-{
-    for k in 0..documents.len() {
-        let Some(root) = documents.root_at(k) else {
-            unreachable!()
-        };
-        if allows(pooms.arena(), root) {
-            return Some(k);
-        }
-    }
-    None
-}
 
 /// Whether a step was made.
 fn is_made(made: Balance) -> bool
@@ -76,7 +57,7 @@ impl TreeWorld {
         if allows(three, root) {
             return true;
         }
-        allowing(&self.pooms, &self.documents).is_some()
+        some_due(&self.pooms, &self.documents, self.due.as_slice())
     }
 
     /// One step in the tree of contents, where it allows one.
@@ -116,27 +97,20 @@ impl TreeWorld {
         Ok(is_made(made))
     }
 
-    /// One step in the tree of a document, where some document's allows one.
+    /// One step in the tree of a document, where some document's allows one. Marks of documents whose trees allow none may
+    /// go, whatever comes of it.
     fn balance_documents(&mut self) -> Result<bool, Memory>
         ensures same { SameRows self.old self.new }
         ensures told { IfOk result (λ made. made ≡ documents_allow self.old.nodes self.old.documents) }
         ensures lowers { IfOk result (λ made. IsTrue made → debt_of self.new + 1 ≤ debt_of self.old) }
-        ensures idle { documents_allow self.old.nodes self.old.documents ≡ false → IsOk result × (self.new ≡ self.old) }
-        ensures err { OnErr result (self.new ≡ self.old) }
+        ensures idle { documents_allow self.old.nodes self.old.documents ≡ false → IsOk result × (condition_of self.new ≡ condition_of self.old) }
+        ensures err { OnErr result (condition_of self.new ≡ condition_of self.old) }
     {
         self.documents.in_order();
-        let _many = self.documents.len();
         debts_stay(self.pooms.arena());
-        let Some(k) = allowing(&self.pooms, &self.documents) else {
+        let Some((document, root)) = due_tree(&self.pooms, &self.documents, &mut self.due) else {
             return Ok(false);
         };
-        let Some(root) = self.documents.root_at(k) else {
-            unreachable!()
-        };
-        let Some(document) = self.documents.nth(k as u32) else {
-            unreachable!()
-        };
-        let document = document.copy();
         let made = self.pooms.balance(root)?;
         self.documents.set_root(&document, root_after(root, made));
         Ok(true)
@@ -147,8 +121,8 @@ impl TreeWorld {
         ensures stands { (view : FlatView) → Stands self.old view → Stands self.new view }
         ensures told { IfOk result (λ made. made ≡ allows_of self.old) }
         ensures lowers { IfOk result (λ made. IsTrue made → debt_of self.new + 1 ≤ debt_of self.old) }
-        ensures idle { allows_of self.old ≡ false → IsOk result × (self.new ≡ self.old) }
-        ensures err { OnErr result (self.new ≡ self.old) }
+        ensures idle { allows_of self.old ≡ false → IsOk result × (condition_of self.new ≡ condition_of self.old) }
+        ensures err { OnErr result (condition_of self.new ≡ condition_of self.old) }
     {
         if self.balance_contents()? {
             return Ok(true);

@@ -15,6 +15,7 @@ ghost use Rattle.tree_world.specs.Undone.{EntryCame, DocumentEdited};
 
 use crate::counts::one_more;
 use crate::indexing::{index_runs, total_bytes};
+use crate::marking::set_root;
 use crate::world::TreeWorld;
 use enfilade_core::Node;
 use febe_data::{List, Memory, Run, Span, Spec, Tumbler};
@@ -90,8 +91,16 @@ impl TreeWorld {
         if !span.fits() {
             return Err(Memory);
         }
+        self.due.reserve(1)?;
         let made = deleted(&mut self.pooms, root, span)?;
-        self.documents.set_root(document, made);
+        set_root(
+            &mut self.due,
+            &self.pooms,
+            &mut self.documents,
+            document,
+            root,
+            made,
+        );
         self.counted = counted;
         Ok(())
     }
@@ -110,8 +119,16 @@ impl TreeWorld {
         if !are_cuts(cuts.as_slice(), self.pooms.length(root) + 1) {
             return Err(Memory);
         }
+        self.due.reserve(1)?;
         let made = swapped(&mut self.pooms, root, cuts)?;
-        self.documents.set_root(document, made);
+        set_root(
+            &mut self.due,
+            &self.pooms,
+            &mut self.documents,
+            document,
+            root,
+            made,
+        );
         self.counted = counted;
         Ok(())
     }
@@ -182,13 +199,21 @@ impl TreeWorld {
         if !has_place(self.pooms.length(root), at, total) {
             return Err(Memory);
         }
+        self.due.reserve(1)?;
         let mark = self.pooms.mark();
         let made = copied(&mut self.pooms, root, at, &runs)?;
         let Ok(()) = index_runs(alloc, &mut self.index, runs.as_slice(), document) else {
             self.pooms.back(mark);
             return Err(Memory);
         };
-        self.documents.set_root(document, made);
+        set_root(
+            &mut self.due,
+            &self.pooms,
+            &mut self.documents,
+            document,
+            root,
+            made,
+        );
         self.counted = counted;
         Ok(())
     }

@@ -22,6 +22,7 @@ ghost use Rattle.spanfilade.specs.Index.{rows_in_index};
 ghost use Rattle.spanfilade.specs.Index.{IsCovered as IsIndexed};
 
 use crate::counts::one_more;
+use crate::marking::set_root;
 use crate::world::TreeWorld;
 use enfilade_core::Node;
 use febe_data::{Memory, Span, Tumbler};
@@ -171,6 +172,7 @@ impl TreeWorld {
         let Some(total) = self.content.checked_add(text.len()) else {
             return Err(Memory);
         };
+        self.due.reserve(1)?;
         let span = text_span(document, first, count);
         let contents = self.contents.mark();
         let nodes = self.pooms.mark();
@@ -184,7 +186,14 @@ impl TreeWorld {
             self.contents.back(&contents);
             return Err(Memory);
         };
-        self.documents.set_root(document, made);
+        set_root(
+            &mut self.due,
+            &self.pooms,
+            &mut self.documents,
+            document,
+            root,
+            made,
+        );
         self.documents.set_content(document, first - 1 + count);
         self.content = total;
         self.counted = counted;

@@ -16,6 +16,7 @@ mod link_making;
 mod linking;
 mod lookups;
 mod making;
+mod marking;
 mod measures;
 mod numbers;
 mod picking;

@@ -17,6 +17,7 @@ ghost use Rattle.tree_world.specs.Undone.{EntryCame, LinkCame};
 
 use crate::counts::one_more;
 use crate::linking::span_of_run;
+use crate::marking::set_root;
 use crate::world::TreeWorld;
 use enfilade_core::Node;
 use febe_data::{List, Memory, Run, Spec, Tumbler};
@@ -193,8 +194,16 @@ impl TreeWorld {
         if self.links.get(&link.id).is_some() || !has_room(&self.links) {
             return Err(Memory);
         }
+        self.due.reserve(1)?;
         let made = come_in(alloc, &mut self.pooms, &mut self.links, root, link)?;
-        self.documents.set_root(home, made);
+        set_root(
+            &mut self.due,
+            &self.pooms,
+            &mut self.documents,
+            home,
+            root,
+            made,
+        );
         self.counted = counted;
         Ok(())
     }

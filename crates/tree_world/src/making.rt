@@ -11,6 +11,7 @@ ghost use Rattle.tree_world.specs.Undone.{EntryCame, DocumentCame};
 
 use crate::counts::one_more;
 use crate::indexing::{index_runs, text_runs};
+use crate::marking::add_mark;
 use crate::sessions::may_write;
 use crate::world::TreeWorld;
 use access_table::AccessTable;
@@ -87,6 +88,7 @@ impl TreeWorld {
         if !may_come_in(&self.documents, &self.access, session, document) {
             return Err(Memory);
         }
+        self.due.reserve(1)?;
         let mark = self.pooms.mark();
         let root = self.pooms.empty()?;
         let Ok(()) = add_open(
@@ -100,6 +102,7 @@ impl TreeWorld {
             self.pooms.back(mark);
             return Err(Memory);
         };
+        add_mark(&mut self.due, &self.pooms, document, root);
         self.counted = counted;
         Ok(())
     }
@@ -127,19 +130,22 @@ impl TreeWorld {
             return Err(Memory);
         };
         let runs = text_runs(alloc, &self.pooms, root, source)?;
+        self.due.reserve(1)?;
         let mark = self.index.mark();
         index_runs(alloc, &mut self.index, runs.as_slice(), document)?;
+        let shared = self.pooms.version(root);
         let Ok(()) = add_open(
             alloc,
             &mut self.documents,
             &mut self.access,
             session,
             document,
-            self.pooms.version(root),
+            shared,
         ) else {
             self.index.back(&mark);
             return Err(Memory);
         };
+        add_mark(&mut self.due, &self.pooms, document, shared);
         self.counted = counted;
         Ok(())
     }

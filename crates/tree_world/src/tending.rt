@@ -21,7 +21,8 @@ pub trait Tends: Applies {
     fn debt(&self) -> u64
         ensures { result ≡ min (condition self.now).debt most_count };
 
-    /// Whether some tree allows a step of the balancer. It takes no memory, and looks at one node of each document's tree.
+    /// Whether some tree allows a step of the balancer. It takes no memory, and looks only at the trees of documents that
+    /// are marked as ones that may.
     fn can_balance(&self) -> bool
         ensures { result ≡ (condition self.now).allows };
 
@@ -43,7 +44,8 @@ pub trait Tends: Applies {
         ensures condition { condition self.new ≡ condition self.old };
 
     /// Makes one step of the balancer in some tree that allows one, and tells whether one did. The world stands for what
-    /// it stood for, whatever comes of it. Where no tree allows a step it takes no memory.
+    /// it stood for, whatever comes of it. Where no tree allows a step it takes no memory. It walks over no documents but
+    /// those that are marked, and each mark is dropped once.
     fn balance(&mut self) -> Result<bool, Memory>
         ensures stands { (view : FlatView) → Self.stands self.old view → Self.stands self.new view }
         ensures told { IfOk result (λ made. made ≡ (condition self.old).allows) }

@@ -7,7 +7,7 @@ use crate::counts::Counts;
 use access_table::AccessTable;
 use doc_table::DocTable;
 use enfilade_core::Node;
-use febe_data::Memory;
+use febe_data::{List, Memory, Tumbler};
 use granfilade::Granfilade;
 use links::Links;
 use poom::Poom;
@@ -32,6 +32,8 @@ pub struct TreeWorld {
     pub(crate) access: AccessTable,
     pub(crate) counted: u64,
     pub(crate) sessions: Counts,
+    /// Documents whose trees may allow a step of the balancer, each whose tree does among them.
+    pub(crate) due: List<Tumbler>,
     pub(crate) alloc: Global,
 }
 
@@ -47,6 +49,7 @@ impl Drop for TreeWorld {
             access: _,
             counted: _,
             sessions: _,
+            due: _,
             alloc: _,
         } = self;
     }
@@ -58,13 +61,13 @@ impl Model for TreeWorld {
     ghost use Rattle.granfilade.specs.Content.{tree_rows};
     ghost use Rattle.granfilade.specs.Puts.{IsContent};
     ghost use Rattle.poom.specs.Laid.{IsRoot};
-    ghost use Rattle.tree_world.specs.Trees.{Trees, AreCounted};
+    ghost use Rattle.tree_world.specs.Trees.{Trees, AreCounted, AreDue};
 
     ghost Value = { Trees };
 
-    ghost view = { λ w. record { contents = w.contents; content = w.content; nodes = w.pooms; documents = w.documents; index = w.index; links = w.links; access = w.access; counted = w.counted; sessions = w.sessions } };
+    ghost view = { λ w. record { contents = w.contents; content = w.content; nodes = w.pooms; documents = w.documents; index = w.index; links = w.links; access = w.access; counted = w.counted; sessions = w.sessions; due = w.due.items } };
 
-    ghost invariant = { λ w. All (λ row. IsRoot w.pooms row.root.0) w.documents × All (λ row. IsDocument row.document) w.documents × IsContent (tree_rows w.contents) × AreCounted w.documents w.contents };
+    ghost invariant = { λ w. All (λ row. IsRoot w.pooms row.root.0) w.documents × All (λ row. IsDocument row.document) w.documents × IsContent (tree_rows w.contents) × AreCounted w.documents w.contents × AreDue w.pooms w.documents w.due.items };
 }
 
 impl TreeWorld {
@@ -88,6 +91,7 @@ impl TreeWorld {
             access: AccessTable::new(alloc),
             counted: 0,
             sessions: Counts::new(alloc),
+            due: List::new(alloc),
             alloc,
         })
     }

@@ -2,6 +2,7 @@
 use Rattle.std.specs.Prelude.{◌≡◌, ℕ, true, List, [], ◌∷◌, length, map, All}
 use Rattle.enfilade_core.specs.declared.tree.Node.{Node}
 use Rattle.enfilade_core.specs.Rows.{Shape, rows_of}
+use Rattle.enfilade_core.specs.Standing.{tree_allows}
 use Rattle.enfilade_sweep.specs.Sweep.{numbers, are_held}
 use Rattle.granfilade.specs.Content.{ContentTree, tree_rows}
 use Rattle.spanfilade.specs.Index.{IndexTree, rows_in_index}
@@ -18,9 +19,10 @@ pub record IsSweptIndex (old new : IndexTree) : Type 0 where
   pub rows : rows_in_index new ≡ rows_in_index old
   pub held : are_held new.nodes (new.root.0 ∷ []) ≡ true
 
--- so has the tree of each document, whose root is at the document's place among these
+-- So has the tree of each document, whose root is at the document's place among these. It allows a step where it did.
 pub record AreSweptDocuments (old : List (Shape ℕ)) (documents : List (DocumentRow Node)) (new : List (Shape ℕ)) (roots : List Node) : Type 0 where
   pub long : length roots ≡ length documents
   pub each : All (λ (root : Node). IsRoot new root.0) roots
   pub rows : map (rows_of new) (numbers roots) ≡ map (rows_of old) (roots_in documents)
+  pub allowed : map (tree_allows new) (numbers roots) ≡ map (tree_allows old) (roots_in documents)
   pub held : are_held new (numbers roots) ≡ true

@@ -1,117 +1,63 @@
-use Rattle.std.proofs.Common.{◌≡◌, ◌∙◌, ℕ, ◌+◌, ◌≤◌, List, true≢false, arith, refl, sym, ap, subst}
-use Rattle.std.specs.Option.{option_copied}
+use Rattle.std.proofs.Common.{◌∙◌, ℕ, ◌+◌, ◌≤◌, List, true≢false, refl, sym, ap, subst}
+use Rattle.enfilade_core.specs.declared.tree.Node.{Node}
 use Rattle.enfilade_core.specs.Rows.{Shape}
 use Rattle.enfilade_balance.specs.Laws.{DebtsStay}
-use Rattle.doc_table.specs.DocumentRows.{has_in, with_root}
+use Rattle.doc_table.specs.DocumentRows.{with_root}
 use Rattle.tree_world.specs.Trees.{Trees}
-use Rattle.tree_world.specs.Condition.{debt_of}
+use Rattle.tree_world.specs.Condition.{debt_of, documents_allow}
 use Rattle.tree_world.specs.inside.SameRows.{SameRows}
+use Rattle.tree_world.proofs.Tables.{has_some}
+use Rattle.tree_world.proofs.Roots.{root_stands}
 use Rattle.tree_world.proofs.SameRows.{sound_over}
-use Rattle.tree_world.proofs.Balanced.{document_there, step_same, step_lowers, some_document, root_below, told_in, few_before}
+use Rattle.tree_world.proofs.Balanced.{step_same, step_lowers}
+use Rattle.tree_world.proofs.Marked.{stay_self, due_grown, due_rooted, some_row, place, step_found}
 use Rattle.tree_world.proofs.world.TreeWorld.balance_documents.Goals as goal
 
-pub overflow_cast-k : goal.overflow_cast-k
-overflow_cast-k c = omega (arith, few_before c.self.inside.pooms c.self.inside.documents c.in-Some.k c.len-many.result c.in-Some.ensures.some c.len-many.ensures.value c.len-many.ensures.few)
-
-pub unreachable-requires-in_default-nth : goal.unreachable-requires-in_default-nth
-unreachable-requires-in_default-nth c = some_document c.self.inside.pooms c.self.inside.documents c.in-Some.k c.in-Some.ensures.some (option_copied c.nth.result) c.nth.ensures (ap option_copied c.in_default-nth.is)
-
 pub balance-requires : goal.balance-requires
-balance-requires c = root_below c.self.inside.pooms c.self.inside.documents c.in-Some.k c.in-Some-root_at.root c.self.invariant.0 (sym c.in-Some-root_at.is ∙ c.root_at.ensures)
+balance-requires c = (root_stands c.self.inside.pooms c.self.inside.documents c.in-Some.document c.in-Some.root c.self.invariant.0 c.in-Some.ensures.some.root).there
 
 pub returns-in_err-made-clause-idle : goal.returns-in_err-made-clause-idle
-returns-in_err-made-clause-idle c off = absurd (true≢false (sym (told_in (record { contents = c.self.inside.contents; content = c.self.inside.content; nodes = c.self.inside.pooms; documents = c.self.inside.documents; index = c.self.inside.index; links = c.self.inside.links; access = c.self.inside.access; counted = c.self.inside.counted; sessions = c.self.inside.sessions }) c.args.self.now c.in-Some.k c.self.view_is c.in-Some.ensures.some) ∙ off))
+returns-in_err-made-clause-idle c off = absurd (true≢false (sym (ap (λ (t : Trees). documents_allow t.nodes t.documents) (sym c.self.view_is) ∙ (some_row c.self.inside.pooms c.self.inside.documents c.in-Some.document c.in-Some.root c.in-Some.ensures.some.root c.in-Some.ensures.some.allows)) ∙ off))
 
 pub set_root-requires : goal.set_root-requires
-set_root-requires c =
-    ap (has_in c.self.inside.documents) c.copy-document.ensures ∙ document_there (record { contents = c.self.inside.contents; content = c.self.inside.content; nodes = c.self.inside.pooms; documents = c.self.inside.documents; index = c.self.inside.index; links = c.self.inside.links; access = c.self.inside.access; counted = c.self.inside.counted; sessions = c.self.inside.sessions })
-    (record { contents = c.self.inside.contents; content = c.self.inside.content; nodes = c.balance.new.self; documents = c.self.inside.documents; index = c.self.inside.index; links = c.self.inside.links; access = c.self.inside.access; counted = c.self.inside.counted; sessions = c.self.inside.sessions })
-    c.in-Some.k c.in-Some-nth.document.now c.in-Some-root_at.root c.in_ok-made.made
-    (record {
-      stand = c.self.invariant.0;
-      ascend = c.in_order.ensures;
-      stay = subst (λ (nodes : List (Shape ℕ)). DebtsStay nodes) c.arena.ensures c.debts_stay.ensures;
-      read_root = sym c.in-Some-root_at.is ∙ c.root_at.ensures;
-      read_document = ap option_copied (sym c.in-Some-nth.is) ∙ c.nth.ensures;
-      allows = c.in-Some.ensures.some;
-      kept = c.in_ok-made.ensures.kept;
-      grows = c.in_ok-made.ensures.grows;
-      rows_same = c.in_ok-made.ensures.rows;
-      document_is = c.in_ok-made.ensures.document;
-      lowers = c.in_ok-made.ensures.lowers;
-      idle = c.in_ok-made.ensures.idle;
-    })
+set_root-requires c = has_some c.self.inside.documents c.in-Some.document c.in-Some.root c.in-Some.ensures.some.root
 
 pub invariant_of-self-2 : goal.invariant_of-self-2
 invariant_of-self-2 c =
-    sound_over (record { contents = c.self.inside.contents; content = c.self.inside.content; nodes = c.self.inside.pooms; documents = c.self.inside.documents; index = c.self.inside.index; links = c.self.inside.links; access = c.self.inside.access; counted = c.self.inside.counted; sessions = c.self.inside.sessions })
-    (record { contents = c.self.inside.contents; content = c.self.inside.content; nodes = c.balance.new.self; documents = c.set_root.new.self; index = c.self.inside.index; links = c.self.inside.links; access = c.self.inside.access; counted = c.self.inside.counted; sessions = c.self.inside.sessions })
-    (step_same (record { contents = c.self.inside.contents; content = c.self.inside.content; nodes = c.self.inside.pooms; documents = c.self.inside.documents; index = c.self.inside.index; links = c.self.inside.links; access = c.self.inside.access; counted = c.self.inside.counted; sessions = c.self.inside.sessions })
-    (record { contents = c.self.inside.contents; content = c.self.inside.content; nodes = c.balance.new.self; documents = c.set_root.new.self; index = c.self.inside.index; links = c.self.inside.links; access = c.self.inside.access; counted = c.self.inside.counted; sessions = c.self.inside.sessions })
-    c.in-Some.k c.in-Some-nth.document.now c.in-Some-root_at.root c.in_ok-made.made
-    (record {
-      stand = c.self.invariant.0;
-      ascend = c.in_order.ensures;
-      stay = subst (λ (nodes : List (Shape ℕ)). DebtsStay nodes) c.arena.ensures c.debts_stay.ensures;
-      read_root = sym c.in-Some-root_at.is ∙ c.root_at.ensures;
-      read_document = ap option_copied (sym c.in-Some-nth.is) ∙ c.nth.ensures;
-      allows = c.in-Some.ensures.some;
-      kept = c.in_ok-made.ensures.kept;
-      grows = c.in_ok-made.ensures.grows;
-      rows_same = c.in_ok-made.ensures.rows;
-      document_is = c.in_ok-made.ensures.document;
-      lowers = c.in_ok-made.ensures.lowers;
-      idle = c.in_ok-made.ensures.idle;
-    })
-    (c.set_root.ensures ∙ (λ i. with_root c.self.inside.documents (c.copy-document.ensures i) (c.root_after.ensures i))) refl refl refl refl refl refl refl)
+    sound_over (record { contents = c.self.inside.contents; content = c.self.inside.content; nodes = c.self.inside.pooms; documents = c.self.inside.documents; index = c.self.inside.index; links = c.self.inside.links; access = c.self.inside.access; counted = c.self.inside.counted; sessions = c.self.inside.sessions; due = c.self.inside.due.items })
+    (record { contents = c.self.inside.contents; content = c.self.inside.content; nodes = c.balance.new.self; documents = c.set_root.new.self; index = c.self.inside.index; links = c.self.inside.links; access = c.self.inside.access; counted = c.self.inside.counted; sessions = c.self.inside.sessions; due = c.due_tree.new.due.items })
+    (step_same (record { contents = c.self.inside.contents; content = c.self.inside.content; nodes = c.self.inside.pooms; documents = c.self.inside.documents; index = c.self.inside.index; links = c.self.inside.links; access = c.self.inside.access; counted = c.self.inside.counted; sessions = c.self.inside.sessions; due = c.self.inside.due.items })
+    (record { contents = c.self.inside.contents; content = c.self.inside.content; nodes = c.balance.new.self; documents = c.set_root.new.self; index = c.self.inside.index; links = c.self.inside.links; access = c.self.inside.access; counted = c.self.inside.counted; sessions = c.self.inside.sessions; due = c.due_tree.new.due.items })
+    (place c.self.inside.pooms c.balance.new.self c.self.inside.documents c.in-Some.document c.in-Some.root c.in_ok-made.made c.in-Some.ensures.some.root c.in-Some.ensures.some.allows) c.in-Some.document c.in-Some.root c.in_ok-made.made
+    (step_found c.self.inside.pooms c.balance.new.self c.self.inside.documents c.in-Some.document c.in-Some.root c.in_ok-made.made c.in-Some.ensures.some.root c.in-Some.ensures.some.allows c.self.invariant.0 c.in_order.ensures
+    (subst (λ (nodes : List (Shape ℕ)). DebtsStay nodes) c.arena.ensures c.debts_stay.ensures) c.in_ok-made.ensures.kept c.in_ok-made.ensures.grows c.in_ok-made.ensures.rows c.in_ok-made.ensures.document c.in_ok-made.ensures.lowers c.in_ok-made.ensures.idle)
+    (c.set_root.ensures ∙ ap (λ (node : Node). with_root c.self.inside.documents c.in-Some.document node) c.root_after.ensures) refl refl refl refl refl refl refl)
+    (due_rooted c.balance.new.self c.self.inside.documents c.set_root.new.self c.in-Some.document c.root_after.result c.due_tree.new.due.items c.due_tree.new.due.items c.in-Some.root c.in-Some.ensures.some.root c.set_root.ensures
+    (due_grown c.self.inside.pooms c.balance.new.self c.self.inside.documents c.due_tree.new.due.items c.in_ok-made.ensures.grows c.self.invariant.0 c.due_tree.ensures.due) (stay_self c.due_tree.new.due.items) (λ allows. c.in-Some.ensures.some.marked))
     c.self.invariant
 
 pub returns-clause-same : goal.returns-clause-same
 returns-clause-same c =
-    subst (λ (t : Trees). SameRows t (record { contents = c.self.inside.contents; content = c.self.inside.content; nodes = c.balance.new.self; documents = c.set_root.new.self; index = c.self.inside.index; links = c.self.inside.links; access = c.self.inside.access; counted = c.self.inside.counted; sessions = c.self.inside.sessions })) c.self.view_is
-    (step_same (record { contents = c.self.inside.contents; content = c.self.inside.content; nodes = c.self.inside.pooms; documents = c.self.inside.documents; index = c.self.inside.index; links = c.self.inside.links; access = c.self.inside.access; counted = c.self.inside.counted; sessions = c.self.inside.sessions })
-    (record { contents = c.self.inside.contents; content = c.self.inside.content; nodes = c.balance.new.self; documents = c.set_root.new.self; index = c.self.inside.index; links = c.self.inside.links; access = c.self.inside.access; counted = c.self.inside.counted; sessions = c.self.inside.sessions })
-    c.in-Some.k c.in-Some-nth.document.now c.in-Some-root_at.root c.in_ok-made.made
-    (record {
-      stand = c.self.invariant.0;
-      ascend = c.in_order.ensures;
-      stay = subst (λ (nodes : List (Shape ℕ)). DebtsStay nodes) c.arena.ensures c.debts_stay.ensures;
-      read_root = sym c.in-Some-root_at.is ∙ c.root_at.ensures;
-      read_document = ap option_copied (sym c.in-Some-nth.is) ∙ c.nth.ensures;
-      allows = c.in-Some.ensures.some;
-      kept = c.in_ok-made.ensures.kept;
-      grows = c.in_ok-made.ensures.grows;
-      rows_same = c.in_ok-made.ensures.rows;
-      document_is = c.in_ok-made.ensures.document;
-      lowers = c.in_ok-made.ensures.lowers;
-      idle = c.in_ok-made.ensures.idle;
-    })
-    (c.set_root.ensures ∙ (λ i. with_root c.self.inside.documents (c.copy-document.ensures i) (c.root_after.ensures i))) refl refl refl refl refl refl refl)
+    subst (λ (t : Trees). SameRows t (record { contents = c.self.inside.contents; content = c.self.inside.content; nodes = c.balance.new.self; documents = c.set_root.new.self; index = c.self.inside.index; links = c.self.inside.links; access = c.self.inside.access; counted = c.self.inside.counted; sessions = c.self.inside.sessions; due = c.due_tree.new.due.items })) c.self.view_is
+    (step_same (record { contents = c.self.inside.contents; content = c.self.inside.content; nodes = c.self.inside.pooms; documents = c.self.inside.documents; index = c.self.inside.index; links = c.self.inside.links; access = c.self.inside.access; counted = c.self.inside.counted; sessions = c.self.inside.sessions; due = c.self.inside.due.items })
+    (record { contents = c.self.inside.contents; content = c.self.inside.content; nodes = c.balance.new.self; documents = c.set_root.new.self; index = c.self.inside.index; links = c.self.inside.links; access = c.self.inside.access; counted = c.self.inside.counted; sessions = c.self.inside.sessions; due = c.due_tree.new.due.items })
+    (place c.self.inside.pooms c.balance.new.self c.self.inside.documents c.in-Some.document c.in-Some.root c.in_ok-made.made c.in-Some.ensures.some.root c.in-Some.ensures.some.allows) c.in-Some.document c.in-Some.root c.in_ok-made.made
+    (step_found c.self.inside.pooms c.balance.new.self c.self.inside.documents c.in-Some.document c.in-Some.root c.in_ok-made.made c.in-Some.ensures.some.root c.in-Some.ensures.some.allows c.self.invariant.0 c.in_order.ensures
+    (subst (λ (nodes : List (Shape ℕ)). DebtsStay nodes) c.arena.ensures c.debts_stay.ensures) c.in_ok-made.ensures.kept c.in_ok-made.ensures.grows c.in_ok-made.ensures.rows c.in_ok-made.ensures.document c.in_ok-made.ensures.lowers c.in_ok-made.ensures.idle)
+    (c.set_root.ensures ∙ ap (λ (node : Node). with_root c.self.inside.documents c.in-Some.document node) c.root_after.ensures) refl refl refl refl refl refl refl)
 
 pub returns-clause-told : goal.returns-clause-told
-returns-clause-told c = sym (told_in (record { contents = c.self.inside.contents; content = c.self.inside.content; nodes = c.self.inside.pooms; documents = c.self.inside.documents; index = c.self.inside.index; links = c.self.inside.links; access = c.self.inside.access; counted = c.self.inside.counted; sessions = c.self.inside.sessions }) c.args.self.now c.in-Some.k c.self.view_is c.in-Some.ensures.some)
+returns-clause-told c = sym (ap (λ (t : Trees). documents_allow t.nodes t.documents) (sym c.self.view_is) ∙ (some_row c.self.inside.pooms c.self.inside.documents c.in-Some.document c.in-Some.root c.in-Some.ensures.some.root c.in-Some.ensures.some.allows))
 
 pub returns-clause-lowers : goal.returns-clause-lowers
 returns-clause-lowers c made =
-    subst (λ (t : Trees). debt_of (record { contents = c.self.inside.contents; content = c.self.inside.content; nodes = c.balance.new.self; documents = c.set_root.new.self; index = c.self.inside.index; links = c.self.inside.links; access = c.self.inside.access; counted = c.self.inside.counted; sessions = c.self.inside.sessions }) + 1 ≤ debt_of t) c.self.view_is
-    (step_lowers (record { contents = c.self.inside.contents; content = c.self.inside.content; nodes = c.self.inside.pooms; documents = c.self.inside.documents; index = c.self.inside.index; links = c.self.inside.links; access = c.self.inside.access; counted = c.self.inside.counted; sessions = c.self.inside.sessions })
-    (record { contents = c.self.inside.contents; content = c.self.inside.content; nodes = c.balance.new.self; documents = c.set_root.new.self; index = c.self.inside.index; links = c.self.inside.links; access = c.self.inside.access; counted = c.self.inside.counted; sessions = c.self.inside.sessions })
-    c.in-Some.k c.in-Some-nth.document.now c.in-Some-root_at.root c.in_ok-made.made
-    (record {
-      stand = c.self.invariant.0;
-      ascend = c.in_order.ensures;
-      stay = subst (λ (nodes : List (Shape ℕ)). DebtsStay nodes) c.arena.ensures c.debts_stay.ensures;
-      read_root = sym c.in-Some-root_at.is ∙ c.root_at.ensures;
-      read_document = ap option_copied (sym c.in-Some-nth.is) ∙ c.nth.ensures;
-      allows = c.in-Some.ensures.some;
-      kept = c.in_ok-made.ensures.kept;
-      grows = c.in_ok-made.ensures.grows;
-      rows_same = c.in_ok-made.ensures.rows;
-      document_is = c.in_ok-made.ensures.document;
-      lowers = c.in_ok-made.ensures.lowers;
-      idle = c.in_ok-made.ensures.idle;
-    })
-    (c.set_root.ensures ∙ (λ i. with_root c.self.inside.documents (c.copy-document.ensures i) (c.root_after.ensures i))) refl refl refl)
+    subst (λ (t : Trees). debt_of (record { contents = c.self.inside.contents; content = c.self.inside.content; nodes = c.balance.new.self; documents = c.set_root.new.self; index = c.self.inside.index; links = c.self.inside.links; access = c.self.inside.access; counted = c.self.inside.counted; sessions = c.self.inside.sessions; due = c.due_tree.new.due.items }) + 1 ≤ debt_of t) c.self.view_is
+    (step_lowers (record { contents = c.self.inside.contents; content = c.self.inside.content; nodes = c.self.inside.pooms; documents = c.self.inside.documents; index = c.self.inside.index; links = c.self.inside.links; access = c.self.inside.access; counted = c.self.inside.counted; sessions = c.self.inside.sessions; due = c.self.inside.due.items })
+    (record { contents = c.self.inside.contents; content = c.self.inside.content; nodes = c.balance.new.self; documents = c.set_root.new.self; index = c.self.inside.index; links = c.self.inside.links; access = c.self.inside.access; counted = c.self.inside.counted; sessions = c.self.inside.sessions; due = c.due_tree.new.due.items })
+    (place c.self.inside.pooms c.balance.new.self c.self.inside.documents c.in-Some.document c.in-Some.root c.in_ok-made.made c.in-Some.ensures.some.root c.in-Some.ensures.some.allows) c.in-Some.document c.in-Some.root c.in_ok-made.made
+    (step_found c.self.inside.pooms c.balance.new.self c.self.inside.documents c.in-Some.document c.in-Some.root c.in_ok-made.made c.in-Some.ensures.some.root c.in-Some.ensures.some.allows c.self.invariant.0 c.in_order.ensures
+    (subst (λ (nodes : List (Shape ℕ)). DebtsStay nodes) c.arena.ensures c.debts_stay.ensures) c.in_ok-made.ensures.kept c.in_ok-made.ensures.grows c.in_ok-made.ensures.rows c.in_ok-made.ensures.document c.in_ok-made.ensures.lowers c.in_ok-made.ensures.idle)
+    (c.set_root.ensures ∙ ap (λ (node : Node). with_root c.self.inside.documents c.in-Some.document node) c.root_after.ensures) refl refl refl)
 
 pub returns-clause-idle : goal.returns-clause-idle
-returns-clause-idle c off = absurd (true≢false (sym (told_in (record { contents = c.self.inside.contents; content = c.self.inside.content; nodes = c.self.inside.pooms; documents = c.self.inside.documents; index = c.self.inside.index; links = c.self.inside.links; access = c.self.inside.access; counted = c.self.inside.counted; sessions = c.self.inside.sessions }) c.args.self.now c.in-Some.k c.self.view_is c.in-Some.ensures.some) ∙ off))
+returns-clause-idle c off = absurd (true≢false (sym (ap (λ (t : Trees). documents_allow t.nodes t.documents) (sym c.self.view_is) ∙ (some_row c.self.inside.pooms c.self.inside.documents c.in-Some.document c.in-Some.root c.in-Some.ensures.some.root c.in-Some.ensures.some.allows)) ∙ off))

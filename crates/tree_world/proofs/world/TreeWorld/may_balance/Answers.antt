@@ -4,12 +4,12 @@ use Rattle.enfilade_core.specs.Standing.{tree_allows}
 use Rattle.spanfilade.specs.Index.{IndexTree}
 use Rattle.tree_world.specs.Trees.{Trees}
 use Rattle.tree_world.specs.Condition.{allows_of, documents_allow}
-use Rattle.tree_world.proofs.Balanced.{tree_off, last_allows, some_allows}
+use Rattle.tree_world.proofs.Balanced.{tree_off, last_allows}
 use Rattle.tree_world.proofs.world.TreeWorld.may_balance.Goals as goal
 
 pub returns : goal.returns
 returns c =
-    c.is_some.ensures ∙ some_allows c.self.inside.pooms c.self.inside.documents c.allowing.result c.allowing.ensures.some c.allowing.ensures.none
+    c.some_due.ensures
     ∙ last_allows (tree_allows c.self.inside.contents.nodes c.self.inside.contents.root) (tree_allows c.self.inside.index.nodes c.self.inside.index.root.0) (tree_allows c.self.inside.links.from.nodes c.self.inside.links.from.root.0) (tree_allows c.self.inside.links.to.nodes c.self.inside.links.to.root.0) (tree_allows c.self.inside.links.three.nodes c.self.inside.links.three.root.0) (documents_allow c.self.inside.pooms c.self.inside.documents)
     (tree_off c.parts.result.0.now c.self.inside.contents.nodes c.parts.result.1.0 c.self.inside.contents.root c.allows.result (c.parts.ensures.arena) (c.parts.ensures.root) c.allows.ensures c.if-allows.false)
     (tree_off c.parts-2.result.0.now c.self.inside.index.nodes c.parts-2.result.1.0 c.self.inside.index.root.0 c.allows-2.result (c.parts-2.ensures.arena) (ap (λ (n : Node). n.0) c.parts-2.ensures.root) c.allows-2.ensures c.if-allows-2.false)

@@ -12,9 +12,10 @@ pub invariant_of-self : goal.invariant_of-self
 invariant_of-self c =
     let may = subst (λ t. MayComeBack t c.args.undo.now) (sym c.self.view_is) c.requires in
     let back = may.back in
-    sound_again back.before _ _ _ back.sound (c.back-2.ensures ∙ taken_back back.before.nodes c.self.inside.pooms c.args.undo.now.nodes back.came.0.nodes back.kept.nodes)
+    sound_again back.before _ _ _ c.self.inside.due.items back.sound (c.back-2.ensures ∙ taken_back back.before.nodes c.self.inside.pooms c.args.undo.now.nodes back.came.0.nodes back.kept.nodes)
     (c.tables_back.ensures.documents _ (tables_were _ c.args.undo.now may.view back))
     (contents_were back.before.contents c.self.inside.contents _ c.args.undo.now.contents back.kept.contents_root back.kept.contents_count back.came.0.contents c.back.ensures.nodes c.back.ensures.root)
+    back.came.0.due
 
 pub returns-clause-stands : goal.returns-clause-stands
 returns-clause-stands c view now =
