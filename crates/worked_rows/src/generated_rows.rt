@@ -1,7 +1,7 @@
 //! The requests that the program makes itself: how they are spelled, and what they are answered.
 
 use crate::sessions::Sessions;
-use crate::store_rows::{House, ask, begin, fresh, stays_small};
+use crate::store_rows::{House, ask, begin, fresh};
 use febe_data::{Limits, Memory, Request};
 use febe_wire::write_request;
 use green_top::generated;
@@ -115,19 +115,6 @@ fn generated_requests_are_answered_alike(rt: HostRuntime) -> Result<(), Fail> {
     let mut both = Both::new(&rt, alloc)?;
     for request in requests.as_slice() {
         both.check(&rt, alloc, request)?;
-    }
-    Ok(())
-}
-
-#[test]
-fn few_nodes_are_kept_that_no_tree_reaches(rt: HostRuntime) -> Result<(), Fail> {
-    let alloc = rt.alloc();
-    let requests = generated(alloc, 7)?;
-    let mut house = fresh(alloc)?;
-    assert_eq!(rt; begin(alloc, &mut house), Some(1));
-    for request in requests.as_slice() {
-        let _told = ask(alloc, &mut house, 1, request.try_clone(alloc)?)?;
-        assert!(rt; stays_small(alloc, &mut house));
     }
     Ok(())
 }

@@ -54,14 +54,6 @@ pub(crate) fn ask(
     write_reply(alloc, &reply)
 }
 
-/// Makes a background step, and tells whether the store holds at most about as many nodes then as call for a sweep: one
-/// request may add as many as this over them.
-pub(crate) fn stays_small(alloc: Global, house: &mut House) -> bool {
-    let _answer = house.store.step(alloc, &mut house.disk, Step::Background);
-    let most = house.store.base().saturating_mul(2).saturating_add(1_024);
-    house.store.nodes() <= most.saturating_add(256)
-}
-
 /// Whether a live session has ended.
 fn end(alloc: Global, house: &mut House, session: u64) -> bool {
     match house
