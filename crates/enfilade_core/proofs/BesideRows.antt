@@ -51,6 +51,23 @@ ends-told w stay nodes right branch s is part =
       ordered = told.ordered;
     }
 
+-- where a branch's origin does not come before a place, its first row does not either
+moved-past : {L : Type 0} (w : Widths L) (a b at : List ℕ) (rows : List (Row L)) → rows ≢ [] → All (IsRightRow w) rows → comes_before a at ≡ false → comes_before (first_place (map (moved a b) rows)) at ≡ false
+moved-past w a b at [] some right e = absurd (some refl)
+moved-past w a b at (row ∷ rows) some right e =
+    false_if_up_to (sum a row.first) at (upto_upto at a (sum a row.first) (up_to_if_false a at e) (sum-upto a row.first (All-head (IsRightRow w) row rows right).first_place.ends))
+
+pub origin-past : {L : Type 0} (w : Widths L) (nodes : List (Shape L)) → AreRight w nodes → (branch : Branch) (at : List ℕ) → IsRightPart w nodes branch → comes_before branch.first at ≡ false → comes_before (first_place (branch_rows (rows_table nodes) branch)) at ≡ false
+origin-past w nodes right branch at part e =
+    moved-past w branch.first branch.second at (rows_of nodes branch.node.0) part.branch.filled (rows-right w nodes branch.node.0 right part.branch.below) e
+
+pub part-some : {L : Type 0} (w : Widths L) (nodes : List (Shape L)) (branch : Branch) → IsRightPart w nodes branch → branch_rows (rows_table nodes) branch ≢ []
+part-some w nodes branch part e = part.branch.filled (unmapped (moved branch.first branch.second) (rows_of nodes branch.node.0) e)
+  where
+    unmapped : {A B : Type 0} (f : A → B) (xs : List A) → map f xs ≡ [] → xs ≡ []
+    unmapped f [] e = refl
+    unmapped f (x ∷ xs) e = absurd cc
+
 -- ---- rows in order beside a place
 
 -- where the last one comes before a place, all do

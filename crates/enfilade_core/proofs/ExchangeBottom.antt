@@ -2,9 +2,11 @@
 use Rattle.std.proofs.Common.{◌≡◌, ℕ, zero, suc, ◌≤◌, ◌<◌, true, false, List, [], ◌∷◌, ◌++◌, length, get_or, take, drop, map, cond, refl, arith, ap, ◌∙◌, sym, subst}
 use Rattle.std.specs.List.{All}
 use Rattle.std.proofs.lemmas.List.{length-map, length-take-le}
-use Rattle.std.proofs.lemmas.List.Elements.{All-cons}
+use Rattle.std.proofs.lemmas.List.Elements.{All-cons, All-get_or}
 use Rattle.tumbler.specs.Places.{IsUpTo, IsTumbler, Fits, comes_before, sum, difference}
-use Rattle.tumbler.proofs.Alls.{All-back}
+use Rattle.tumbler.proofs.Alls.{All-back, All-unmapped}
+use Rattle.tumbler.proofs.Order.{upto_before}
+use Rattle.tumbler.proofs.Before.{before_if_true, true_if_before}
 use Rattle.tumbler.proofs.SumOrder.{fits_if_tumbler}
 use Rattle.enfilade_core.specs.declared.tree.Row.{Row}
 use Rattle.enfilade_core.specs.declared.gap.Gap.{Gap}
@@ -33,6 +35,30 @@ count-later {L} from to (row ∷ rows) le = elim (comes_before row.first from) a
     | false ↦ λ f. rw (e, f) (count-later from to rows le)
   ] refl
 ] refl
+
+-- rows in order are parted by a place, and where they are parted tells how many come before it
+pub parted-before : {L : Type 0} (at : List ℕ) (rows : List (Row L)) → InOrder rows → (i j : ℕ) (d : Row L) → i ≤ j → j < length rows → comes_before (get_or rows j d).first at ≡ true → comes_before (get_or rows i d).first at ≡ true
+parted-before at [] ordered i j d le lt e = absurd (omega (arith, lt))
+parted-before at (row ∷ rows) ordered zero zero d le lt e = e
+parted-before {L} at (row ∷ rows) ordered zero (suc j) d le lt e =
+    let other = get_or rows j d in
+    true_if_before row.first at (upto_before row.first other.first at (All-get_or (λ (r : Row L). IsUpTo row.first r.first) rows j d (omega (arith, lt)) ordered.0) (before_if_true other.first at e))
+parted-before at (row ∷ rows) ordered (suc i) zero d le lt e = absurd (omega (arith, le))
+parted-before at (row ∷ rows) ordered (suc i) (suc j) d le lt e = parted-before at rows ordered.1 i j d (omega (arith, le)) (omega (arith, lt)) e
+
+pub count-parted : {L : Type 0} (at : List ℕ) (rows : List (Row L)) (n : ℕ) → n ≤ length rows → ((k : ℕ) (d : Row L) → 0 ≤ k → k < n → comes_before (get_or rows k d).first at ≡ true)
+    → ((k : ℕ) (d : Row L) → n ≤ k → k < length rows → comes_before (get_or rows k d).first at ≡ false) → n ≡ length (rows_before at rows)
+count-parted at [] n le before past = omega (arith, le)
+count-parted at (row ∷ rows) zero le before past =
+    let e : comes_before row.first at ≡ false = past 0 row (omega arith) (omega arith) in
+    rw e (count-parted at rows 0 (omega arith) (λ k d a b. absurd (omega (arith, b))) (λ k d a b. past (suc k) d (omega arith) (omega (arith, b))))
+count-parted at (row ∷ rows) (suc n) le before past =
+    let e : comes_before row.first at ≡ true = before 0 row (omega arith) (omega arith) in
+    rw e (ap (λ (m : ℕ). suc m) (count-parted at rows n (omega (arith, le)) (λ k d a b. before (suc k) d (omega arith) (omega (arith, b))) (λ k d a b. past (suc k) d (omega (arith, a)) (omega (arith, b)))))
+
+pub ordered-own : {L : Type 0} (plain : L → L) (rows : List (Row L)) → InOrder (map (plain_row plain) rows) → InOrder rows
+ordered-own plain [] h = tt
+ordered-own {L} plain (row ∷ rows) h = (All-unmapped (λ (r : Row L). IsUpTo row.first r.first) (plain_row plain) rows h.0, ordered-own plain rows h.1)
 
 before-plain : {L : Type 0} (plain : L → L) (at : List ℕ) (rows : List (Row L)) → rows_before at (map (plain_row plain) rows) ≡ map (plain_row plain) (rows_before at rows)
 before-plain plain at [] = refl

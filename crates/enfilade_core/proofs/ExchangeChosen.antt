@@ -1,5 +1,5 @@
 -- The branch that new rows go into.
-use Rattle.std.proofs.Common.{◌≡◌, ◌≢◌, ℕ, ◌+◌, ◌-◌, ◌<◌, ◌≤◌, true, false, List, [], ◌∷◌, ◌++◌, length, get_or, take, drop, refl, arith, ap, ◌∙◌, sym, subst}
+use Rattle.std.proofs.Common.{◌≡◌, ◌≢◌, ◌⊎◌, inl, inr, ℕ, ◌+◌, ◌<◌, ◌≤◌, Bool, true, false, List, [], ◌∷◌, ◌++◌, length, get_or, take, drop, refl, arith, ap, ◌∙◌, sym, subst}
 use Rattle.std.proofs.lemmas.List.Elements.{All-nil}
 use Rattle.std.proofs.lemmas.List.{drop_more, drop_all}
 use Rattle.tumbler.specs.Places.{comes_before}
@@ -27,61 +27,87 @@ before-seam at (row ∷ rows) more h some e =
     all_before at (row ∷ rows) (InOrder-front (row ∷ rows) more h)
     (true_if_before (last_place (row ∷ rows)) at (upto_before (last_place (row ∷ rows)) (first_place more) at seam (before_if_true (first_place more) at e)))
 
-first-append : {L : Type 0} (rows more : List (Row L)) → rows ≢ [] → first_place (rows ++ more) ≡ first_place rows
+pub first-append : {L : Type 0} (rows more : List (Row L)) → rows ≢ [] → first_place (rows ++ more) ≡ first_place rows
 first-append [] more some = absurd (some refl)
 first-append (row ∷ rows) more some = refl
 
-filled-append : {L : Type 0} (rows more : List (Row L)) → rows ≢ [] → rows ++ more ≢ []
+pub filled-append : {L : Type 0} (rows more : List (Row L)) → rows ≢ [] → rows ++ more ≢ []
 filled-append [] more some e = some refl
 filled-append (row ∷ rows) more some e = cc
 
--- the branches before number k - 1 have only rows that come before the place
-pub record ChosenSoFar {L : Type 0} (nodes : List (Shape L)) (branches : List Branch) (at : List ℕ) (k : ℕ) : Type 0 where
-  pub some : 0 < k
-  pub short : k ≤ length branches
-  pub front : AllBefore at (flat_rows nodes (take (k - 1) branches))
+-- the last branch that has a row before the place, or the first one, is number `low` or stands behind it and
+-- in front of number `high`
+pub record ChosenBetween {L : Type 0} (nodes : List (Shape L)) (branches : List Branch) (at : List ℕ) (low high : ℕ) : Type 0 where
+  pub some : low < high
+  pub short : high ≤ length branches
+  pub front : AllBefore at (flat_rows nodes (take low branches))
+  pub here : (low ≡ 0) ⊎ (comes_before (first_place (flat_rows nodes (drop low branches))) at ≡ true)
+  pub back : NoneBefore at (flat_rows nodes (drop high branches))
 
-pub chosen-start : {L : Type 0} (w : Widths L) (nodes : List (Shape L)) (branches : List Branch) (at : List ℕ) → IsRight w nodes (Branches branches) → ChosenSoFar nodes branches at 1
-chosen-start w nodes branches at right = record { some = omega arith; short = omega (arith, some_long branches right.branches.some); front = All-nil (λ r. comes_before r.first at ≡ true) }
+none-behind : {L : Type 0} (nodes : List (Shape L)) (branches : List Branch) (at : List ℕ) (n : ℕ) → drop n branches ≡ [] → NoneBefore at (flat_rows nodes (drop n branches))
+none-behind nodes branches at n none = subst (λ (bs : List Branch). NoneBefore at (flat_rows nodes bs)) (sym none) (All-nil (λ r. comes_before r.first at ≡ false))
 
-pub chosen-more : {L : Type 0} (w : Widths L) (nodes : List (Shape L)) (branches : List Branch) (at : List ℕ) (k : ℕ) (branch : Branch) (first : List ℕ) → IsRight w nodes (Branches branches) → ChosenSoFar nodes branches at k → k < length branches → branch ≡ get_or branches k branch
-    → first ≡ first_place (branch_rows (rows_table nodes) branch) → branch_rows (rows_table nodes) branch ≢ [] → comes_before first at ≡ true → ChosenSoFar nodes branches at (k + 1)
-chosen-more {L} w nodes branches at k branch first right so lt is value filled e =
+pub chosen-start : {L : Type 0} (w : Widths L) (nodes : List (Shape L)) (branches : List Branch) (at : List ℕ) → IsRight w nodes (Branches branches) → ChosenBetween nodes branches at 0 (length branches)
+chosen-start w nodes branches at right = record {
+  some = some_long branches right.branches.some;
+  short = omega arith;
+  front = All-nil (λ r. comes_before r.first at ≡ true);
+  here = inl refl;
+  back = none-behind nodes branches at (length branches) (drop_all (length branches) branches (omega arith));
+}
+
+-- number k is a branch with these rows
+pub record ChosenItem {L : Type 0} (w : Widths L) (nodes : List (Shape L)) (branches : List Branch) (k : ℕ) (branch : Branch) : Type 0 where
+  pub right : IsRight w nodes (Branches branches)
+  pub short : k < length branches
+  pub is : branch ≡ get_or branches k branch
+  pub filled : branch_rows (rows_table nodes) branch ≢ []
+
+parted : {L : Type 0} (w : Widths L) (nodes : List (Shape L)) (branches : List Branch) (k : ℕ) (branch : Branch) → ChosenItem w nodes branches k branch
+    → InOrder (flat_rows nodes (take k branches) ++ (branch_rows (rows_table nodes) branch ++ flat_rows nodes (drop (k + 1) branches)))
+parted w nodes branches k branch i = subst InOrder (flat-around nodes branches k branch (around branches k branch i.short i.is)) i.right.ordered
+
+from-there : {L : Type 0} (w : Widths L) (nodes : List (Shape L)) (branches : List Branch) (k : ℕ) (branch : Branch) → ChosenItem w nodes branches k branch
+    → branch_rows (rows_table nodes) branch ++ flat_rows nodes (drop (k + 1) branches) ≡ flat_rows nodes (drop k branches)
+from-there w nodes branches k branch i =
+    sym (ap (flat_rows nodes) (drop_more branches k branch i.short ∙ ap (λ (b : Branch). b ∷ drop (k + 1) branches) (sym i.is)))
+
+first-there : {L : Type 0} (w : Widths L) (nodes : List (Shape L)) (branches : List Branch) (at : List ℕ) (k : ℕ) (branch : Branch) (t : Bool) → ChosenItem w nodes branches k branch → comes_before (first_place (branch_rows (rows_table nodes) branch)) at ≡ t
+    → comes_before (first_place (branch_rows (rows_table nodes) branch ++ flat_rows nodes (drop (k + 1) branches))) at ≡ t
+first-there w nodes branches at k branch t i e =
+    ap (λ (p : List ℕ). comes_before p at) (first-append (branch_rows (rows_table nodes) branch) (flat_rows nodes (drop (k + 1) branches)) i.filled) ∙ e
+
+pub chosen-low : {L : Type 0} (w : Widths L) (nodes : List (Shape L)) (branches : List Branch) (at : List ℕ) (low high k : ℕ) (branch : Branch) → ChosenBetween nodes branches at low high → k < high → ChosenItem w nodes branches k branch
+    → comes_before (first_place (branch_rows (rows_table nodes) branch)) at ≡ true → ChosenBetween nodes branches at k high
+chosen-low {L} w nodes branches at low high k branch so lt i e =
     let rows = branch_rows (rows_table nodes) branch in
     let rest = flat_rows nodes (drop (k + 1) branches) in
-    let ordered = subst InOrder (flat-around nodes branches k branch (around branches k branch lt is)) right.ordered in
-    let same : (k + 1) - 1 ≡ k = omega arith in
+    let there = first-there w nodes branches at k branch true i e in
     record {
-      some = omega arith;
-      short = omega (arith, lt);
-      front = subst (λ (n : ℕ). AllBefore at (flat_rows nodes (take n branches))) (sym same)
-          (before-seam at (flat_rows nodes (take k branches)) (rows ++ rest) ordered (filled-append rows rest filled)
-          (ap (λ (p : List ℕ). comes_before p at) (first-append rows rest filled ∙ sym value) ∙ e));
+      some = lt;
+      short = so.short;
+      front = before-seam at (flat_rows nodes (take k branches)) (rows ++ rest) (parted w nodes branches k branch i) (filled-append rows rest i.filled) there;
+      here = inr (subst (λ (r : List (Row L)). comes_before (first_place r) at ≡ true) (from-there w nodes branches k branch i) there);
+      back = so.back;
     }
 
-pub chosen-here : {L : Type 0} (w : Widths L) (nodes : List (Shape L)) (branches : List Branch) (at : List ℕ) (k : ℕ) (branch : Branch) (first : List ℕ) → IsRight w nodes (Branches branches) → ChosenSoFar nodes branches at k → k < length branches → branch ≡ get_or branches k branch
-    → first ≡ first_place (branch_rows (rows_table nodes) branch) → branch_rows (rows_table nodes) branch ≢ [] → comes_before first at ≡ false → IsChosen nodes branches at (k - 1)
-chosen-here {L} w nodes branches at k branch first right so lt is value filled e =
+pub chosen-high : {L : Type 0} (w : Widths L) (nodes : List (Shape L)) (branches : List Branch) (at : List ℕ) (low high k : ℕ) (branch : Branch) → ChosenBetween nodes branches at low high → low < k → ChosenItem w nodes branches k branch
+    → comes_before (first_place (branch_rows (rows_table nodes) branch)) at ≡ false → ChosenBetween nodes branches at low k
+chosen-high w nodes branches at low high k branch so lt i e =
     let rows = branch_rows (rows_table nodes) branch in
     let rest = flat_rows nodes (drop (k + 1) branches) in
-    let ordered = subst InOrder (flat-around nodes branches k branch (around branches k branch lt is)) right.ordered in
-    let same : (k - 1) + 1 ≡ k = omega (arith, so.some) in
-    let item : drop k branches ≡ branch ∷ drop (k + 1) branches = drop_more branches k branch lt ∙ ap (λ (b : Branch). b ∷ drop (k + 1) branches) (sym is) in
     record {
-      there = omega (arith, lt, so.some);
+      some = lt;
+      short = omega (arith, i.short);
       front = so.front;
-      back = subst (λ (n : ℕ). NoneBefore at (flat_rows nodes (drop n branches))) (sym same)
-          (subst (λ (bs : List Branch). NoneBefore at (flat_rows nodes bs)) (sym item)
-          (all_past at (rows ++ rest) (InOrder-back (flat_rows nodes (take k branches)) (rows ++ rest) ordered)
-          (ap (λ (p : List ℕ). comes_before p at) (first-append rows rest filled ∙ sym value) ∙ e)));
+      here = so.here;
+      back = subst (NoneBefore at) (from-there w nodes branches k branch i)
+          (all_past at (rows ++ rest) (InOrder-back (flat_rows nodes (take k branches)) (rows ++ rest) (parted w nodes branches k branch i)) (first-there w nodes branches at k branch false i e));
     }
 
-pub chosen-last : {L : Type 0} (nodes : List (Shape L)) (branches : List Branch) (at : List ℕ) (k : ℕ) → ChosenSoFar nodes branches at k → length branches ≤ k → IsChosen nodes branches at (length branches - 1)
-chosen-last {L} nodes branches at k so le =
-    let same : k ≡ length branches = omega (arith, so.short, le) in
-    let none : drop ((length branches - 1) + 1) branches ≡ [] = drop_all ((length branches - 1) + 1) branches (omega (arith, so.some, same)) in
-    record {
-      there = omega (arith, so.some, same);
-      front = subst (λ (n : ℕ). AllBefore at (flat_rows nodes (take (n - 1) branches))) same so.front;
-      back = subst (λ (bs : List Branch). NoneBefore at (flat_rows nodes bs)) (sym none) (All-nil (λ r. comes_before r.first at ≡ false));
-    }
+pub chosen-found : {L : Type 0} (nodes : List (Shape L)) (branches : List Branch) (at : List ℕ) (low high : ℕ) → ChosenBetween nodes branches at low high → high ≤ low + 1 → IsChosen nodes branches at low
+chosen-found nodes branches at low high so le = record {
+  there = omega (arith, so.some, so.short);
+  front = so.front;
+  back = subst (λ (n : ℕ). NoneBefore at (flat_rows nodes (drop n branches))) (omega (arith, so.some, le)) so.back;
+}

@@ -1,24 +1,31 @@
--- The last row that comes before a place, where rows are gone through from the front on.
-use Rattle.std.proofs.Common.{◌≡◌, ◌≢◌, ℕ, ◌+◌, ◌<◌, true, false, cond, List, [], ◌∷◌, ◌++◌, length, get_or, take, drop, map, refl, ap, ◌∙◌, sym, subst, append-nil, append_assoc, Option, Some, None, Contains, IfSome, IfNone}
-use Rattle.std.specs.List.{All, flat_map}
-use Rattle.std.proofs.lemmas.List.{take_more}
-use Rattle.std.proofs.lemmas.List.Elements.{All-head}
-use Rattle.std.proofs.lemmas.Grind.{flat_map-append}
-use Rattle.tumbler.specs.Places.{IsTumbler, IsUpTo, comes_before, sum}
+-- The last row that comes before a place, where rows are counted and a branch is chosen as they are seen from a base.
+use Rattle.std.proofs.Common.{◌≡◌, ◌≢◌, ◌⊎◌, inl, inr, ℕ, zero, suc, ◌+◌, ◌-◌, ◌<◌, Bool, true, false, cond, List, [], ◌∷◌, ◌++◌, length, get_or, take, drop, map, refl, arith, ap, ◌∙◌, sym, subst, Option, Some, None, Contains}
+use Rattle.std.specs.List.{All}
+use Rattle.std.proofs.lemmas.List.{drop_more}
+use Rattle.std.proofs.lemmas.List.Elements.{All-head, All-tail, All-weaker}
+use Rattle.tumbler.specs.Places.{EndsWell, IsTumbler, IsUpTo, comes_before, sum}
 use Rattle.tumbler.proofs.Alls.{All-back}
 use Rattle.tumbler.proofs.Before.{before_if_true, true_if_before}
 use Rattle.tumbler.proofs.Order.{upto_before}
 use Rattle.enfilade_core.specs.declared.tree.Row.{Row}
 use Rattle.enfilade_core.specs.declared.tree.Branch.{Branch}
-use Rattle.enfilade_core.specs.Rows.{Shape, branch_rows}
-use Rattle.enfilade_core.specs.Axes.{Widths, first_axis, second_axis, InOrder}
-use Rattle.enfilade_core.specs.Right.{origins_table, IsRightPart}
+use Rattle.enfilade_core.specs.Rows.{Shape, Branches, moved, branch_rows, rows_table, rows_of}
+use Rattle.enfilade_core.specs.Axes.{Widths, first_axis, second_axis, InOrder, IsRightRow, IsRightRows}
+use Rattle.enfilade_core.specs.Right.{origins_table, IsRight, IsRightPart}
+use Rattle.enfilade_core.specs.Plain.{plain_row}
 use Rattle.enfilade_core.specs.Edits.{or_else, last_before}
 use Rattle.enfilade_core.specs.Following.{first_place}
-use Rattle.enfilade_core.specs.Exchange.{branch_at}
-use Rattle.enfilade_core.proofs.GoneThrough.{around, MappedAt, mapped_at, item-right}
-use Rattle.enfilade_core.proofs.Nodes.{flat_rows}
-use Rattle.enfilade_core.proofs.Orders.{InOrder-front}
+use Rattle.enfilade_core.specs.Exchange.{rows_before, branch_at, IsChosen}
+use Rattle.enfilade_core.specs.Touched.{IsSeenFrom}
+use Rattle.enfilade_core.proofs.Nodes.{node-parts}
+use Rattle.enfilade_core.proofs.GoneThrough.{around, mapped_at, item-right}
+use Rattle.enfilade_core.proofs.Seen.{rows-moved_twice}
+use Rattle.enfilade_core.proofs.BesideRows.{all_past}
+use Rattle.enfilade_core.proofs.ExchangeLists.{NoneBefore, before-none}
+use Rattle.enfilade_core.proofs.ExchangeGrown.{flat_rows, flat-around}
+use Rattle.enfilade_core.proofs.ExchangeBottom.{count-short, count-plain}
+use Rattle.enfilade_core.proofs.ExchangeChosen.{first-append, filled-append}
+use Rattle.enfilade_core.proofs.SeenPlaces.{flat-moved}
 
 -- ---- rows behind others
 
@@ -30,6 +37,11 @@ before-front at (row ∷ rows) more none = ap (λ (o : Option (Row _)). cond (co
 none-before : {L : Type 0} (at : List ℕ) (rows more : List (Row L)) → rows ≢ [] → comes_before (first_place rows) at ≡ false → last_before at (rows ++ more) ≡ None
 none-before at [] more some past = absurd (some refl)
 none-before at (row ∷ rows) more some past = rw past refl
+
+-- where none of all rows comes before the place, there is no last one
+none-past : {L : Type 0} (at : List ℕ) (rows : List (Row L)) → NoneBefore at rows → last_before at rows ≡ None
+none-past at [] past = refl
+none-past {L} at (row ∷ rows) past = rw (All-head (λ (r : Row L). comes_before r.first at ≡ false) row rows past) refl
 
 or_else-twice : {L : Type 0} (o : Option (Row L)) (a b : Row L) → or_else (or_else o a) b ≡ or_else o a
 or_else-twice (Some x) a b = refl
@@ -56,90 +68,158 @@ before-back {L} at (row ∷ rows) more ordered some before =
     let own : comes_before row.first at ≡ true = true_if_before row.first at (upto_before row.first (first_place more) at up (before_if_true (first_place more) at before)) in
     first-found at row (rows ++ more) own ∙ ap (λ (o : Option (Row L)). or_else o row) (before-back at rows more ordered.1 some before) ∙ keeps at more row some before
 
--- ---- items that have rows
+-- ---- rows that are counted
 
-rows-around : {L A : Type 0} (f : A → List (Row L)) (xs : List A) (i : ℕ) (x : A) → i < length xs → x ≡ get_or xs i x → flat_map f xs ≡ flat_map f (take i xs) ++ (f x ++ flat_map f (drop (i + 1) xs))
-rows-around f xs i x lt item = ap (flat_map f) (around xs i x lt item) ∙ flat_map-append f (take i xs) (x ∷ drop (i + 1) xs)
+counted-more : {L : Type 0} (at : List ℕ) (row : Row L) (rows : List (Row L)) → comes_before row.first at ≡ true → length (rows_before at (row ∷ rows)) ≡ suc (length (rows_before at rows))
+counted-more at row rows before = rw before refl
 
-rows-next : {L A : Type 0} (f : A → List (Row L)) (xs : List A) (i : ℕ) (x : A) → i < length xs → x ≡ get_or xs i x → flat_map f (take (i + 1) xs) ≡ flat_map f (take i xs) ++ f x
-rows-next f xs i x lt item =
-    ap (flat_map f) (take_more xs i x lt ∙ ap (λ (y : _). take i xs ++ y ∷ []) (sym item)) ∙ flat_map-append f (take i xs) (x ∷ []) ∙ ap (λ (r : List (Row _)). flat_map f (take i xs) ++ r) (append-nil (f x))
+none-counted : {L : Type 0} (at : List ℕ) (rows : List (Row L)) → length (rows_before at rows) ≡ 0 → last_before at rows ≡ None
+none-counted at [] e = refl
+none-counted at (row ∷ rows) e = elim (comes_before row.first at) as (λ b. comes_before row.first at ≡ b → last_before at (row ∷ rows) ≡ None) [
+  | true ↦ λ before. absurd (omega (arith, e, counted-more at row rows before))
+  | false ↦ λ past. rw past refl
+] refl
 
-pub next-found : {L A : Type 0} (f : A → List (Row L)) (at : List ℕ) (xs : List A) (i : ℕ) (x : A) → i < length xs → x ≡ get_or xs i x → InOrder (flat_map f xs) → f x ≢ [] → comes_before (first_place (f x)) at ≡ true → last_before at (flat_map f (take (i + 1) xs)) ≡ last_before at (f x)
-next-found {L} f at xs i x lt item ordered some before =
-    let front = flat_map f (take i xs) in
-    let more = flat_map f (drop (i + 1) xs) in
-    let whole : flat_map f xs ≡ (front ++ f x) ++ more = rows-around f xs i x lt item ∙ sym (append_assoc front (f x) more) in
-    ap (last_before at) (rows-next f xs i x lt item) ∙ before-back at front (f x) (InOrder-front (front ++ f x) more (subst InOrder whole ordered)) some before
+-- row n of some in order, where as many come before the place and one more
+abbrev CountedAt : {L : Type 0} → List ℕ → List (Row L) → Row L → ℕ → Type 0
+CountedAt at rows row n = length (rows_before at rows) ≡ suc n → row ≡ get_or rows n row → last_before at rows ≡ Some row
 
-pub past-found : {L A : Type 0} (f : A → List (Row L)) (at : List ℕ) (xs : List A) (i : ℕ) (x : A) → i < length xs → x ≡ get_or xs i x → f x ≢ [] → comes_before (first_place (f x)) at ≡ false → last_before at (flat_map f xs) ≡ last_before at (flat_map f (take i xs))
-past-found f at xs i x lt item some past =
-    let front = flat_map f (take i xs) in
-    let more = flat_map f (drop (i + 1) xs) in
-    ap (last_before at) (rows-around f xs i x lt item) ∙ before-front at front (f x ++ more) (none-before at (f x) more some past)
+one-counted : {L : Type 0} (at : List ℕ) (first row : Row L) (rows : List (Row L)) (n : ℕ) → ((m : ℕ) → CountedAt at rows row m) → length (rows_before at rows) ≡ n → row ≡ get_or (first ∷ rows) n row → or_else (last_before at rows) first ≡ Some row
+one-counted at first row rows zero rest e is = ap (λ (o : Option (Row _)). or_else o first) (none-counted at rows e) ∙ ap (λ (r : Row _). Some r) (sym is)
+one-counted at first row rows (suc m) rest e is = ap (λ (o : Option (Row _)). or_else o first) (rest m e is)
 
--- ---- rows themselves
+last-counted : {L : Type 0} (at : List ℕ) (rows : List (Row L)) (row : Row L) → InOrder rows → (n : ℕ) → CountedAt at rows row n
+last-counted at [] row ordered n e is = absurd (omega (arith, e))
+last-counted at (first ∷ rows) row ordered n e is = elim (comes_before first.first at) as (λ b. comes_before first.first at ≡ b → last_before at (first ∷ rows) ≡ Some row) [
+  | true ↦ λ before. first-found at first rows before ∙ one-counted at first row rows n (last-counted at rows row ordered.1) (omega (arith, e, counted-more at first rows before)) is
+  | false ↦ λ past. absurd (omega (arith, e, ap length (before-none at (first ∷ rows) (all_past at (first ∷ rows) ordered past))))
+] refl
 
-pub next-row : {L : Type 0} (at : List ℕ) (rows : List (Row L)) (i : ℕ) (row : Row L) → i < length rows → row ≡ get_or rows i row → InOrder rows → comes_before row.first at ≡ true → last_before at (take (i + 1) rows) ≡ Some row
-next-row at rows i row lt item ordered before =
-    ap (last_before at) (sym (flat_rows (take (i + 1) rows))) ∙ next-found (λ r. r ∷ []) at rows i row lt item (subst InOrder (sym (flat_rows rows)) ordered) (λ q. cc) before ∙ first-found at row [] before
+-- ---- rows as they are seen from a base
 
-pub past-row : {L : Type 0} (at : List ℕ) (rows : List (Row L)) (i : ℕ) (row : Row L) → i < length rows → row ≡ get_or rows i row → comes_before row.first at ≡ false → last_before at rows ≡ last_before at (take i rows)
-past-row at rows i row lt item past =
-    ap (last_before at) (sym (flat_rows rows)) ∙ past-found (λ r. r ∷ []) at rows i row lt item (λ q. cc) past ∙ ap (last_before at) (flat_rows (take i rows))
+abbrev moved_if : {L : Type 0} → List ℕ → List ℕ → Option (Row L) → Option (Row L)
+moved_if a b (Some row) = Some (moved a b row)
+moved_if a b None = None
 
--- item i, mapped twice
-pub seen-row : {A B C : Type 0} (f : A → B) (g : B → C) (xs : List A) (i : ℕ) (x : A) → i < length xs → x ≡ get_or xs i x → MappedAt g (map f xs) i (f x)
-seen-row f g xs i x lt item =
-    let one = mapped_at f xs i x lt item in
-    mapped_at g (map f xs) i (f x) one.short one.at
+stands-seen : (at base seen place : List ℕ) → IsSeenFrom at base seen → EndsWell place → comes_before (sum base place) at ≡ comes_before place seen
+stands-seen at base seen place s ends = elim (comes_before place seen) as (λ b. comes_before place seen ≡ b → comes_before (sum base place) at ≡ comes_before place seen) [
+  | true ↦ λ e. s.before place e ∙ sym e
+  | false ↦ λ e. s.past place ends e ∙ sym e
+] refl
 
--- what is found so far, as the rows' own
-abbrev pub FoundIs : {L F : Type 0} → (F → Row L) → Option F → Option (Row L) → Type 0
-FoundIs as_row (Some found) last = last ≡ Some (as_row found)
-FoundIs as_row None last = last ≡ None
+or_else-moved : {L : Type 0} (a b : List ℕ) (t : Bool) (o : Option (Row L)) (row : Row L) → cond t (or_else (moved_if a b o) (moved a b row)) None ≡ moved_if a b (cond t (or_else o row) None)
+or_else-moved a b true (Some x) row = refl
+or_else-moved a b true None row = refl
+or_else-moved a b false o row = refl
 
-pub found-some : {L F : Type 0} (as_row : F → Row L) (found : Option F) (last whole : Option (Row L)) → FoundIs as_row found last → whole ≡ last → IfSome found (λ f. whole ≡ Some (as_row f))
-found-some as_row (Some found) last whole h is = is ∙ h
-found-some as_row None last whole h is = tt
+-- the last one is the last one that comes before the place as it is seen, moved
+last-seen : {L : Type 0} (at a b seen : List ℕ) (rows : List (Row L)) → IsSeenFrom at a seen → All (λ (r : Row L). EndsWell r.first) rows → last_before at (map (moved a b) rows) ≡ moved_if a b (last_before seen rows)
+last-seen at a b seen [] s ends = refl
+last-seen {L} at a b seen (row ∷ rows) s ends =
+    let P : Row L → Type 0 = λ r. EndsWell r.first in
+    ap (λ (t : Bool). cond t (or_else (last_before at (map (moved a b) rows)) (moved a b row)) None) (stands-seen at a seen row.first s (All-head P row rows ends))
+    ∙ ap (λ (o : Option (Row L)). cond (comes_before row.first seen) (or_else o (moved a b row)) None) (last-seen at a b seen rows s (All-tail P row rows ends))
+    ∙ or_else-moved a b (comes_before row.first seen) (last_before seen rows) row
 
-pub found-none : {L F : Type 0} (as_row : F → Row L) (found : Option F) (last whole : Option (Row L)) → FoundIs as_row found last → whole ≡ last → IfNone found (whole ≡ None)
-found-none as_row (Some found) last whole h is = tt
-found-none as_row None last whole h is = is ∙ h
+all-end : {L : Type 0} (w : Widths L) (rows : List (Row L)) → All (IsRightRow w) rows → All (λ (r : Row L). EndsWell r.first) rows
+all-end {L} w rows right = All-weaker (IsRightRow w) (λ (r : Row L). EndsWell r.first) (λ r h. h.first_place.ends) rows right
 
--- ---- branches
+-- ---- rows of a bottom node
 
--- the last branch so far that has a row before the place is one of all, and has the last such row
-abbrev pub BranchIs : {L : Type 0} → List (List (Row L)) → List ℕ → List Branch → Option Branch → Option (Row L) → Type 0
-BranchIs told at branches (Some found) last = Contains branches found × (last ≡ last_before at (branch_rows told found))
-BranchIs told at branches None last = last ≡ None
+pub row-short : {L : Type 0} (at : List ℕ) (rows : List (Row L)) (n : ℕ) → n ≡ length (rows_before at rows) → n ≢ 0 → n - 1 < length rows
+row-short at rows n is some = omega (arith, is, some, count-short at rows)
 
-pub branch-some : {L : Type 0} (told : List (List (Row L))) (at : List ℕ) (branches : List Branch) (found : Option Branch) (last whole : Option (Row L)) → BranchIs told at branches found last → whole ≡ last → IfSome found (λ branch. whole ≡ last_before at (branch_rows told branch))
-branch-some told at branches (Some found) last whole h is = is ∙ h.1
-branch-some told at branches None last whole h is = tt
+pub row-found : {L : Type 0} (plain : L → L) (w : Widths L) (at a b seen : List ℕ) (rows : List (Row L)) (n : ℕ) (row : Row L) → IsSeenFrom at a seen → IsRightRows w (map (plain_row plain) rows) → n ≡ length (rows_before seen rows) → n ≢ 0 → row ≡ get_or rows (n - 1) row
+    → last_before at (map (moved a b) (map (plain_row plain) rows)) ≡ Some (moved a b (plain_row plain row))
+row-found plain w at a b seen rows n row s right is some item =
+    let own = map (plain_row plain) rows in
+    let there = mapped_at (plain_row plain) rows (n - 1) row (row-short seen rows n is some) item in
+    last-seen at a b seen own s (all-end w own right.each)
+    ∙ ap (moved_if a b) (last-counted seen own (plain_row plain row) right.ordered (n - 1) (omega (arith, is, some, count-plain plain seen rows)) there.at)
 
-pub branch-one : {L : Type 0} (told : List (List (Row L))) (at : List ℕ) (branches : List Branch) (found : Option Branch) (last : Option (Row L)) → BranchIs told at branches found last → IfSome found (λ branch. Contains branches branch)
-branch-one told at branches (Some found) last h = h.0
-branch-one told at branches None last h = tt
+pub no-row : {L : Type 0} (plain : L → L) (w : Widths L) (at a b seen : List ℕ) (rows : List (Row L)) (n : ℕ) → IsSeenFrom at a seen → IsRightRows w (map (plain_row plain) rows) → n ≡ length (rows_before seen rows) → n ≡ 0
+    → last_before at (map (moved a b) (map (plain_row plain) rows)) ≡ None
+no-row plain w at a b seen rows n s right is none =
+    let own = map (plain_row plain) rows in
+    last-seen at a b seen own s (all-end w own right.each) ∙ ap (moved_if a b) (none-counted seen own (omega (arith, is, none, count-plain plain seen rows)))
 
-pub branch-none : {L : Type 0} (told : List (List (Row L))) (at : List ℕ) (branches : List Branch) (found : Option Branch) (last whole : Option (Row L)) → BranchIs told at branches found last → whole ≡ last → IfNone found (whole ≡ None)
-branch-none told at branches (Some found) last whole h is = tt
-branch-none told at branches None last whole h is = is ∙ h
+-- ---- branches of an inner node
 
--- branch i of a node, moved to where it stands
-pub record SeenBranch {L : Type 0} (w : Widths L) (nodes : List (Shape L)) (branches : List Branch) (i : ℕ) (branch : Branch) : Type 0 where
-  pub short : i < length branches
-  pub item : branch ≡ get_or branches i branch
-  pub part : IsRightPart w nodes branch
+-- the branch that was chosen for a place as it is seen from the node
+pub record ChosenSeen {L : Type 0} (w : Widths L) (nodes : List (Shape L)) (branches : List Branch) (seen : List ℕ) (k : ℕ) (branch : Branch) : Type 0 where
+  pub right : IsRight w nodes (Branches branches)
+  pub chosen : IsChosen nodes branches seen k
+  pub here : (k ≡ 0) ⊎ (comes_before (first_place (flat_rows nodes (drop k branches))) seen ≡ true)
+  pub item : branch ≡ get_or branches k branch
+  pub some : branch_rows (rows_table nodes) branch ≢ []
 
-pub seen-branch : {L : Type 0} (w : Widths L) (nodes : List (Shape L)) (a b : List ℕ) (branches : List Branch) (i : ℕ) (item branch : Branch) → i < length branches → item ≡ get_or branches i item → branch ≡ branch_at a b item → All (IsRightPart w nodes) (map (branch_at a b) branches) → SeenBranch w nodes (map (branch_at a b) branches) i branch
-seen-branch w nodes a b branches i item branch lt at is parts =
-    let m = mapped_at (branch_at a b) branches i item lt at in
-    subst (SeenBranch w nodes (map (branch_at a b) branches) i) (sym is) record { short = m.short; item = m.at; part = item-right (IsRightPart w nodes) (map (branch_at a b) branches) i (branch_at a b item) m.short m.at parts }
+parted : {L : Type 0} (w : Widths L) (nodes : List (Shape L)) (branches : List Branch) (seen : List ℕ) (k : ℕ) (branch : Branch) → ChosenSeen w nodes branches seen k branch
+    → flat_rows nodes branches ≡ flat_rows nodes (take k branches) ++ (branch_rows (rows_table nodes) branch ++ flat_rows nodes (drop (k + 1) branches))
+parted w nodes branches seen k branch c = flat-around nodes branches k branch (around branches k branch c.chosen.there c.item)
 
+last-own : {L : Type 0} (w : Widths L) (nodes : List (Shape L)) (branches : List Branch) (seen : List ℕ) (k : ℕ) (branch : Branch) → ChosenSeen w nodes branches seen k branch → comes_before (first_place (branch_rows (rows_table nodes) branch)) seen ≡ true
+    → last_before seen (flat_rows nodes branches) ≡ last_before seen (branch_rows (rows_table nodes) branch)
+last-own w nodes branches seen k branch c before =
+    let rows = branch_rows (rows_table nodes) branch in
+    let front = flat_rows nodes (take k branches) in
+    let rest = flat_rows nodes (drop (k + 1) branches) in
+    let whole = parted w nodes branches seen k branch c in
+    ap (last_before seen) whole
+    ∙ before-back seen front (rows ++ rest) (subst InOrder whole c.right.ordered) (filled-append rows rest c.some) (ap (λ (p : List ℕ). comes_before p seen) (first-append rows rest c.some) ∙ before)
+    ∙ before-front seen rows rest (none-past seen rest c.chosen.back)
+
+none-own : {L : Type 0} (w : Widths L) (nodes : List (Shape L)) (branches : List Branch) (seen : List ℕ) (k : ℕ) (branch : Branch) → ChosenSeen w nodes branches seen k branch → comes_before (first_place (branch_rows (rows_table nodes) branch)) seen ≡ false
+    → last_before seen (flat_rows nodes branches) ≡ None
+none-own {L} w nodes branches seen k branch c past =
+    let rows = branch_rows (rows_table nodes) branch in
+    let rest = flat_rows nodes (drop (k + 1) branches) in
+    let item : drop k branches ≡ branch ∷ drop (k + 1) branches = drop_more branches k branch c.chosen.there ∙ ap (λ (b : Branch). b ∷ drop (k + 1) branches) (sym c.item) in
+    let past_here : comes_before (first_place (flat_rows nodes (drop k branches))) seen ≡ false =
+    ap (λ (bs : List Branch). comes_before (first_place (flat_rows nodes bs)) seen) item ∙ ap (λ (p : List ℕ). comes_before p seen) (first-append rows rest c.some) ∙ past in
+    elim c.here [
+      | inl start ↦ ap (last_before seen) (parted w nodes branches seen k branch c ∙ ap (λ (n : ℕ). flat_rows nodes (take n branches) ++ (rows ++ rest)) start) ∙ none-before seen rows rest c.some past
+      | inr before ↦ absurd (true_not_false _ before past_here)
+    ]
+  where
+    true_not_false : (t : Bool) → t ≡ true → t ≡ false → ⊥
+    true_not_false true e f = cc
+    true_not_false false e f = cc
+
+own-end : {L : Type 0} (w : Widths L) (nodes : List (Shape L)) (branches : List Branch) → IsRight w nodes (Branches branches) → All (λ (r : Row L). EndsWell r.first) (flat_rows nodes branches)
+own-end w nodes branches right = all-end w (flat_rows nodes branches) right.rows
+
+branch-end : {L : Type 0} (w : Widths L) (nodes : List (Shape L)) (branches : List Branch) (seen : List ℕ) (k : ℕ) (branch : Branch) → ChosenSeen w nodes branches seen k branch → All (λ (r : Row L). EndsWell r.first) (branch_rows (rows_table nodes) branch)
+branch-end w nodes branches seen k branch c =
+    all-end w (branch_rows (rows_table nodes) branch) (item-right (IsRightPart w nodes) branches k branch c.chosen.there c.item (node-parts w nodes branches c.right)).rows
+
+-- the last row of all is that of the branch that was chosen, where it has a row before the place
+pub branch-found : {L : Type 0} (w : Widths L) (nodes : List (Shape L)) (at a b seen : List ℕ) (branches : List Branch) (k : ℕ) (branch : Branch) → IsSeenFrom at a seen → ChosenSeen w nodes branches seen k branch → comes_before (first_place (branch_rows (rows_table nodes) branch)) seen ≡ true
+    → last_before at (flat_rows nodes (map (branch_at a b) branches)) ≡ last_before at (branch_rows (rows_table nodes) (branch_at a b branch))
+branch-found w nodes at a b seen branches k branch s c before =
+    ap (last_before at) (flat-moved nodes a b branches)
+    ∙ last-seen at a b seen (flat_rows nodes branches) s (own-end w nodes branches c.right)
+    ∙ ap (moved_if a b) (last-own w nodes branches seen k branch c before)
+    ∙ sym (last-seen at a b seen (branch_rows (rows_table nodes) branch) s (branch-end w nodes branches seen k branch c))
+    ∙ ap (last_before at) (rows-moved_twice a b branch.first branch.second (rows_of nodes branch.node.0))
+
+pub no-branch : {L : Type 0} (w : Widths L) (nodes : List (Shape L)) (at a b seen : List ℕ) (branches : List Branch) (k : ℕ) (branch : Branch) → IsSeenFrom at a seen → ChosenSeen w nodes branches seen k branch → comes_before (first_place (branch_rows (rows_table nodes) branch)) seen ≡ false
+    → last_before at (flat_rows nodes (map (branch_at a b) branches)) ≡ None
+no-branch w nodes at a b seen branches k branch s c past =
+    ap (last_before at) (flat-moved nodes a b branches)
+    ∙ last-seen at a b seen (flat_rows nodes branches) s (own-end w nodes branches c.right)
+    ∙ ap (moved_if a b) (none-own w nodes branches seen k branch c past)
+
+-- the branch that was chosen is one of those, where it stands
+pub one-moved : (a b : List ℕ) (branches : List Branch) (k : ℕ) (branch : Branch) → k < length branches → branch ≡ get_or branches k branch → Contains (map (branch_at a b) branches) (branch_at a b branch)
+one-moved a b branches k branch lt item =
+    let m = mapped_at (branch_at a b) branches k branch lt item in
+    (k, m.short, sym m.at)
+
+-- a branch fits where it is moved to
 pub moved-fits : {L : Type 0} (w : Widths L) (nodes : List (Shape L)) (a b : List ℕ) (branches : List Branch) (i : ℕ) (item : Branch) → i < length branches → item ≡ get_or branches i item → All (IsRightPart w nodes) (map (branch_at a b) branches) → IsTumbler (sum a item.first) × IsTumbler (sum b item.second)
 moved-fits w nodes a b branches i item lt at parts =
-    let part = (seen-branch w nodes a b branches i item (branch_at a b item) lt at refl parts).part in
+    let m = mapped_at (branch_at a b) branches i item lt at in
+    let part = item-right (IsRightPart w nodes) (map (branch_at a b) branches) i (branch_at a b item) m.short m.at parts in
     let first = map (sum (sum a item.first)) (get_or (origins_table (first_axis w) nodes) item.node.0 []) in
     let second = map (sum (sum b item.second)) (get_or (origins_table (second_axis w) nodes) item.node.0 []) in
     (All-head IsTumbler (sum a item.first) first part.first_origins, All-head IsTumbler (sum b item.second) second part.second_origins)

@@ -1,59 +1,83 @@
 -- The last row below a node that comes before a place, by the node's children.
-use Rattle.std.proofs.Common.{◌≡◌, ℕ, ◌<◌, List, map, refl, ap, ◌∙◌, sym, subst, Option, Some, None, Contains, IfSome, IfNone}
+use Rattle.std.proofs.Common.{◌≡◌, ℕ, ◌+◌, ◌<◌, List, map, min, refl, arith, ap, ◌∙◌, sym, subst, Option, Some, None, Contains, IfSome, IfNone, length}
 use Rattle.std.specs.List.{All, flat_map}
 use Rattle.std.proofs.lemmas.List.Elements.{All-contains}
 use Rattle.enfilade_core.specs.declared.tree.Row.{Row}
 use Rattle.enfilade_core.specs.declared.tree.Branch.{Branch}
 use Rattle.enfilade_core.specs.Rows.{Shape, Rows, Branches, moved, branch_rows, rows_table, rows_of, node_at}
-use Rattle.enfilade_core.specs.Axes.{Widths, InOrder, IsRightRow}
-use Rattle.enfilade_core.specs.Right.{AreRight, IsRightPart}
+use Rattle.enfilade_core.specs.Axes.{Widths, IsRightRow, IsRightRows}
+use Rattle.enfilade_core.specs.Right.{IsRight, AreRight, IsRightPart}
 use Rattle.enfilade_core.specs.Edits.{last_before}
-use Rattle.enfilade_core.specs.Exchange.{IsRightAt, branch_at}
-use Rattle.enfilade_core.proofs.OpenedAt.{at-of_part, ordered-at, rows-at, bottom-fits, rows-moved, inner-opened}
+use Rattle.enfilade_core.specs.declared.summary.Summary.{Summary}
+use Rattle.enfilade_core.specs.Summary.{height_of, no_summary, summary_in, summaries}
+use Rattle.enfilade_core.specs.Exchange.{IsRightAt, IsOpened, branch_at}
+use Rattle.enfilade_core.proofs.Parts.{right-now, summary-said}
+use Rattle.enfilade_core.proofs.Heights.{rows_height}
+use Rattle.enfilade_core.proofs.ExchangeNodes.{level-height}
+use Rattle.enfilade_core.proofs.OpenedAt.{at-of_part, rows-at, bottom-fits, rows-moved, inner-opened}
 use Rattle.enfilade_core.proofs.WalkedRows.{parts-at}
 
 -- ---- a bottom node
 
 pub record BottomSeen {L : Type 0} (w : Widths L) (nodes : List (Shape L)) (k : ℕ) (a b : List ℕ) (rows : List (Row L)) : Type 0 where
+  pub own : IsRightRows w rows
   pub right : All (IsRightRow w) (map (moved a b) rows)
-  pub ordered : InOrder (map (moved a b) rows)
   pub same : map (moved a b) (rows_of nodes k) ≡ map (moved a b) rows
+  pub level : height_of w nodes k ≡ 0
+
+bottom-level : {L : Type 0} (w : Widths L) (nodes : List (Shape L)) (k : ℕ) (rows : List (Row L)) → AreRight w nodes → k < length nodes → node_at nodes k ≡ Rows rows → height_of w nodes k ≡ 0
+bottom-level {L} w nodes k rows right lt is =
+    ap (λ (s : Summary). s.height) (summary-said w nodes k right lt) ∙ ap (λ (node : Shape L). (summary_in w (summaries w nodes) node).height) is ∙ rows_height w rows no_summary refl
 
 pub bottom-seen : {L : Type 0} (w : Widths L) (nodes : List (Shape L)) (k : ℕ) (a b : List ℕ) (rows : List (Row L)) → AreRight w nodes → IsRightAt w nodes k a b → node_at nodes k ≡ Rows rows → BottomSeen w nodes k a b rows
 bottom-seen w nodes k a b rows right at is =
-    let said = rows-at w nodes k a b rows right at is in
+    let now = subst (IsRight w nodes) is (right-now w nodes k right at.below) in
     record {
+      own = record { each = now.rows; ordered = now.ordered };
       right = bottom-fits w nodes k a b rows right at is;
-      ordered = subst (λ rs. InOrder (map (moved a b) rs)) said (ordered-at w nodes k a b right at.below);
-      same = ap (map (moved a b)) said;
+      same = ap (map (moved a b)) (rows-at w nodes k a b rows right at is);
+      level = bottom-level w nodes k rows right at.below is;
     }
 
 -- ---- an inner node
 
 pub record InnerSeen {L : Type 0} (w : Widths L) (nodes : List (Shape L)) (k : ℕ) (a b : List ℕ) (branches : List Branch) : Type 0 where
+  pub right : IsRight w nodes (Branches branches)
   pub parts : All (IsRightPart w nodes) (map (branch_at a b) branches)
   pub named : All (λ (branch : Branch). branch.node.0 < k) (map (branch_at a b) branches)
-  pub ordered : InOrder (flat_map (branch_rows (rows_table nodes)) (map (branch_at a b) branches))
   pub same : map (moved a b) (rows_of nodes k) ≡ flat_map (branch_rows (rows_table nodes)) (map (branch_at a b) branches)
+  pub opened : IsOpened w nodes k a b (Branches (map (branch_at a b) branches))
 
 pub inner-seen : {L : Type 0} (w : Widths L) (nodes : List (Shape L)) (k : ℕ) (a b : List ℕ) (branches : List Branch) → AreRight w nodes → IsRightAt w nodes k a b → node_at nodes k ≡ Branches branches → InnerSeen w nodes k a b branches
 inner-seen w nodes k a b branches right at is =
-    let same = rows-moved w nodes k a b branches right at.below is in
     record {
+      right = subst (IsRight w nodes) is (right-now w nodes k right at.below);
       parts = parts-at w nodes k a b branches right at is;
       named = (inner-opened w nodes k a b branches (map (branch_at a b) branches) right at is refl).named;
-      ordered = subst InOrder (sym same) (ordered-at w nodes k a b right at.below);
-      same = sym same;
+      same = sym (rows-moved w nodes k a b branches right at.below is);
+      opened = inner-opened w nodes k a b branches (map (branch_at a b) branches) right at is refl;
     }
 
 pub record OneBelow {L : Type 0} (w : Widths L) (nodes : List (Shape L)) (k : ℕ) (branch : Branch) : Type 0 where
   pub lower : branch.node.0 < k
   pub at : IsRightAt w nodes branch.node.0 branch.first branch.second
+  pub level : height_of w nodes k ≡ height_of w nodes branch.node.0 + 1
+
+level-of_one : {L : Type 0} (w : Widths L) (nodes : List (Shape L)) (k : ℕ) (a b : List ℕ) (all : List Branch) (branch : Branch) → IsOpened w nodes k a b (Branches all) → Contains all branch → height_of w nodes k ≡ height_of w nodes branch.node.0 + 1
+level-of_one w nodes k a b all branch opened one =
+    let height = opened.right.branches.height in
+    omega (
+      arith,
+      opened.level,
+      level-height w nodes height all opened.right.branches.some opened.right.branches.level,
+      All-contains (λ (x : Branch). height_of w nodes x.node.0 ≡ height) all branch opened.right.branches.level one,
+    )
 
 pub one-below : {L : Type 0} (w : Widths L) (nodes : List (Shape L)) (k : ℕ) (a b : List ℕ) (branches : List Branch) (branch : Branch) → InnerSeen w nodes k a b branches → Contains (map (branch_at a b) branches) branch → OneBelow w nodes k branch
 one-below w nodes k a b branches branch seen one = record {
   lower = All-contains (λ (x : Branch). x.node.0 < k) (map (branch_at a b) branches) branch seen.named one;
   at = at-of_part w nodes branch (All-contains (IsRightPart w nodes) (map (branch_at a b) branches) branch seen.parts one);
+  level = level-of_one w nodes k a b (map (branch_at a b) branches) branch seen.opened one;
 }
 
 -- ---- what was found in the same rows
@@ -68,3 +92,13 @@ some-in as_row None last whole is h = tt
 pub none-in : {L F : Type 0} (result : Option F) (last whole : Option (Row L)) → whole ≡ last → IfNone result (last ≡ None) → IfNone result (whole ≡ None)
 none-in (Some f) last whole is h = tt
 none-in None last whole is h = is ∙ h
+
+-- ---- how many nodes were opened
+
+pub visits-in_bottom : {F : Type 0} (visits_of : F → ℕ) (result : Option F) (above opened height : ℕ) → opened ≡ min (above + 1) 4294967295 → height ≡ 0 → IfSome result (λ f. visits_of f ≡ opened) → IfSome result (λ f. visits_of f ≡ min (above + height + 1) 4294967295)
+visits-in_bottom visits_of (Some f) above opened height is level h = omega (arith, is, level, h)
+visits-in_bottom visits_of None above opened height is level h = tt
+
+pub visits-in_inner : {F : Type 0} (visits_of : F → ℕ) (result : Option F) (above opened height below : ℕ) → opened ≡ min (above + 1) 4294967295 → height ≡ below + 1 → IfSome result (λ f. visits_of f ≡ min (opened + below + 1) 4294967295) → IfSome result (λ f. visits_of f ≡ min (above + height + 1) 4294967295)
+visits-in_inner visits_of (Some f) above opened height below is level h = omega (arith, is, level, h)
+visits-in_inner visits_of None above opened height below is level h = tt

@@ -1,5 +1,6 @@
 //! Where a branch stands beside a gap, and branches that move as a whole.
 ghost use Rattle.std.specs.Prelude.{◌≡◌, ◌≢◌, [], All, IfSome};
+ghost use Rattle.tumbler.specs.Places.{comes_before};
 ghost use Rattle.enfilade_core.specs.Rows.{branch_rows, rows_table};
 ghost use Rattle.enfilade_core.specs.Axes.{InOrder, IsRightRow};
 ghost use Rattle.enfilade_core.specs.Right.{IsRightPart};
@@ -38,6 +39,19 @@ impl<P: Plane> Arena<P> {
     {
         let summary = self.summary(branch.node);
         branch.first.add(&summary.first)
+    }
+
+    /// Whether a branch has a row before a place. It looks at the branch's node only where it has to.
+    pub(crate) fn starts_before(&self, branch: &Branch, at: &Tumbler) -> bool
+        requires part { IsRightPart P.widths self.now branch.now }
+        ensures value { result ≡ comes_before (first_place (branch_rows (rows_table self.now) branch.now)) at.now }
+        ensures some { branch_rows (rows_table self.now) branch.now ≢ [] }
+    {
+        let _right = self.allocator();
+        if !branch.first.is_before(at) {
+            return false;
+        }
+        self.first_of(branch).is_before(at)
     }
 
     /// Where the last row of a branch stands on the first axis.

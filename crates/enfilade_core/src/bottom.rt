@@ -3,7 +3,7 @@ ghost use Rattle.std.specs.Prelude.{◌≡◌, ◌≢◌, ◌⊎◌, ◌<◌, �
 ghost use Rattle.tumbler.specs.Places.{IsUpTo, IsTumbler, Fits, comes_before, sum};
 ghost use Rattle.tumbler.specs.Laws.{StandsBefore};
 ghost use Rattle.enfilade_core.specs.Rows.{moved, branch_rows, rows_table, node_at};
-ghost use Rattle.enfilade_core.specs.Axes.{IsRightRow, IsRightRows};
+ghost use Rattle.enfilade_core.specs.Axes.{InOrder, IsRightRow, IsRightRows};
 ghost use Rattle.enfilade_core.specs.Right.{IsRightPart};
 ghost use Rattle.enfilade_core.specs.Summary.{height_of};
 ghost use Rattle.enfilade_core.specs.Plain.{plain_row};
@@ -171,6 +171,7 @@ fn rows_kept<P: Plane>(
     requires up_to { IsUpTo gap.now.from gap.now.to }
     requires keeps { KeepsOrigin first.now second.now gap.now rows.now }
     requires own { All (IsRightRow P.widths) (map (plain_row P.plain) old.now) }
+    requires ordered { InOrder (map (plain_row P.plain) old.now) }
     requires there { IsRightRows P.widths (map (moved first.now second.now) (map (plain_row P.plain) old.now)) }
     requires right { All (IsRightRow P.widths) (exchanged gap.now (map (plain_row P.plain) rows.now) (map (moved first.now second.now) (map (plain_row P.plain) old.now))) }
     ensures rows { IfOk result (λ made. map (plain_row P.plain) made.items ≡ map (back first.now second.now) (exchanged gap.now (map (plain_row P.plain) rows.now) (map (moved first.now second.now) (map (plain_row P.plain) old.now)))) }

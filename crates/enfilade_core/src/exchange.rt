@@ -1,5 +1,5 @@
 //! What stands in a gap of a tree is exchanged.
-ghost use Rattle.std.specs.Prelude.{ℕ, List as ListOf, ◌≡◌, ◌≢◌, ◌+◌, ◌<◌, ◌≤◌, [], ◌∷◌, ◌++◌, map, drop, take, length, All, IsTrue, IfOk, IfSome, IfNone, OnOk, false, true};
+ghost use Rattle.std.specs.Prelude.{ℕ, List as ListOf, ◌≡◌, ◌≢◌, ◌⊎◌, ◌+◌, ◌<◌, ◌≤◌, [], ◌∷◌, ◌++◌, map, drop, take, length, All, IsTrue, IfOk, IfSome, IfNone, OnOk, false, true};
 ghost use Rattle.tumbler.specs.Places.{IsUpTo, IsTumbler, comes_before};
 ghost use Rattle.enfilade_core.specs.Rows.{Rows, Branches, moved, branch_rows, rows_in, rows_table, rows_of, node_at};
 ghost use Rattle.enfilade_core.specs.Touched.{IsInner, IsBottom, branches_under, branches_at, with_middle, LiesWithin};
@@ -7,6 +7,7 @@ ghost use Rattle.enfilade_core.specs.Axes.{IsRightRow, IsRightRows, InOrder};
 ghost use Rattle.enfilade_core.specs.Right.{IsRight, IsRightPart, NamesBelow};
 ghost use Rattle.enfilade_core.specs.Summary.{height_of};
 ghost use Rattle.enfilade_core.specs.Plain.{shape, plain_row};
+ghost use Rattle.enfilade_core.specs.Following.{first_place};
 ghost use Rattle.enfilade_core.specs.Edits.{taken_out, shift_place, shift_row, shifted, is_within, KeepsRows};
 ghost use Rattle.enfilade_core.specs.Exchange.{exchanged, rows_before, rows_past, IsRightAt, height_in, Grows, HasRows, BranchesHaveRows, MayHaveRows, MayHaveChildren, BranchHasRows, IsBeside, IsChosen, branches_if, IsWhole, LevelRows, AppendsRows};
 
@@ -30,9 +31,10 @@ enum Whole {
 
 /// How many rows come before a place.
 pub(crate) fn count_before<L>(rows: &[Row<L>], at: &Tumbler) -> usize
+    requires { InOrder rows.now }
     ensures { result ≡ length (rows_before at.now rows.now) }
 {
-    rows.iter().filter(|row| row.first.is_before(at)).count()
+    rows.partition_point(|row| row.first.is_before(at))
 }
 
 /// Copies of rows go behind others.
@@ -138,14 +140,20 @@ impl<P: Plane> Arena<P> {
     /// The last branch that has a row before a place, or the first one: new rows go in there.
     pub(crate) fn chosen(&self, branches: &[Branch], at: &Tumbler) -> usize
         requires right { IsRight P.widths self.now (Branches branches.now) }
-        ensures { IsChosen self.now branches.now at.now result }
+        ensures is { IsChosen self.now branches.now at.now result }
+        ensures here { (result ≡ 0) ⊎ (comes_before (first_place (rows_in (rows_table self.now) (Branches (drop result branches.now)))) at.now ≡ true) }
     {
-        for k in 1..branches.len() {
-            if !self.first_of(&branches[k]).is_before(at) {
-                return k - 1;
+        let mut low = 0;
+        let mut high = branches.len();
+        while low + 1 < high {
+            let middle = low + (high - low) / 2;
+            if self.starts_before(&branches[middle], at) {
+                low = middle;
+            } else {
+                high = middle;
             }
         }
-        branches.len() - 1
+        low
     }
 
     /// What comes of a branch as a whole, by where its rows stand beside a gap.

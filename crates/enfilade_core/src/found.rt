@@ -1,13 +1,16 @@
 //! The last row of a tree that comes before a place.
-ghost use Rattle.std.specs.Prelude.{◌≡◌, ◌<◌, map, length, All, Contains, IfSome, IfNone, Some, None};
+ghost use Rattle.std.specs.Prelude.{◌≡◌, ◌+◌, ◌<◌, map, min, length, All, Contains, IfSome, IfNone, Some, None};
 ghost use Rattle.enfilade_core.specs.Rows.{Branches, moved, branch_rows, rows_in, rows_table, rows_of};
-ghost use Rattle.enfilade_core.specs.Axes.{InOrder, IsRightRow};
-ghost use Rattle.enfilade_core.specs.Right.{IsRightPart};
+ghost use Rattle.enfilade_core.specs.Axes.{IsRightRow, IsRightRows};
+ghost use Rattle.enfilade_core.specs.Right.{IsRight, IsRightPart};
+ghost use Rattle.enfilade_core.specs.Summary.{height_of, depth_of};
 ghost use Rattle.enfilade_core.specs.Plain.{plain_row, found_row};
 ghost use Rattle.enfilade_core.specs.Edits.{last_before};
 ghost use Rattle.enfilade_core.specs.Exchange.{IsRightAt, branch_at};
 
 use crate::arena::Arena;
+use crate::around::seen_from;
+use crate::exchange::count_before;
 use crate::opening::branch_moved;
 use crate::plane::Plane;
 use crate::tree::{Branch, Children, Node, Row};
@@ -21,37 +24,40 @@ pub struct RowAt<'a, L> {
     /// Where it stands on the second axis, from the tree's origin.
     pub second: Tumbler,
     pub leaf: &'a L,
+    /// How many nodes were opened on the way, up to 2^32 - 1.
+    pub visits: u32,
 }
 
-/// The last of some rows, seen from a base, that comes before a place.
+/// The last of some rows, seen from a base, that comes before a place, found by so many visits.
 fn last_row<'a, P: Plane>(
     rows: &'a [Row<P::Leaf>],
     first: &Tumbler,
     second: &Tumbler,
     at: &Tumbler,
+    visits: u32,
 ) -> Option<RowAt<'a, P::Leaf>>
+    requires own { IsRightRows P.widths (map (plain_row P.plain) rows.now) }
     requires right { All (IsRightRow P.widths) (map (moved first.now second.now) (map (plain_row P.plain) rows.now)) }
-    requires ordered { InOrder (map (moved first.now second.now) (map (plain_row P.plain) rows.now)) }
     ensures found { IfSome result (λ found. last_before at.now (map (moved first.now second.now) (map (plain_row P.plain) rows.now)) ≡ Some (found_row P.plain found)) }
     ensures none { IfNone result (last_before at.now (map (moved first.now second.now) (map (plain_row P.plain) rows.now)) ≡ None) }
+    ensures visits { IfSome result (λ found. found.visits ≡ visits) }
 {
-    let mut found = None;
-    for row in rows {
-        let place = first.add(&row.first);
-        if !place.is_before(at) {
-            return found;
-        }
-        found = Some(RowAt {
-            first: place,
-            second: second.add(&row.second),
-            leaf: &row.leaf,
-        });
+    let count = count_before(rows, &seen_from(at, first));
+    if count == 0 {
+        return None;
     }
-    found
+    let last = count - 1;
+    let row = &rows[last];
+    Some(RowAt {
+        first: first.add(&row.first),
+        second: second.add(&row.second),
+        leaf: &row.leaf,
+        visits,
+    })
 }
 
 impl<P: Plane> Arena<P> {
-    /// The last of some branches, seen from a base, that has a row before a place.
+    /// The last of some branches, seen from a base, that has a row before a place. Only that one is moved.
     fn last_branch(
         &self,
         branches: &[Branch],
@@ -59,41 +65,42 @@ impl<P: Plane> Arena<P> {
         second: &Tumbler,
         at: &Tumbler,
     ) -> Option<Branch>
+        requires right { IsRight P.widths self.now (Branches branches.now) }
         requires parts { All (IsRightPart P.widths self.now) (map (branch_at first.now second.now) branches.now) }
-        requires ordered { InOrder (rows_in (rows_table self.now) (Branches (map (branch_at first.now second.now) branches.now))) }
         ensures found { IfSome result (λ found. last_before at.now (rows_in (rows_table self.now) (Branches (map (branch_at first.now second.now) branches.now))) ≡ last_before at.now (branch_rows (rows_table self.now) found)) }
         ensures one { IfSome result (λ found. Contains (map (branch_at first.now second.now) branches.now) found) }
         ensures none { IfNone result (last_before at.now (rows_in (rows_table self.now) (Branches (map (branch_at first.now second.now) branches.now))) ≡ None) }
     {
-        let mut found = None;
-        for branch in branches {
-            let branch = branch_moved(branch, first, second);
-            if !self.first_of(&branch).is_before(at) {
-                return found;
-            }
-            found = Some(branch);
+        let seen = seen_from(at, first);
+        let k = self.chosen(branches, &seen);
+        let branch = &branches[k];
+        if !self.starts_before(branch, &seen) {
+            return None;
         }
-        found
+        Some(branch_moved(branch, first, second))
     }
 
-    /// The last row below a node, seen from a base, that comes before a place.
+    /// The last row below a node, seen from a base, that comes before a place, where so many nodes were opened above.
     fn row_below(
         &self,
         node: Node,
         first: &Tumbler,
         second: &Tumbler,
         at: &Tumbler,
+        visits: u32,
     ) -> Option<RowAt<'_, P::Leaf>>
         requires { IsRightAt P.widths self.now node.0 first.now second.now }
         ensures found { IfSome result (λ found. last_before at.now (map (moved first.now second.now) (rows_of self.now node.0)) ≡ Some (found_row P.plain found)) }
         ensures none { IfNone result (last_before at.now (map (moved first.now second.now) (rows_of self.now node.0)) ≡ None) }
+        ensures visits { IfSome result (λ found. found.visits ≡ min (visits + height_of P.widths self.now node.0 + 1) 4294967295) }
     {
         let _ = self.allocator();
+        let visits = visits.saturating_add(1);
         match self.node(node) {
-            Children::Bottom(rows) => last_row::<P>(rows.as_slice(), first, second, at),
+            Children::Bottom(rows) => last_row::<P>(rows.as_slice(), first, second, at, visits),
             Children::Inner(branches) => {
                 let branch = self.last_branch(branches.as_slice(), first, second, at)?;
-                self.row_below(branch.node, &branch.first, &branch.second, at)
+                self.row_below(branch.node, &branch.first, &branch.second, at, visits)
             }
         }
     }
@@ -104,8 +111,9 @@ impl<P: Plane> Arena<P> {
         requires { root.0 < length self.now }
         ensures found { IfSome result (λ found. last_before at.now (rows_of self.now root.0) ≡ Some (found_row P.plain found)) }
         ensures none { IfNone result (last_before at.now (rows_of self.now root.0) ≡ None) }
+        ensures visits { IfSome result (λ found. found.visits ≡ min (depth_of P.widths self.now root.0) 4294967295) }
     {
         let zero = Tumbler::zero(self.allocator());
-        self.row_below(root, &zero, &zero, at)
+        self.row_below(root, &zero, &zero, at, 0)
     }
 }

@@ -1,5 +1,5 @@
 //! What an arena keeps of the rows below a node.
-ghost use Rattle.std.specs.Prelude.{◌≡◌, ◌↔◌, ◌+◌, ◌^◌, ◌<◌, ◌≤◌, [], min, IsTrue, IfSome, IfNone};
+ghost use Rattle.std.specs.Prelude.{◌≡◌, ◌↔◌, ◌==◌, if◌then◌else◌, ◌+◌, ◌^◌, ◌<◌, ◌≤◌, [], min, IsTrue, IfSome, IfNone};
 ghost use Rattle.tumbler.specs.Places.{IsTumbler, sum, Fits};
 ghost use Rattle.tumbler.specs.Reach.{HasRoom};
 ghost use Rattle.enfilade_core.specs.Axes.{later};
@@ -32,10 +32,17 @@ pub struct Summary {
 }
 
 /// The one of two places that comes later.
-fn later(a: &Tumbler, b: &Tumbler) -> Tumbler
-    ensures { result ≡ later a.now b.now }
+fn later(a: Tumbler, b: Tumbler) -> Tumbler
+    ensures { result ≡ later a b }
 {
-    if a.is_before(b) { b.copy() } else { a.copy() }
+    if a.is_before(&b) { b } else { a }
+}
+
+/// Where the first one stands of so many rows and those behind them.
+fn front(leaves: u64, first: Tumbler, behind: Tumbler) -> Tumbler
+    ensures { result ≡ (if leaves == 0 then behind else first) }
+{
+    if leaves == 0 { behind } else { first }
 }
 
 impl Along {
@@ -79,12 +86,12 @@ impl Along {
     }
 
     /// Of these rows and others.
-    fn joined(&self, other: &Along) -> Along
-        ensures { result ≡ along_joined self.now other.now }
+    fn joined(self, other: Along) -> Along
+        ensures { result ≡ along_joined self other }
     {
         Along {
-            extent: later(&self.extent, &other.extent),
             reach: self.reach.greater(&other.reach),
+            extent: later(self.extent, other.extent),
         }
     }
 }
@@ -139,27 +146,23 @@ impl Summary {
     }
 
     /// Of these rows and those of the neighbour behind.
-    pub(crate) fn joined(&self, part: &Summary) -> Summary
-        ensures { result ≡ kept (summary_joined self.now part.now) }
+    pub(crate) fn joined(self, part: Summary) -> Summary
+        ensures { result ≡ kept (summary_joined self part) }
     {
         Summary {
             height: part.height,
             leaves: self.leaves.saturating_add(part.leaves),
-            first: if self.leaves == 0 {
-                part.first.copy()
-            } else {
-                self.first.copy()
-            },
-            last: part.last.copy(),
-            along_first: self.along_first.joined(&part.along_first),
-            along_second: self.along_second.joined(&part.along_second),
+            first: front(self.leaves, self.first, part.first),
+            last: part.last,
+            along_first: self.along_first.joined(part.along_first),
+            along_second: self.along_second.joined(part.along_second),
         }
     }
 
     /// Of these rows and those of the neighbour behind, if that one may stand there.
-    pub(crate) fn with_part(&self, part: &Summary) -> Option<Summary>
-        ensures some { IfSome result (λ made. Follows self.now part.now × (made ≡ kept (summary_joined self.now part.now))) }
-        ensures none { IfNone result (¬ Follows self.now part.now) }
+    pub(crate) fn with_part(self, part: Summary) -> Option<Summary>
+        ensures some { IfSome result (λ made. Follows self part × (made ≡ kept (summary_joined self part))) }
+        ensures none { IfNone result (¬ Follows self part) }
     {
         if self.leaves == 0 {
             return Some(self.joined(part));

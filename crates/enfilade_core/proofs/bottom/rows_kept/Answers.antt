@@ -2,9 +2,15 @@ use Rattle.std.proofs.Common.{◌∙◌, ◌++◌, arith, refl, ap, map, take, d
 use Rattle.enfilade_core.specs.Rows.{moved}
 use Rattle.enfilade_core.specs.Plain.{plain_row}
 use Rattle.enfilade_core.specs.Exchange.{rows_before}
-use Rattle.enfilade_core.proofs.ExchangeBottom.{past-passes, right-moved}
+use Rattle.enfilade_core.proofs.ExchangeBottom.{ordered-own, past-passes, right-moved}
 use Rattle.enfilade_core.proofs.KeptRows.{count-there, kept-counts, kept-past, kept-past_own, kept-past_there, kept-within, kept-within_there, kept-made}
 use Rattle.enfilade_core.proofs.bottom.rows_kept.Goals as goal
+
+pub count_before-requires : goal.count_before-requires
+count_before-requires g c = ordered-own g.P.Plane.plain c.args.old.now c.requires.ordered
+
+pub count_before-requires-2 : goal.count_before-requires-2
+count_before-requires-2 g c = ordered-own g.P.Plane.plain c.args.old.now c.requires.ordered
 
 pub split_at-requires : goal.split_at-requires
 split_at-requires g c =

@@ -1,7 +1,13 @@
 use Rattle.std.proofs.Common.{◌∙◌, ◌++◌, arith, ap, map, take, drop, length, List}
 use Rattle.enfilade_core.specs.Plain.{plain_row}
-use Rattle.enfilade_core.proofs.ExchangeBottom.{count-short, count-later, slice-before, slice-within, slice-past, past-passes, right-moved, bottom-made}
+use Rattle.enfilade_core.proofs.ExchangeBottom.{ordered-own, count-short, count-later, slice-before, slice-within, slice-past, past-passes, right-moved, bottom-made}
 use Rattle.enfilade_core.proofs.exchange.rows_exchanged.Goals as goal
+
+pub count_before-requires : goal.count_before-requires
+count_before-requires g c = ordered-own g.P.Plane.plain c.args.old.now c.requires.old_right.ordered
+
+pub count_before-requires-2 : goal.count_before-requires-2
+count_before-requires-2 g c = ordered-own g.P.Plane.plain c.args.old.now c.requires.old_right.ordered
 
 pub split_at-requires : goal.split_at-requires
 split_at-requires g c = omega (arith, c.count_before.ensures, count-short c.args.gap.now.from c.args.old.now)

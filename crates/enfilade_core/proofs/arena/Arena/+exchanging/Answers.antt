@@ -77,11 +77,11 @@ branch_exchanged-returns-in-Parts-clause-out g t c =
 
 pub branches_exchanged-split_at-requires : goal.branches_exchanged-split_at-requires
 branches_exchanged-split_at-requires g t c =
-    omega (arith, c.chosen-at.ensures.there)
+    omega (arith, c.chosen-at.ensures.is.there)
 
 pub branches_exchanged-split_at-requires-2 : goal.branches_exchanged-split_at-requires-2
 branches_exchanged-split_at-requires-2 g t c =
-    omega (arith, c.chosen-at.ensures.there)
+    omega (arith, c.chosen-at.ensures.is.there)
 
 pub branches_exchanged-returns-in_err-made-clause-grows : goal.branches_exchanged-returns-in_err-made-clause-grows
 branches_exchanged-returns-in_err-made-clause-grows g t c =
@@ -89,8 +89,8 @@ branches_exchanged-returns-in_err-made-clause-grows g t c =
 
 pub branches_exchanged-branch_exchanged-requires : goal.branches_exchanged-branch_exchanged-requires
 branches_exchanged-branch_exchanged-requires g t c κs within =
-    let at : BranchesAt g.P.Plane.widths c.args.gap.now (map (plain_row g.P.Plane.plain) c.args.rows.now) c.args.self.now c.args.branches.now c.chosen-at.result c.index-branches-at.result = record { up_to = c.requires.up_to; node = c.requires.node; right = c.requires.right; chosen = c.chosen-at.ensures; is = c.index-branches-at.is } in
-    let lower = item-right (λ branch. branch.node.0 < c.args.below.0) c.args.branches.now c.chosen-at.result c.index-branches-at.result c.chosen-at.ensures.there c.index-branches-at.is c.requires.named in
+    let at : BranchesAt g.P.Plane.widths c.args.gap.now (map (plain_row g.P.Plane.plain) c.args.rows.now) c.args.self.now c.args.branches.now c.chosen-at.result c.index-branches-at.result = record { up_to = c.requires.up_to; node = c.requires.node; right = c.requires.right; chosen = c.chosen-at.ensures.is; is = c.index-branches-at.is } in
+    let lower = item-right (λ branch. branch.node.0 < c.args.below.0) c.args.branches.now c.chosen-at.result c.index-branches-at.result c.chosen-at.ensures.is.there c.index-branches-at.is c.requires.named in
     (omega (arith, lower, c.decreases), (within.0, (within.1, (c.requires.up_to, (chosen-part g.P.Plane.widths c.args.gap.now (map (plain_row g.P.Plane.plain) c.args.rows.now) c.args.self.now c.args.branches.now c.chosen-at.result c.index-branches-at.result at, chosen-right g.P.Plane.widths c.args.gap.now (map (plain_row g.P.Plane.plain) c.args.rows.now) c.args.self.now c.args.branches.now c.chosen-at.result c.index-branches-at.result at)))))
 
 pub branches_exchanged-returns-in_err-branch-clause-grows : goal.branches_exchanged-returns-in_err-branch-clause-grows
@@ -103,7 +103,7 @@ branches_exchanged-returns-in_err-append_branch-clause-grows g t c =
 
 pub branches_exchanged-rest_exchanged-requires : goal.branches_exchanged-rest_exchanged-requires
 branches_exchanged-rest_exchanged-requires g t c κs within =
-    let at : BranchesAt g.P.Plane.widths c.args.gap.now (map (plain_row g.P.Plane.plain) c.args.rows.now) c.args.self.now c.args.branches.now c.chosen-at.result c.index-branches-at.result = record { up_to = c.requires.up_to; node = c.requires.node; right = c.requires.right; chosen = c.chosen-at.ensures; is = c.index-branches-at.is } in
+    let at : BranchesAt g.P.Plane.widths c.args.gap.now (map (plain_row g.P.Plane.plain) c.args.rows.now) c.args.self.now c.args.branches.now c.chosen-at.result c.index-branches-at.result = record { up_to = c.requires.up_to; node = c.requires.node; right = c.requires.right; chosen = c.chosen-at.ensures.is; is = c.index-branches-at.is } in
     let ready = chosen-rest g.P.Plane.widths c.args.gap.now (map (plain_row g.P.Plane.plain) c.args.rows.now) c.args.self.now c.branch_exchanged.new.self c.args.below.0 c.args.branches.now c.chosen-at.result c.index-branches-at.result c.split_at-2.result.1.now at c.branch_exchanged.ensures.grows c.requires.named c.split_at-2.ensures.back in
     (omega (arith, c.decreases), (within.0, (within.1, (c.requires.up_to, (ready.named, (ready.parts, (ready.past, ready.right)))))))
 
@@ -118,7 +118,7 @@ branches_exchanged-returns-clause-grows g t c =
 pub branches_exchanged-returns-clause-rows : goal.branches_exchanged-returns-clause-rows
 branches_exchanged-returns-clause-rows g t c =
     branches-made g.P.Plane.widths c.args.gap.now (map (plain_row g.P.Plane.plain) c.args.rows.now) c.args.self.now c.branch_exchanged.new.self c.rest_exchanged.new.self c.args.branches.now c.chosen-at.result c.index-branches-at.result c.split_at-2.result.1.now c.in_ok-made.made.items c.append_branch.new.into.items c.rest_exchanged.new.made.items c.in_ok-branch.branch
-    record { up_to = c.requires.up_to; node = c.requires.node; right = c.requires.right; chosen = c.chosen-at.ensures; is = c.index-branches-at.is } record {
+    record { up_to = c.requires.up_to; node = c.requires.node; right = c.requires.right; chosen = c.chosen-at.ensures.is; is = c.index-branches-at.is } record {
       grows = c.branch_exchanged.ensures.grows;
       later = c.rest_exchanged.ensures.grows;
       front_is = c.in_ok-made.ensures ∙ c.split_at.ensures.front;
@@ -131,7 +131,7 @@ branches_exchanged-returns-clause-rows g t c =
 pub branches_exchanged-returns-clause-out : goal.branches_exchanged-returns-clause-out
 branches_exchanged-returns-clause-out g t c =
     branches-taken g.P.Plane.widths c.args.gap.now (map (plain_row g.P.Plane.plain) c.args.rows.now) c.args.self.now c.branch_exchanged.new.self c.args.branches.now c.chosen-at.result c.index-branches-at.result c.split_at-2.result.1.now (map (plain_row g.P.Plane.plain) c.args.out.now.items) (map (plain_row g.P.Plane.plain) c.branch_exchanged.new.out.items) (map (plain_row g.P.Plane.plain) c.rest_exchanged.new.out.items)
-    record { up_to = c.requires.up_to; node = c.requires.node; right = c.requires.right; chosen = c.chosen-at.ensures; is = c.index-branches-at.is } c.branch_exchanged.ensures.grows c.split_at-2.ensures.back c.in_ok-branch.ensures.out c.in_ok-rest_exchanged.ensures.out
+    record { up_to = c.requires.up_to; node = c.requires.node; right = c.requires.right; chosen = c.chosen-at.ensures.is; is = c.index-branches-at.is } c.branch_exchanged.ensures.grows c.split_at-2.ensures.back c.in_ok-branch.ensures.out c.in_ok-rest_exchanged.ensures.out
 
 pub rest_exchanged-loop-branch-init : goal.rest_exchanged-loop-branch-init
 rest_exchanged-loop-branch-init g t c =

@@ -6,7 +6,8 @@ use Rattle.enfilade_core.specs.Edits.{last_before}
 use Rattle.enfilade_core.specs.Exchange.{branch_at}
 use Rattle.enfilade_core.proofs.GoneThrough.{if_none}
 use Rattle.enfilade_core.proofs.OpenedAt.{bottom-is, inner-is}
-use Rattle.enfilade_core.proofs.WalkedDown.{bottom-seen, inner-seen, one-below, last-of_same, some-in, none-in}
+use Rattle.enfilade_core.specs.Summary.{height_of}
+use Rattle.enfilade_core.proofs.WalkedDown.{bottom-seen, inner-seen, one-below, last-of_same, some-in, none-in, visits-in_bottom, visits-in_inner}
 use Rattle.enfilade_core.proofs.arena.Arena.+row_below.Goals as goal
 
 pub last_row-requires-clause-right : goal.last_row-requires-clause-right
@@ -20,8 +21,8 @@ last_row-requires-clause-right g t c =
     (bottom-is g.P.Plane.plain nodes c.args.node.0 c.node.result.now c.in-Bottom.rows c.as_slice.result.now c.node.ensures c.in-Bottom.is c.as_slice.ensures) in
     seen.right
 
-pub last_row-requires-clause-ordered : goal.last_row-requires-clause-ordered
-last_row-requires-clause-ordered g t c =
+pub last_row-requires-clause-own : goal.last_row-requires-clause-own
+last_row-requires-clause-own g t c =
     let f = plain_row g.P.Plane.plain in
     let a = c.args.first.now in
     let b = c.args.second.now in
@@ -29,7 +30,7 @@ last_row-requires-clause-ordered g t c =
     let rows = map f c.as_slice.result.now in
     let seen = bottom-seen g.P.Plane.widths nodes c.args.node.0 a b rows c.allocator.ensures.right c.requires
     (bottom-is g.P.Plane.plain nodes c.args.node.0 c.node.result.now c.in-Bottom.rows c.as_slice.result.now c.node.ensures c.in-Bottom.is c.as_slice.ensures) in
-    seen.ordered
+    seen.own
 
 pub last_branch-requires-clause-parts : goal.last_branch-requires-clause-parts
 last_branch-requires-clause-parts g t c =
@@ -41,15 +42,15 @@ last_branch-requires-clause-parts g t c =
     (inner-is g.P.Plane.plain nodes c.args.node.0 c.node.result.now c.in-Inner.branches branches c.node.ensures c.in-Inner.is c.as_slice-in-Inner.ensures) in
     seen.parts
 
-pub last_branch-requires-clause-ordered : goal.last_branch-requires-clause-ordered
-last_branch-requires-clause-ordered g t c =
+pub last_branch-requires-clause-right : goal.last_branch-requires-clause-right
+last_branch-requires-clause-right g t c =
     let a = c.args.first.now in
     let b = c.args.second.now in
     let nodes = c.args.self.now in
     let branches = c.as_slice-in-Inner.result.now in
     let seen = inner-seen g.P.Plane.widths nodes c.args.node.0 a b branches c.allocator.ensures.right c.requires
     (inner-is g.P.Plane.plain nodes c.args.node.0 c.node.result.now c.in-Inner.branches branches c.node.ensures c.in-Inner.is c.as_slice-in-Inner.ensures) in
-    seen.ordered
+    seen.right
 
 pub returns-in_err-branch-in-Inner-clause-none : goal.returns-in_err-branch-in-Inner-clause-none
 returns-in_err-branch-in-Inner-clause-none g t c =
@@ -128,3 +129,26 @@ returns-in_ok-branch-in-Inner-clause-none g t c =
     let branch = c.in_ok-branch-in-Inner.branch in
     none-in c.row_below.result (last_before at (branch_rows (rows_table nodes) branch)) whole
     (last-of_same at (map (moved a b) (rows_of nodes c.args.node.0)) (flat_map (branch_rows (rows_table nodes)) (map (branch_at a b) branches)) (last_before at (branch_rows (rows_table nodes) branch)) seen.same c.in_ok-branch-in-Inner.ensures.found) c.row_below.ensures.none
+
+pub returns-in-Bottom-clause-visits : goal.returns-in-Bottom-clause-visits
+returns-in-Bottom-clause-visits g t c =
+    let f = plain_row g.P.Plane.plain in
+    let a = c.args.first.now in
+    let b = c.args.second.now in
+    let nodes = c.args.self.now in
+    let rows = map f c.as_slice.result.now in
+    let seen = bottom-seen g.P.Plane.widths nodes c.args.node.0 a b rows c.allocator.ensures.right c.requires
+    (bottom-is g.P.Plane.plain nodes c.args.node.0 c.node.result.now c.in-Bottom.rows c.as_slice.result.now c.node.ensures c.in-Bottom.is c.as_slice.ensures) in
+    visits-in_bottom (λ f. f.visits) c.last_row.result c.args.visits c.saturating_add-visits.result (height_of g.P.Plane.widths nodes c.args.node.0) c.saturating_add-visits.ensures seen.level c.last_row.ensures.visits
+
+pub returns-in_ok-branch-in-Inner-clause-visits : goal.returns-in_ok-branch-in-Inner-clause-visits
+returns-in_ok-branch-in-Inner-clause-visits g t c =
+    let a = c.args.first.now in
+    let b = c.args.second.now in
+    let nodes = c.args.self.now in
+    let branches = c.as_slice-in-Inner.result.now in
+    let seen = inner-seen g.P.Plane.widths nodes c.args.node.0 a b branches c.allocator.ensures.right c.requires
+    (inner-is g.P.Plane.plain nodes c.args.node.0 c.node.result.now c.in-Inner.branches branches c.node.ensures c.in-Inner.is c.as_slice-in-Inner.ensures) in
+    let branch = c.in_ok-branch-in-Inner.branch in
+    let below = one-below g.P.Plane.widths nodes c.args.node.0 a b branches branch seen c.in_ok-branch-in-Inner.ensures.one in
+    visits-in_inner (λ f. f.visits) c.row_below.result c.args.visits c.saturating_add-visits.result (height_of g.P.Plane.widths nodes c.args.node.0) (height_of g.P.Plane.widths nodes branch.node.0) c.saturating_add-visits.ensures below.level c.row_below.ensures.visits

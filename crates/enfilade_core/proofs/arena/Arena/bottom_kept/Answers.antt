@@ -1,7 +1,13 @@
-use Rattle.std.proofs.Common.{map}
+use Rattle.std.proofs.Common.{map, sym, subst}
+use Rattle.enfilade_core.specs.Axes.{InOrder}
 use Rattle.enfilade_core.specs.Plain.{plain_row}
+use Rattle.enfilade_core.proofs.ExchangeMiddle.{rows-under_right}
 use Rattle.enfilade_core.proofs.KeptBottom.{under-there, under-right, kept-may_stand, kept-rows, kept-none, kept-taken}
 use Rattle.enfilade_core.proofs.arena.Arena.bottom_kept.Goals as goal
+
+pub rows_kept-requires-clause-ordered : goal.rows_kept-requires-clause-ordered
+rows_kept-requires-clause-ordered g c =
+    subst InOrder (sym c.rows_under.ensures) (rows-under_right g.P.Plane.widths c.args.self.now c.args.branch.now.node.0 c.allocator-alloc.ensures.right c.requires.part.branch.below c.requires.bottom).ordered
 
 pub rows_kept-requires-clause-there : goal.rows_kept-requires-clause-there
 rows_kept-requires-clause-there g c = under-there g.P.Plane.plain g.P.Plane.widths c.args.self.now c.args.gap.now c.args.rows.now c.args.branch.now c.rows_under.result.now record {

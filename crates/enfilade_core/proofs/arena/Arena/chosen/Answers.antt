@@ -1,26 +1,31 @@
-use Rattle.std.proofs.Common.{◌∙◌, sym}
+use Rattle.std.proofs.Common.{◌∙◌, ◌+◌, ◌-◌, ◌/◌, arith, sym}
 use Rattle.enfilade_core.specs.Right.{IsRightPart}
 use Rattle.enfilade_core.proofs.Nodes.{node-parts}
 use Rattle.enfilade_core.proofs.GoneThrough.{item-right}
-use Rattle.enfilade_core.proofs.ExchangeChosen.{chosen-start, chosen-more, chosen-here, chosen-last}
+use Rattle.enfilade_core.proofs.ExchangeChosen.{chosen-start, chosen-low, chosen-high, chosen-found}
 use Rattle.enfilade_core.proofs.arena.Arena.chosen.Goals as goal
 
-pub loop-k-init : goal.loop-k-init
-loop-k-init g c = chosen-start g.P.Plane.widths c.args.self.now c.args.branches.now c.args.at.now c.requires.right
+pub loop-low-init : goal.loop-low-init
+loop-low-init g c = chosen-start g.P.Plane.widths c.args.self.now c.args.branches.now c.args.at.now c.requires.right
 
-pub first_of-requires : goal.first_of-requires
-first_of-requires g c =
-    record { part = item-right (IsRightPart g.P.Plane.widths c.args.self.now) c.args.branches.now c.loop-k.k c.index-branches-k.result c.loop-k-test.true c.index-branches-k.is (node-parts g.P.Plane.widths c.args.self.now c.args.branches.now c.requires.right) }
+pub starts_before-requires : goal.starts_before-requires
+starts_before-requires g c =
+    let middle = c.loop-low.low + (c.loop-low.high - c.loop-low.low) / 2 in
+    record { part = item-right (IsRightPart g.P.Plane.widths c.args.self.now) c.args.branches.now middle c.index-branches-middle.result (omega (arith, c.loop-low.invariant.some, c.loop-low.invariant.short)) c.index-branches-middle.is (node-parts g.P.Plane.widths c.args.self.now c.args.branches.now c.requires.right) }
 
-pub returns-then-not-is_before : goal.returns-then-not-is_before
-returns-then-not-is_before g c =
-    chosen-here g.P.Plane.widths c.args.self.now c.args.branches.now c.args.at.now c.loop-k.k c.index-branches-k.result c.first_of.result c.requires.right c.loop-k.invariant c.loop-k-test.true c.index-branches-k.is
-    c.first_of.ensures.value c.first_of.ensures.some (sym c.is_before.ensures.value ∙ c.if-not-is_before.true)
+pub loop-low-preserved-then-starts_before : goal.loop-low-preserved-then-starts_before
+loop-low-preserved-then-starts_before g c =
+    let so = c.loop-low.invariant in
+    let middle = c.loop-low.low + (c.loop-low.high - c.loop-low.low) / 2 in
+    chosen-low g.P.Plane.widths c.args.self.now c.args.branches.now c.args.at.now c.loop-low.low c.loop-low.high middle c.index-branches-middle.result so (omega (arith, so.some, c.loop-low-test.true))
+    record { right = c.requires.right; short = omega (arith, so.some, so.short); is = c.index-branches-middle.is; filled = c.starts_before.ensures.some } (sym c.starts_before.ensures.value ∙ c.if-starts_before.true)
 
-pub loop-k-preserved : goal.loop-k-preserved
-loop-k-preserved g c =
-    chosen-more g.P.Plane.widths c.args.self.now c.args.branches.now c.args.at.now c.loop-k.k c.index-branches-k.result c.first_of.result c.requires.right c.loop-k.invariant c.loop-k-test.true c.index-branches-k.is
-    c.first_of.ensures.value c.first_of.ensures.some (sym c.is_before.ensures.value ∙ c.if-not-is_before.false)
+pub loop-low-preserved : goal.loop-low-preserved
+loop-low-preserved g c =
+    let so = c.loop-low.invariant in
+    let middle = c.loop-low.low + (c.loop-low.high - c.loop-low.low) / 2 in
+    chosen-high g.P.Plane.widths c.args.self.now c.args.branches.now c.args.at.now c.loop-low.low c.loop-low.high middle c.index-branches-middle.result so (omega (arith, so.some, c.loop-low-test.true))
+    record { right = c.requires.right; short = omega (arith, so.some, so.short); is = c.index-branches-middle.is; filled = c.starts_before.ensures.some } (sym c.starts_before.ensures.value ∙ c.if-starts_before.false)
 
-pub returns : goal.returns
-returns g c = chosen-last c.args.self.now c.args.branches.now c.args.at.now c.loop-k.k c.loop-k.invariant c.loop-k-test.false
+pub returns-clause-is : goal.returns-clause-is
+returns-clause-is g c = chosen-found c.args.self.now c.args.branches.now c.args.at.now c.loop-low.low c.loop-low.high c.loop-low.invariant (omega (arith, c.loop-low-test.false))

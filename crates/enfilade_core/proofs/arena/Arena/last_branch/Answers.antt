@@ -1,63 +1,43 @@
-use Rattle.std.proofs.Common.{◌≡◌, true, false, map, take, ap, ◌∙◌, sym}
-use Rattle.std.specs.List.{flat_map}
-use Rattle.tumbler.specs.Places.{comes_before}
+use Rattle.std.proofs.Common.{◌≡◌, ◌∙◌, sym, subst, Contains, map}
 use Rattle.tumbler.proofs.SumOrder.{fits_if_tumbler}
 use Rattle.enfilade_core.specs.Rows.{branch_rows, rows_table}
+use Rattle.enfilade_core.specs.Right.{IsRightPart}
 use Rattle.enfilade_core.specs.Edits.{last_before}
-use Rattle.enfilade_core.specs.Following.{first_place}
 use Rattle.enfilade_core.specs.Exchange.{branch_at}
-use Rattle.enfilade_core.proofs.WalkedBefore.{moved-fits, seen-branch, next-found, past-found, branch-some, branch-one, branch-none}
+use Rattle.enfilade_core.proofs.Nodes.{node-parts}
+use Rattle.enfilade_core.proofs.GoneThrough.{item-right}
+use Rattle.enfilade_core.proofs.ExchangeGrown.{flat_rows}
+use Rattle.enfilade_core.proofs.WalkedBefore.{moved-fits, branch-found, no-branch, one-moved}
 use Rattle.enfilade_core.proofs.arena.Arena.last_branch.Goals as goal
 
-pub branch_moved-branch-requires-clause-first_fits : goal.branch_moved-branch-requires-clause-first_fits
-branch_moved-branch-requires-clause-first_fits g c =
-    fits_if_tumbler c.args.first.now c.branch-item.result.first
-    (moved-fits g.P.Plane.widths c.args.self.now c.args.first.now c.args.second.now c.args.branches.now c.loop-branch.branch-index c.branch-item.result c.loop-branch-test.true c.branch-item.is c.requires.parts).0
+pub starts_before-requires : goal.starts_before-requires
+starts_before-requires g c =
+    record { part = item-right (IsRightPart g.P.Plane.widths c.args.self.now) c.args.branches.now c.chosen-k.result c.index-branches-k.result c.chosen-k.ensures.is.there c.index-branches-k.is (node-parts g.P.Plane.widths c.args.self.now c.args.branches.now c.requires.right) }
 
-pub branch_moved-branch-requires-clause-second_fits : goal.branch_moved-branch-requires-clause-second_fits
-branch_moved-branch-requires-clause-second_fits g c =
-    fits_if_tumbler c.args.second.now c.branch-item.result.second
-    (moved-fits g.P.Plane.widths c.args.self.now c.args.first.now c.args.second.now c.args.branches.now c.loop-branch.branch-index c.branch-item.result c.loop-branch-test.true c.branch-item.is c.requires.parts).1
+pub branch_moved-requires-clause-first_fits : goal.branch_moved-requires-clause-first_fits
+branch_moved-requires-clause-first_fits g c =
+    fits_if_tumbler c.args.first.now c.index-branches-k.result.first
+    (moved-fits g.P.Plane.widths c.args.self.now c.args.first.now c.args.second.now c.args.branches.now c.chosen-k.result c.index-branches-k.result c.chosen-k.ensures.is.there c.index-branches-k.is c.requires.parts).0
 
-pub first_of-requires : goal.first_of-requires
-first_of-requires g c = record {
-  part = (seen-branch g.P.Plane.widths c.args.self.now c.args.first.now c.args.second.now c.args.branches.now c.loop-branch.branch-index c.branch-item.result c.branch_moved-branch.result c.loop-branch-test.true c.branch-item.is c.branch_moved-branch.ensures c.requires.parts).part;
-}
+pub branch_moved-requires-clause-second_fits : goal.branch_moved-requires-clause-second_fits
+branch_moved-requires-clause-second_fits g c =
+    fits_if_tumbler c.args.second.now c.index-branches-k.result.second
+    (moved-fits g.P.Plane.widths c.args.self.now c.args.first.now c.args.second.now c.args.branches.now c.chosen-k.result c.index-branches-k.result c.chosen-k.ensures.is.there c.index-branches-k.is c.requires.parts).1
 
-pub returns-then-not-is_before-clause-found : goal.returns-then-not-is_before-clause-found
-returns-then-not-is_before-clause-found g c =
+pub returns-then-not-starts_before-clause-none : goal.returns-then-not-starts_before-clause-none
+returns-then-not-starts_before-clause-none g c =
+    no-branch g.P.Plane.widths c.args.self.now c.args.at.now c.args.first.now c.args.second.now c.seen_from-seen.result c.args.branches.now c.chosen-k.result c.index-branches-k.result c.seen_from-seen.ensures
+    record { right = c.requires.right; chosen = c.chosen-k.ensures.is; here = c.chosen-k.ensures.here; item = c.index-branches-k.is; some = c.starts_before.ensures.some } (sym c.starts_before.ensures.value ∙ c.if-not-starts_before.true)
+
+pub returns-clause-found : goal.returns-clause-found
+returns-clause-found g c =
     let told = rows_table c.args.self.now in
-    let xs = map (branch_at c.args.first.now c.args.second.now) c.args.branches.now in
-    let at = c.args.at.now in
-    let x = c.branch_moved-branch.result in
-    let seen = seen-branch g.P.Plane.widths c.args.self.now c.args.first.now c.args.second.now c.args.branches.now c.loop-branch.branch-index c.branch-item.result x c.loop-branch-test.true c.branch-item.is c.branch_moved-branch.ensures c.requires.parts in
-    let past : comes_before (first_place (branch_rows told x)) at ≡ false = sym (c.is_before.ensures.value ∙ ap (λ p. comes_before p at) c.first_of.ensures.value) ∙ c.if-not-is_before.true in
-    branch-some told at xs c.loop-branch.found (last_before at (flat_map (branch_rows told) (take c.loop-branch.branch-index xs))) (last_before at (flat_map (branch_rows told) xs)) c.loop-branch.invariant
-    (past-found (branch_rows told) at xs c.loop-branch.branch-index x seen.short seen.item c.first_of.ensures.some past)
+    let there = map (branch_at c.args.first.now c.args.second.now) c.args.branches.now in
+    subst (λ branch. last_before c.args.at.now (flat_rows c.args.self.now there) ≡ last_before c.args.at.now (branch_rows told branch)) (sym c.branch_moved.ensures)
+    (branch-found g.P.Plane.widths c.args.self.now c.args.at.now c.args.first.now c.args.second.now c.seen_from-seen.result c.args.branches.now c.chosen-k.result c.index-branches-k.result c.seen_from-seen.ensures
+    record { right = c.requires.right; chosen = c.chosen-k.ensures.is; here = c.chosen-k.ensures.here; item = c.index-branches-k.is; some = c.starts_before.ensures.some } (sym c.starts_before.ensures.value ∙ c.if-not-starts_before.false))
 
-pub returns-then-not-is_before-clause-one : goal.returns-then-not-is_before-clause-one
-returns-then-not-is_before-clause-one g c =
-    let told = rows_table c.args.self.now in
-    let xs = map (branch_at c.args.first.now c.args.second.now) c.args.branches.now in
-    branch-one told c.args.at.now xs c.loop-branch.found (last_before c.args.at.now (flat_map (branch_rows told) (take c.loop-branch.branch-index xs))) c.loop-branch.invariant
-
-pub returns-then-not-is_before-clause-none : goal.returns-then-not-is_before-clause-none
-returns-then-not-is_before-clause-none g c =
-    let told = rows_table c.args.self.now in
-    let xs = map (branch_at c.args.first.now c.args.second.now) c.args.branches.now in
-    let at = c.args.at.now in
-    let x = c.branch_moved-branch.result in
-    let seen = seen-branch g.P.Plane.widths c.args.self.now c.args.first.now c.args.second.now c.args.branches.now c.loop-branch.branch-index c.branch-item.result x c.loop-branch-test.true c.branch-item.is c.branch_moved-branch.ensures c.requires.parts in
-    let past : comes_before (first_place (branch_rows told x)) at ≡ false = sym (c.is_before.ensures.value ∙ ap (λ p. comes_before p at) c.first_of.ensures.value) ∙ c.if-not-is_before.true in
-    branch-none told at xs c.loop-branch.found (last_before at (flat_map (branch_rows told) (take c.loop-branch.branch-index xs))) (last_before at (flat_map (branch_rows told) xs)) c.loop-branch.invariant
-    (past-found (branch_rows told) at xs c.loop-branch.branch-index x seen.short seen.item c.first_of.ensures.some past)
-
-pub loop-branch-preserved : goal.loop-branch-preserved
-loop-branch-preserved g c =
-    let told = rows_table c.args.self.now in
-    let xs = map (branch_at c.args.first.now c.args.second.now) c.args.branches.now in
-    let at = c.args.at.now in
-    let x = c.branch_moved-branch.result in
-    let seen = seen-branch g.P.Plane.widths c.args.self.now c.args.first.now c.args.second.now c.args.branches.now c.loop-branch.branch-index c.branch-item.result x c.loop-branch-test.true c.branch-item.is c.branch_moved-branch.ensures c.requires.parts in
-    let before : comes_before (first_place (branch_rows told x)) at ≡ true = sym (c.is_before.ensures.value ∙ ap (λ p. comes_before p at) c.first_of.ensures.value) ∙ c.if-not-is_before.false in
-    ((c.loop-branch.branch-index, seen.short, sym seen.item), next-found (branch_rows told) at xs c.loop-branch.branch-index x seen.short seen.item c.requires.ordered c.first_of.ensures.some before)
+pub returns-clause-one : goal.returns-clause-one
+returns-clause-one g c =
+    subst (Contains (map (branch_at c.args.first.now c.args.second.now) c.args.branches.now)) (sym c.branch_moved.ensures)
+    (one-moved c.args.first.now c.args.second.now c.args.branches.now c.chosen-k.result c.index-branches-k.result c.chosen-k.ensures.is.there c.index-branches-k.is)
