@@ -6,7 +6,7 @@ ghost use Rattle.enfilade_core.specs.Rows.{rows_of};
 ghost use Rattle.enfilade_core.specs.Exchange.{Grows};
 ghost use Rattle.enfilade_core.specs.Standing.{tree_debt, tree_allows};
 ghost use Rattle.enfilade_balance.specs.Steps.{root_after, is_idle};
-ghost use Rattle.granfilade.specs.Content.{laid, content, tree_rows, laid_out, bytes_in};
+ghost use Rattle.granfilade.specs.Content.{ContentTree, laid, content, tree_rows, laid_out, bytes_in};
 ghost use Rattle.granfilade.specs.Steps.{last_of};
 ghost use Rattle.granfilade.specs.Puts.{IsNext, IsContent, put_in};
 
@@ -141,6 +141,7 @@ impl Granfilade {
         ensures nodes { self.new.nodes ≡ take mark.now.count self.old.nodes }
         ensures rows { tree_rows self.new ≡ rows_of self.old.nodes mark.now.root.0 }
         ensures bytes { content self.new ≡ laid_out (rows_of self.old.nodes mark.now.root.0) }
+        ensures restored { (before : ContentTree) → Grows before.nodes self.old.nodes → mark.now.root.0 ≡ before.root → mark.now.count ≡ length before.nodes → self.new ≡ before }
     {
         self.arena.truncate(mark.count);
         self.root = mark.root;

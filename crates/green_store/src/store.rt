@@ -135,6 +135,14 @@ impl<W: Undoes + Drop> StoreOver<W> {
         self.base
     }
 
+    /// How many of the kept entries the disk's pages hold. The store keeps no pages yet, so none: an opening replays the
+    /// log from its first entry.
+    pub fn flushed(&self) -> u64
+        ensures { result ≡ 0 }
+    {
+        0
+    }
+
     /// The session that has the document open for writing, if one has.
     pub fn holder_of(&self, document: &Tumbler) -> Option<u64>
         ensures { result ≡ holder (world_of self.now.history) document.now }

@@ -278,7 +278,8 @@ impl Links {
 
     /// What `back` goes back to. It takes no memory.
     pub fn mark(&self) -> LinkMarks
-        ensures { result ≡ marks_of self.now }
+        ensures mark { result ≡ marks_of self.now }
+        ensures below { (result.from.root.0 < result.from.count) × (result.to.root.0 < result.to.count) × (result.three.root.0 < result.three.count) }
     {
         LinkMarks {
             from: self.from.mark(),

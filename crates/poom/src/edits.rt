@@ -1,5 +1,5 @@
 //! Edits of documents.
-ghost use Rattle.std.specs.Prelude.{◌≡◌, ℕ, [], ◌∷◌, ◌+◌, ◌^◌, ◌<◌, ◌≤◌, ◌++◌, length, All, IfOk, map};
+ghost use Rattle.std.specs.Prelude.{◌≡◌, ℕ, [], ◌∷◌, ◌+◌, ◌^◌, ◌<◌, ◌≤◌, ◌++◌, length, All, IsOk, IfOk, map};
 ghost use Rattle.tumbler.specs.Address.{IsDocument, IsMadeIn};
 ghost use Rattle.tumbler.specs.Places.{IsTumbler};
 ghost use Rattle.enfilade_core.specs.Rows.{rows_of};
@@ -91,6 +91,8 @@ impl Poom {
         ensures root { IfOk result (λ made. IsRoot self.new made.0) }
         ensures text { IfOk result (λ made. texts (rows_of self.new made.0) ≡ exchanged_at n n (addresses_from 1 document.now first k) (texts (rows_of self.old root.0))) }
         ensures links { IfOk result (λ made. links (rows_of self.new made.0) ≡ links (rows_of self.old root.0)) }
+        ensures nothing { (k ≡ 0) → IsOk result × (self.new ≡ self.old) }
+        ensures same { IfOk result (λ made. (k ≡ 0) → made ≡ root) }
     {
         if k == 0 {
             return Ok(root);

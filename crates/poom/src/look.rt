@@ -1,8 +1,10 @@
 //! What stands where in a document.
-ghost use Rattle.std.specs.Prelude.{◌≡◌, ◌⊎◌, ℕ, List as ListOf, [], ◌∷◌, ◌+◌, ◌-◌, ◌<◌, ◌≤◌, length, All, IfSome, IfNone, Some, None, slice_get};
+ghost use Rattle.std.specs.Prelude.{◌≡◌, ◌⊎◌, ℕ, List as ListOf, [], ◌∷◌, ◌+◌, ◌-◌, ◌<◌, ◌≤◌, length, min, All, IfSome, IfNone, Some, None, slice_get};
 ghost use Rattle.tumbler.specs.Address.{IsMadeIn, IsDocument};
 ghost use Rattle.enfilade_core.specs.Rows.{rows_of};
 ghost use Rattle.enfilade_core.specs.Edits.{last_before};
+ghost use Rattle.enfilade_core.specs.Planes.{text_widths};
+ghost use Rattle.enfilade_core.specs.Summary.{depth_of};
 ghost use Rattle.poom.specs.Pieces.{IsPiece, address_in, row_piece, pieces_in};
 ghost use Rattle.poom.specs.Laid.{IsRoot, IsOneDocument, part_number, standing_in, texts, links};
 ghost use Rattle.poom.specs.Cuts.{HoldsPiece, HoldsNone};
@@ -17,11 +19,12 @@ use tumbler::Tumbler;
 /// The most text that a document has.
 pub const MOST_TEXT: u32 = 1_073_741_824;
 
-/// A piece, and the position at which it begins.
+/// A piece, the position at which it begins, and how many nodes were opened to find it.
 #[derive(Debug, Drop)]
 pub struct PieceAt {
     pub start: u32,
     pub piece: Piece,
+    pub visits: u32,
 }
 
 /// What a position of a text shows.
@@ -31,7 +34,7 @@ pub struct Found {
     pub document: Tumbler,
     /// Which of that document's bytes it is, counted from 1.
     pub number: u32,
-    /// How many nodes were gone through on the way: one on each level of the tree.
+    /// How many nodes were opened on the way: one on each level of the tree.
     pub visits: u32,
 }
 
@@ -64,11 +67,13 @@ impl Poom {
         first: &Tumbler,
         second: &Tumbler,
         count: u32,
+        visits: u32,
     ) -> Option<PieceAt>
         requires document { IsRoot self.now root.0 }
         requires last { last_before (part_number part ∷ n ∷ []) (rows_of self.now root.0) ≡ Some (record { first = first.now; second = second.now; leaf = count }) }
         ensures found { IfSome result (λ at. HoldsPiece (pieces_in (part_number part) (rows_of self.now root.0)) n at.start at.piece) }
         ensures none { IfNone result (HoldsNone (pieces_in (part_number part) (rows_of self.now root.0)) n) }
+        ensures visits { IfSome result (λ at. at.visits ≡ visits) }
     {
         let places = first.places();
         if places.len() != 2 {
@@ -80,6 +85,7 @@ impl Poom {
         Some(PieceAt {
             start: places[1],
             piece: piece_of(second, count),
+            visits,
         })
     }
 
@@ -90,10 +96,19 @@ impl Poom {
         requires from_one { 1 ≤ n }
         ensures found { IfSome result (λ at. HoldsPiece (pieces_in (part_number part) (rows_of self.now root.0)) n at.start at.piece) }
         ensures none { IfNone result (HoldsNone (pieces_in (part_number part) (rows_of self.now root.0)) n) }
+        ensures visits { IfSome result (λ at. at.visits ≡ min (depth_of text_widths self.now root.0) 4294967295) }
     {
         let at = position(self.alloc, part, n);
         let row = self.arena.row_before(root, &at)?;
-        self.piece_at(root, part, n, &row.first, &row.second, *row.leaf)
+        self.piece_at(
+            root,
+            part,
+            n,
+            &row.first,
+            &row.second,
+            *row.leaf,
+            row.visits,
+        )
     }
 
     /// How much stands in a part.
@@ -132,6 +147,7 @@ impl Poom {
         ensures found { IfSome result (λ found. slice_get (texts (rows_of self.now root.0)) (n - 1) ≡ Some (address_in 1 found.document found.number)) }
         ensures document { IfSome result (λ found. IsDocument found.document) }
         ensures none { IfNone result ((n ≡ 0) ⊎ (length (texts (rows_of self.now root.0)) < n)) }
+        ensures visits { IfSome result (λ found. found.visits ≡ min (depth_of text_widths self.now root.0) 4294967295) }
     {
         if n == 0 {
             return None;
@@ -147,7 +163,7 @@ impl Poom {
         Some(Found {
             document: at.piece.document.copy(),
             number: at.piece.first + offset,
-            visits: self.arena.depth(root),
+            visits: at.visits,
         })
     }
 }
