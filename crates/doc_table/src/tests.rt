@@ -100,3 +100,145 @@ fn all_roots_change_at_once(rt: HostRuntime) -> Result<(), Fail> {
     assert_eq!(rt; table.root_at(2), Some(7));
     Ok(())
 }
+
+fn at(rt: &impl Abort, alloc: Global, places: &[u32]) -> Tumbler {
+    Tumbler::from_places(alloc, places).expect(rt, "a tumbler")
+}
+
+/// Puts a document in by its places.
+fn add_at(rt: &impl Abort, alloc: Global, table: &mut DocTable<u32>, places: &[u32]) {
+    add(rt, alloc, table, &at(rt, alloc, places), 7);
+}
+
+/// Takes a document out that is there.
+fn remove_at(rt: &impl Abort, alloc: Global, table: &mut DocTable<u32>, places: &[u32]) {
+    let document = at(rt, alloc, places);
+    assert!(rt; table.has(&document));
+    table.remove(&document);
+}
+
+/// Asserts which document is an account's next one.
+fn next_is(
+    rt: &impl Abort,
+    alloc: Global,
+    table: &DocTable<u32>,
+    account: &[u32],
+    expected: &[u32],
+) {
+    let account = at(rt, alloc, account);
+    assert!(rt; account.is_account());
+    let next = table.next_document(&account);
+    assert!(rt; next.places() == expected);
+}
+
+/// Asserts which address a version gets that an account makes of a source.
+fn version_is(
+    rt: &impl Abort,
+    alloc: Global,
+    table: &DocTable<u32>,
+    source: &[u32],
+    account: &[u32],
+    expected: &[u32],
+) {
+    let source = at(rt, alloc, source);
+    let account = at(rt, alloc, account);
+    assert!(rt; source.is_document());
+    assert!(rt; account.is_account());
+    let version = table.version_address(&source, &account);
+    assert!(rt; version.places() == expected);
+}
+
+/// Documents 1 and 2 of one account and 1 of another; of the very first, versions 1 and 2, and two of its version 1.
+fn families(rt: &impl Abort, alloc: Global) -> DocTable<u32> {
+    let mut table = DocTable::new(alloc);
+    add_at(rt, alloc, &mut table, &[1, 1, 0, 1, 0, 1]);
+    add_at(rt, alloc, &mut table, &[1, 1, 0, 1, 0, 2]);
+    add_at(rt, alloc, &mut table, &[1, 1, 0, 2, 0, 1]);
+    add_at(rt, alloc, &mut table, &[1, 1, 0, 1, 0, 1, 1]);
+    add_at(rt, alloc, &mut table, &[1, 1, 0, 1, 0, 1, 2]);
+    add_at(rt, alloc, &mut table, &[1, 1, 0, 1, 0, 1, 1, 1]);
+    add_at(rt, alloc, &mut table, &[1, 1, 0, 1, 0, 1, 1, 2]);
+    table
+}
+
+#[test]
+fn only_direct_descendants_are_counted(rt: HostRuntime) -> Result<(), Fail> {
+    let alloc = rt.alloc();
+    let table = families(&rt, alloc);
+    let (one, other) = ([1, 1, 0, 1], [1, 1, 0, 2]);
+    next_is(&rt, alloc, &table, &one, &[1, 1, 0, 1, 0, 3]);
+    next_is(&rt, alloc, &table, &other, &[1, 1, 0, 2, 0, 2]);
+    let first = [1, 1, 0, 1, 0, 1];
+    version_is(&rt, alloc, &table, &first, &one, &[1, 1, 0, 1, 0, 1, 3]);
+    version_is(&rt, alloc, &table, &first, &other, &[1, 1, 0, 2, 0, 2]);
+    let version = [1, 1, 0, 1, 0, 1, 1];
+    version_is(
+        &rt,
+        alloc,
+        &table,
+        &version,
+        &one,
+        &[1, 1, 0, 1, 0, 1, 1, 3],
+    );
+    let second = [1, 1, 0, 1, 0, 2];
+    version_is(&rt, alloc, &table, &second, &one, &[1, 1, 0, 1, 0, 2, 1]);
+    Ok(())
+}
+
+#[test]
+fn what_goes_is_not_counted(rt: HostRuntime) -> Result<(), Fail> {
+    let alloc = rt.alloc();
+    let mut table = families(&rt, alloc);
+    let (one, first) = ([1, 1, 0, 1], [1, 1, 0, 1, 0, 1]);
+    remove_at(&rt, alloc, &mut table, &[1, 1, 0, 1, 0, 2]);
+    next_is(&rt, alloc, &table, &one, &[1, 1, 0, 1, 0, 2]);
+    version_is(&rt, alloc, &table, &first, &one, &[1, 1, 0, 1, 0, 1, 3]);
+    remove_at(&rt, alloc, &mut table, &[1, 1, 0, 1, 0, 1, 2]);
+    version_is(&rt, alloc, &table, &first, &one, &[1, 1, 0, 1, 0, 1, 2]);
+    remove_at(&rt, alloc, &mut table, &[1, 1, 0, 2, 0, 1]);
+    next_is(&rt, alloc, &table, &[1, 1, 0, 2], &[1, 1, 0, 2, 0, 1]);
+    assert_eq!(rt; table.len(), 4);
+    Ok(())
+}
+
+/// The source has 20 places, and no room for one more.
+#[test]
+fn a_version_of_a_long_address_is_the_next_document(rt: HostRuntime) -> Result<(), Fail> {
+    let alloc = rt.alloc();
+    let table = families(&rt, alloc);
+    let short = [1, 1, 0, 1, 0, 1, 1, 1, 1, 1, 1, 1, 1, 1, 1, 1, 1, 1, 1];
+    let full = [1, 1, 0, 1, 0, 1, 1, 1, 1, 1, 1, 1, 1, 1, 1, 1, 1, 1, 1, 1];
+    version_is(&rt, alloc, &table, &short, &[1, 1, 0, 1], &full);
+    version_is(
+        &rt,
+        alloc,
+        &table,
+        &full,
+        &[1, 1, 0, 1],
+        &[1, 1, 0, 1, 0, 3],
+    );
+    Ok(())
+}
+
+#[test]
+fn one_of_several_changes(rt: HostRuntime) -> Result<(), Fail> {
+    let alloc = rt.alloc();
+    let mut table = families(&rt, alloc);
+    let version = at(&rt, alloc, &[1, 1, 0, 1, 0, 1, 1]);
+    assert!(rt; table.has(&version));
+    table.set_content(&version, 5);
+    assert!(rt; table.has(&version));
+    table.set_root(&version, 8);
+    let first = at(&rt, alloc, &[1, 1, 0, 1, 0, 1]);
+    let next = at(&rt, alloc, &[1, 1, 0, 1, 0, 1, 1, 1]);
+    assert_eq!(rt; table.content(&first), 0);
+    assert_eq!(rt; table.content(&version), 5);
+    assert_eq!(rt; table.content(&next), 0);
+    assert_eq!(rt; table.root(&first), Some(7));
+    assert_eq!(rt; table.root(&version), Some(8));
+    assert_eq!(rt; table.root(&next), Some(7));
+    assert!(rt; table.nth(0) == Some(&first));
+    assert!(rt; table.nth(1) == Some(&version));
+    assert!(rt; table.nth(2) == Some(&next));
+    Ok(())
+}

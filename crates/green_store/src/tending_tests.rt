@@ -164,5 +164,6 @@ fn what_no_tree_reaches_is_swept(rt: HostRuntime) -> Result<(), Fail> {
     let store = Store::open(alloc, &mut opened.disk, limits()?)?;
     assert_eq!(rt; store.base(), store.nodes());
     assert!(rt; store.depth() < 8);
+    assert_eq!(rt; store.flushed(), 0);
     Ok(())
 }

@@ -9,3 +9,4 @@ pub mod Searched
 pub mod OrderedSpans
 pub mod LastMet
 pub mod JoinedEnds
+pub mod Trials

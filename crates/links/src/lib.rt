@@ -10,6 +10,8 @@ mod row;
 mod runs;
 mod spans;
 mod table;
+#[cfg(test)]
+mod tests;
 mod wanted;
 
 pub use links::Links;

@@ -13,6 +13,8 @@ use std::process::Abort;
 use std::test::Fail;
 use tumbler::{List, Memory, Span, Tumbler};
 
+mod random;
+
 fn at(alloc: Global, places: &[u32]) -> Result<Tumbler, Memory> {
     match Tumbler::from_places(alloc, places) {
         Ok(tumbler) => Ok(tumbler),
@@ -182,6 +184,11 @@ fn a_run_for_each_byte_put_in_front_is_split(rt: HostRuntime) -> Result<(), Fail
     assert!(rt; depth == 1);
     let leaves = poom.arena().leaves(root);
     assert!(rt; leaves == 17);
+    let Some(last) = poom.i_of(root, 17) else {
+        panic!(rt; "the last byte is not there");
+    };
+    assert!(rt; last.number == 1);
+    assert!(rt; last.visits == 1);
     let version = poom.version(root);
     assert!(rt; owed(&rt, &poom, root) == 5);
     let Balance::Split(made) = step(&rt, &mut poom, root) else {

@@ -1,7 +1,7 @@
 //! The requests that the program makes itself: how they are spelled, and what they are answered.
 
 use crate::sessions::Sessions;
-use crate::store_rows::{House, ask, begin, fresh};
+use crate::store_rows::{House, ask, begin, fresh, settles};
 use febe_data::{Limits, Memory, Request};
 use febe_wire::write_request;
 use green_top::generated;
@@ -116,5 +116,6 @@ fn generated_requests_are_answered_alike(rt: HostRuntime) -> Result<(), Fail> {
     for request in requests.as_slice() {
         both.check(&rt, alloc, request)?;
     }
+    assert!(rt; settles(alloc, &mut both.house));
     Ok(())
 }

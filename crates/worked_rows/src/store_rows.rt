@@ -54,6 +54,16 @@ pub(crate) fn ask(
     write_reply(alloc, &reply)
 }
 
+/// Makes background steps until none applies. Gives whether no tree allows a step then.
+pub(crate) fn settles(alloc: Global, house: &mut House) -> bool {
+    for _ in 0..100_000u32 {
+        if let StepAnswer::Idle = house.store.step(alloc, &mut house.disk, Step::Background) {
+            return !house.store.can_balance();
+        }
+    }
+    false
+}
+
 /// Whether a live session has ended.
 fn end(alloc: Global, house: &mut House, session: u64) -> bool {
     match house
