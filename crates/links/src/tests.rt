@@ -15,6 +15,9 @@ use std::process::Abort;
 use std::test::Fail;
 use tumbler::{List, Span, Tumbler};
 
+mod plain;
+mod random;
+
 fn tumbler(rt: &impl Abort, alloc: Global, places: &[u32]) -> Tumbler {
     Tumbler::from_places(alloc, places).expect(rt, "a tumbler")
 }

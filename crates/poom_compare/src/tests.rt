@@ -1,17 +1,25 @@
 //! Documents are compared: what they share, position by position.
-ghost use Rattle.std.specs.Prelude.{All};
+ghost use Rattle.std.specs.Prelude.{◌+◌, ◌≤◌, length, All};
 ghost use Rattle.tumbler.specs.Address.{IsDocument};
 ghost use Rattle.tumbler.specs.Span.{SpanFits};
-ghost use Rattle.poom.specs.Laid.{IsRoot};
+ghost use Rattle.enfilade_core.specs.Rows.{rows_of};
+ghost use Rattle.enfilade_core.specs.Edits.{KeepsRows};
+ghost use Rattle.enfilade_core.specs.Exchange.{Grows};
+ghost use Rattle.poom.specs.Laid.{IsRoot, texts};
+ghost use Rattle.poom.specs.Edited.{IsContentRun, run_addresses};
 ghost use Rattle.poom_compare.specs.Placed.{IsInterval};
 
 use crate::{Compared, Interval, Placed, diagonals, joined, runs_picked};
 use enfilade_core::Node;
+use febe_data::Run;
 use poom::Poom;
 use std::alloc::Global;
 use std::process::Abort;
 use std::test::Fail;
 use tumbler::{List, Span, Tumbler};
+
+mod many;
+mod random;
 
 fn document(rt: &impl Abort, alloc: Global) -> Tumbler
     ensures { IsDocument result }
@@ -31,7 +39,9 @@ fn empty(rt: &impl Abort, poom: &mut Poom) -> Node
 /// The document with so many bytes put in at a position. They are those of one content from a first one on.
 fn put(rt: &impl Abort, poom: &mut Poom, root: Node, at: u32, first: u32, count: u32) -> Node
     requires { IsRoot poom.old root.0 }
-    ensures { IsRoot poom.new result.0 }
+    ensures kept { KeepsRows poom.old poom.new }
+    ensures grows { Grows poom.old poom.new }
+    ensures root { IsRoot poom.new result.0 }
 {
     let home = document(rt, poom.allocator());
     let long = poom.length(root);
@@ -211,5 +221,112 @@ fn intervals_that_touch_are_joined(rt: HostRuntime) -> Result<(), Fail> {
     };
     assert_eq!(rt; (first.from, first.to), (1, 6));
     assert_eq!(rt; (second.from, second.to), (8, 9));
+    Ok(())
+}
+
+// ---- two documents
+
+/// The span of so many positions of a text from one on.
+fn span(rt: &impl Abort, alloc: Global, from: u32, count: u32) -> Span
+    ensures { SpanFits result }
+{
+    let span = Span {
+        start: Tumbler::from_places(alloc, &[1, from]).expect(rt, "a tumbler"),
+        width: Tumbler::from_places(alloc, &[0, count]).expect(rt, "a tumbler"),
+    };
+    let fits = span.fits();
+    assert!(rt; fits);
+    span
+}
+
+/// Asserts that a position is one of a document's, or the one behind them.
+fn ask_position(rt: &impl Abort, poom: &Poom, root: Node, n: u32)
+    requires root { IsRoot poom.now root.0 }
+    ensures from_one { 1 ≤ n }
+    ensures to_end { n ≤ 1 + length (texts (rows_of poom.now root.0)) }
+    ensures room { length (texts (rows_of poom.now root.0)) ≤ 100000000 }
+{
+    let long = poom.length(root);
+    assert!(rt; long <= 100_000_000);
+    assert!(rt; 1 <= n);
+    assert!(rt; n <= long + 1);
+}
+
+/// What a span picks from a document.
+fn runs_in(rt: &impl Abort, poom: &Poom, root: Node, span: &Span) -> List<Run>
+    requires root { IsRoot poom.now root.0 }
+    requires fits { SpanFits span.now }
+    ensures content { All IsContentRun result.items }
+    ensures few { length (run_addresses result.items) ≤ 100000000 }
+{
+    let long = poom.length(root);
+    assert!(rt; long <= 100_000_000);
+    let home = document(rt, poom.allocator());
+    let Ok(runs) = poom.picked(root, &home, span) else {
+        panic!(rt; "no memory");
+    };
+    runs
+}
+
+/// Two documents. The first is the one that is edited, and the other stays.
+#[derive(Clone, Copy)]
+struct Two {
+    one: Node,
+    other: Node,
+}
+
+/// The first document with so many bytes put in at a position.
+#[tactic(auto, using(poom::proofs::Trials::staying))]
+fn put_in_one(rt: &impl Abort, poom: &mut Poom, two: Two, at: u32, first: u32, count: u32) -> Two
+    requires one { IsRoot poom.old two.one.0 }
+    requires other { IsRoot poom.old two.other.0 }
+    ensures one { IsRoot poom.new result.one.0 }
+    ensures other { IsRoot poom.new result.other.0 }
+{
+    let Two { one, other } = two;
+    let made = put(rt, poom, one, at, first, count);
+    Two { one: made, other }
+}
+
+/// The first document without so many positions from one on.
+#[tactic(auto, using(poom::proofs::Trials::staying))]
+fn cut_from_one(rt: &impl Abort, poom: &mut Poom, two: Two, from: u32, count: u32) -> Two
+    requires one { IsRoot poom.old two.one.0 }
+    requires other { IsRoot poom.old two.other.0 }
+    ensures one { IsRoot poom.new result.one.0 }
+    ensures other { IsRoot poom.new result.other.0 }
+{
+    let Two { one, other } = two;
+    let span = span(rt, poom.allocator(), from, count);
+    let made = poom.delete(one, &span).expect(rt, "memory");
+    Two { one: made, other }
+}
+
+/// Of bytes 1 to 12, a version keeps all. The original gets bytes 20 and 21 before byte 5, and then loses bytes 7 to 9:
+/// it shows bytes 1 to 4, 20 and 21, 5 and 6, and 10 to 12.
+#[test]
+fn versions_share_what_stayed_together(rt: HostRuntime) -> Result<(), Fail> {
+    let mut poom = Poom::new(rt.alloc());
+    let root = empty(&rt, &mut poom);
+    let root = put(&rt, &mut poom, root, 1, 1, 12);
+    let version = poom.version(root);
+    let two = Two {
+        one: root,
+        other: version,
+    };
+    let two = put_in_one(&rt, &mut poom, two, 5, 20, 2);
+    let two = cut_from_one(&rt, &mut poom, two, 9, 3);
+    let original = Picked {
+        root: two.one,
+        spans: &[(1, 11)],
+    };
+    let version = Picked {
+        root: two.other,
+        spans: &[(1, 12)],
+    };
+    let found = compare(&rt, &poom, version, original);
+    assert!(rt; are(&found, &[(1, 1, 4), (5, 7, 2), (10, 9, 3)]));
+    let found = compare(&rt, &poom, original, version);
+    assert!(rt; are(&found, &[(1, 1, 4), (7, 5, 2), (9, 10, 3)]));
     Ok(())
 }

@@ -8,6 +8,8 @@ use std::alloc::Global;
 use std::test::Fail;
 use tumbler::{List, Memory, Span, Tumbler};
 
+mod random;
+
 fn at(alloc: Global, places: &[u32]) -> Result<Tumbler, Memory> {
     match Tumbler::from_places(alloc, places) {
         Ok(tumbler) => Ok(tumbler),
