@@ -2,13 +2,23 @@
 ghost use Rattle.std.specs.Prelude.{◌≡◌, ◌≢◌, ℕ, ◌+◌, ◌-◌, ◌^◌, ◌<◌, ◌≤◌, ◌⊎◌, ◌↔◌, [], ◌∷◌, ◌++◌, length, take, drop, slice_index, IsTrue};
 ghost use Rattle.tumbler.specs.Places.{most_places, place, IsUpTo, sum, fits, Fits, difference, width_at, trimmed};
 ghost use Rattle.tumbler.specs.Reach.{lead, greater, HasRoom};
-ghost use Rattle.smallvec.specs.SmallVec.{small_vec_len};
+ghost use Rattle.arrayvec.specs.ArrayVec.{array_vec_len};
 
-use smallvec::SmallVec;
+use arrayvec::ArrayVec;
 use std::alloc::Global;
 
 /// The places of a tumbler, in the value itself.
-pub(crate) type Inline = SmallVec<u32, 24>;
+pub(crate) type Inline = ArrayVec<u32, 24, Global>;
+
+/// These places.
+pub(crate) fn inline(alloc: Global, places: &[u32]) -> Inline
+    requires { length places.now ≤ most_places }
+    ensures { result.items ≡ places.now }
+{
+    let mut held = ArrayVec::new_in(alloc);
+    held.try_extend_from_slice(places).unwrap();
+    held
+}
 
 /// The place at `k`; a missing place is 0.
 fn place_at(places: &[u32], k: usize) -> u32
@@ -31,13 +41,11 @@ pub(crate) fn sum_fits(a: &[u32], d: &[u32]) -> bool
 
 /// Adds the places from `k` on at the end.
 fn append_from(held: &mut Inline, places: &[u32], k: usize)
-    requires inline { held.old.capacity ≡ most_places }
-    requires room { small_vec_len held.old + (length places.now - k) ≤ most_places }
-    ensures items { held.new.items ≡ held.old.items ++ drop k places.now }
-    ensures inline { held.new.capacity ≡ most_places }
+    requires { array_vec_len held.old + (length places.now - k) ≤ most_places }
+    ensures { held.new.items ≡ held.old.items ++ drop k places.now }
 {
     if k < places.len() {
-        held.extend_from_slice(places.split_at(k).1).unwrap();
+        held.try_extend_from_slice(places.split_at(k).1).unwrap();
     }
 }
 
@@ -46,17 +54,16 @@ pub(crate) fn sum_of(alloc: Global, a: &[u32], d: &[u32]) -> Inline
     requires few { length a.now ≤ most_places }
     requires few_more { length d.now ≤ most_places }
     requires fits { Fits a.now d.now }
-    ensures items { result.items ≡ sum a.now d.now }
-    ensures inline { result.capacity ≡ most_places }
+    ensures { result.items ≡ sum a.now d.now }
 {
-    let mut held = SmallVec::new(alloc);
+    let mut held = ArrayVec::new_in(alloc);
     for (k, x) in d.iter().enumerate() {
         if *x != 0 {
-            held.push_reserved(place_at(a, k) + *x);
+            held.push(place_at(a, k) + *x);
             append_from(&mut held, d, k + 1);
             return held;
         }
-        held.push_reserved(place_at(a, k));
+        held.push(place_at(a, k));
     }
     append_from(&mut held, a, d.len());
     held
@@ -81,18 +88,17 @@ fn common_len(a: &[u32], b: &[u32]) -> usize
 pub(crate) fn difference_of(alloc: Global, b: &[u32], a: &[u32]) -> Inline
     requires few { length b.now ≤ most_places }
     requires up_to { IsUpTo a.now b.now }
-    ensures items { result.items ≡ difference b.now a.now }
-    ensures inline { result.capacity ≡ most_places }
+    ensures { result.items ≡ difference b.now a.now }
 {
     let k = common_len(a, b);
-    let mut held = SmallVec::new(alloc);
+    let mut held = ArrayVec::new_in(alloc);
     if k == b.len() {
         return held;
     }
     for _ in 0..k {
-        held.push_reserved(0);
+        held.push(0);
     }
-    held.push_reserved(b[k] - place_at(a, k));
+    held.push(b[k] - place_at(a, k));
     append_from(&mut held, b, k + 1);
     held
 }
@@ -116,12 +122,11 @@ pub(crate) fn lead_len(places: &[u32]) -> usize
 pub(crate) fn greater_of(alloc: Global, a: &[u32], b: &[u32]) -> Inline
     requires few { length a.now ≤ most_places }
     requires few_more { length b.now ≤ most_places }
-    ensures items { result.items ≡ greater a.now b.now }
-    ensures inline { result.capacity ≡ most_places }
+    ensures { result.items ≡ greater a.now b.now }
 {
-    let mut held = SmallVec::new(alloc);
+    let mut held = ArrayVec::new_in(alloc);
     for k in 0..a.len().max(b.len()) {
-        held.push_reserved(place_at(a, k).max(place_at(b, k)));
+        held.push(place_at(a, k).max(place_at(b, k)));
     }
     held
 }
@@ -157,10 +162,9 @@ pub(crate) fn trimmed_len(places: &[u32]) -> usize
 /// Zeros, and `n` at the last of `long` places.
 pub(crate) fn last_at(alloc: Global, long: usize, n: u32) -> Inline
     requires few { long ≤ most_places }
-    ensures items { result.items ≡ width_at long n }
-    ensures inline { result.capacity ≡ most_places }
+    ensures { result.items ≡ width_at long n }
 {
-    let mut held = SmallVec::new(alloc);
+    let mut held = ArrayVec::new_in(alloc);
     if long == 0 {
         return held;
     }
@@ -168,19 +172,18 @@ pub(crate) fn last_at(alloc: Global, long: usize, n: u32) -> Inline
         return held;
     }
     for _ in 0..long - 1 {
-        held.push_reserved(0);
+        held.push(0);
     }
-    held.push_reserved(n);
+    held.push(n);
     held
 }
 
 /// The places and then `last`.
 pub(crate) fn with_last(alloc: Global, places: &[u32], last: u32) -> Inline
     requires { length places.now < most_places }
-    ensures items { result.items ≡ places.now ++ last ∷ [] }
-    ensures inline { result.capacity ≡ most_places }
+    ensures { result.items ≡ places.now ++ last ∷ [] }
 {
-    let mut held = SmallVec::from_slice(alloc, places).unwrap();
-    held.push_reserved(last);
+    let mut held = inline(alloc, places);
+    held.push(last);
     held
 }

@@ -8,10 +8,10 @@ ghost use Rattle.tumbler.specs.Address.{IsAccount, IsDocument, IsDocumentOf, IsM
 
 use crate::address;
 use crate::arithmetic::{
-    difference_of, greater_of, last_at, lead_len, room_for, sum_fits, sum_of, trimmed_len,
-    with_last,
+    Inline, difference_of, greater_of, inline, last_at, lead_len, room_for, sum_fits, sum_of,
+    trimmed_len, with_last,
 };
-use smallvec::SmallVec;
+use arrayvec::ArrayVec;
 use std::alloc::Global;
 use std::cmp::Ordering;
 use std::error::Error;
@@ -27,13 +27,13 @@ pub const MOST_PLACES: usize = 24;
 /// itself, so nothing here takes memory.
 #[derive(Debug, PartialEq, Eq)]
 pub struct Tumbler {
-    held: SmallVec<u32, 24>,
+    held: Inline,
 }
 
 impl Model for Tumbler {
     ghost use Rattle.std.specs.Prelude.{◌≡◌, ℕ, List};
     ghost use Rattle.std.specs.Coded.{coded_list, coded_ℕ};
-    ghost use Rattle.tumbler.specs.Places.{IsTumbler, most_places};
+    ghost use Rattle.tumbler.specs.Places.{IsTumbler};
 
     ghost Value = { List ℕ };
 
@@ -41,13 +41,9 @@ impl Model for Tumbler {
 
     ghost view = { λ t. t.held.items };
 
-    ghost invariant = { λ t. (t.held.capacity ≡ most_places) × IsTumbler t.held.items };
+    ghost invariant = { λ t. IsTumbler t.held.items };
 
-    ghost inverse = { λ places. record { held = record { items = places; capacity = most_places } } };
-
-    ghost use Rattle.std.proofs.Common.{ap, sym};
-
-    ghost inverse_ok = { λ t h. ap (λ (n : ℕ). record { held = record { items = t.held.items; capacity = n } }) (sym h.0) };
+    ghost inverse = { λ places. record { held = record { items = places } } };
 }
 
 /// The list of places is no tumbler: it has over 24 places, or its last place is 0.
@@ -68,7 +64,7 @@ impl Tumbler {
         ensures { result ≡ [] }
     {
         Tumbler {
-            held: SmallVec::new(alloc),
+            held: ArrayVec::new_in(alloc),
         }
     }
 
@@ -84,7 +80,7 @@ impl Tumbler {
             return Err(BadTumbler);
         }
         Ok(Tumbler {
-            held: SmallVec::from_slice(alloc, places).unwrap(),
+            held: inline(alloc, places),
         })
     }
 
@@ -93,7 +89,7 @@ impl Tumbler {
         ensures { result ≡ self.now }
     {
         Tumbler {
-            held: SmallVec::from_slice(*self.held.allocator(), self.held.as_slice()).unwrap(),
+            held: inline(*self.held.allocator(), self.places()),
         }
     }
 
@@ -170,11 +166,8 @@ impl Tumbler {
         if tail.len() > MOST_PLACES - self.places().len() {
             return Err(BadTumbler);
         }
-        let mut held: SmallVec<u32, 24> = SmallVec::from_slice(
-            *self.held.allocator(),
-            self.places(),
-        ).unwrap();
-        held.extend_from_slice(tail).unwrap();
+        let mut held = inline(*self.held.allocator(), self.places());
+        held.try_extend_from_slice(tail).unwrap();
         if let Some(0) = held.as_slice().last() {
             return Err(BadTumbler);
         }
@@ -225,10 +218,7 @@ impl Tumbler {
         ensures { result ≡ take n self.now }
     {
         Tumbler {
-            held: SmallVec::from_slice(
-                *self.held.allocator(),
-                self.places().split_at(n).0,
-            ).unwrap(),
+            held: inline(*self.held.allocator(), self.places().split_at(n).0),
         }
     }
 }

@@ -7,5 +7,4 @@ invariant-loop-k l = record {
   so_far : l.held.items ++ sum (drop l.k l.a) (drop l.k l.d) ≡ sum l.a l.d;
   fits_on : fits (drop l.k l.a) (drop l.k l.d) ≡ true;
   count : length l.held.items ≡ l.k;
-  inline : l.held.capacity ≡ 24;
 }
