@@ -9,12 +9,12 @@ use Rattle.tumbler.proofs.Sums.{sum-upto}
 use Rattle.tumbler.proofs.Differences.{difference_undoes_sum}
 use Rattle.enfilade_core.specs.declared.tree.Branch.{Branch}
 use Rattle.enfilade_core.specs.declared.around.Touched.{Touched}
-use Rattle.enfilade_core.specs.Rows.{Shape, Branches, moved, branch_rows, rows_in, rows_table, rows_of, node_at}
+use Rattle.enfilade_core.specs.Rows.{Shape, Branches, moved, branch_rows, rows_in, rows_table, rows_of, node_at, branches_under}
 use Rattle.enfilade_core.specs.Axes.{Widths, WidthsStay}
 use Rattle.enfilade_core.specs.Right.{IsRightBranch, IsRight, IsRightPart, AreRight}
 use Rattle.enfilade_core.specs.Exchange.{branch_at, IsPacked, MayBeRoot}
 use Rattle.enfilade_core.specs.Packing.{branch_back, MayStandAt, IsPlaced}
-use Rattle.enfilade_core.specs.Touched.{branches_under, branches_at, with_middle, around_middle}
+use Rattle.enfilade_core.specs.Touched.{branches_at, with_middle, around_middle}
 use Rattle.enfilade_core.proofs.Nodes.{node-parts}
 use Rattle.enfilade_core.proofs.PackedBranches.{IsPast, are_past, branches-may_stand, branches-packed}
 use Rattle.enfilade_core.proofs.ExchangeGrown.{flat_rows}

@@ -10,14 +10,14 @@ use Rattle.enfilade_core.specs.declared.tree.Row.{Row}
 use Rattle.enfilade_core.specs.declared.tree.Branch.{Branch}
 use Rattle.enfilade_core.specs.declared.gap.Gap.{Gap}
 use Rattle.enfilade_core.specs.declared.around.Touched.{Touched}
-use Rattle.enfilade_core.specs.Rows.{Shape, Rows, Branches, moved, branch_rows, rows_in, rows_table, rows_of, node_at}
+use Rattle.enfilade_core.specs.Rows.{Shape, Rows, Branches, moved, branch_rows, rows_in, rows_table, rows_of, node_at, branches_under, rows_under}
 use Rattle.enfilade_core.specs.Axes.{Widths, IsRightRow, IsRightRows}
 use Rattle.enfilade_core.specs.Right.{IsRight, IsRightPart, AreRight}
 use Rattle.enfilade_core.specs.Summary.{height_of}
 use Rattle.enfilade_core.specs.Edits.{taken_out}
 use Rattle.enfilade_core.specs.Exchange.{exchanged, Grows, IsRightAt, branch_at, IsOpened, HasRows, LevelRows, MayHaveRows, MayHaveChildren}
 use Rattle.enfilade_core.specs.Packing.{branch_back}
-use Rattle.enfilade_core.specs.Touched.{branches_under, rows_under, branches_at, IsTouched, LiesWithin, with_middle, around_middle, MayBePacked}
+use Rattle.enfilade_core.specs.Touched.{branches_at, IsTouched, LiesWithin, with_middle, around_middle, MayBePacked}
 use Rattle.enfilade_core.proofs.Seen.{rows-not_moved}
 use Rattle.enfilade_core.proofs.Parts.{rows-said, right-now}
 use Rattle.enfilade_core.proofs.OpenedAt.{at-of_root, at-of_part, bottom-fits, bottom-opened}

@@ -6,14 +6,14 @@ use Rattle.tumbler.specs.Places.{IsTumbler}
 use Rattle.enfilade_core.specs.declared.tree.Row.{Row}
 use Rattle.enfilade_core.specs.declared.tree.Branch.{Branch}
 use Rattle.enfilade_core.specs.declared.gap.Gap.{Gap}
-use Rattle.enfilade_core.specs.Rows.{Shape, Rows, moved, branch_rows, rows_table, node_at}
+use Rattle.enfilade_core.specs.Rows.{Shape, Rows, moved, branch_rows, rows_table, node_at, rows_under}
 use Rattle.enfilade_core.specs.Axes.{Widths, WidthsStay, IsRightRow, IsRightRows}
 use Rattle.enfilade_core.specs.Summary.{height_of}
 use Rattle.enfilade_core.specs.Plain.{plain_row}
 use Rattle.enfilade_core.specs.Edits.{taken_out}
 use Rattle.enfilade_core.specs.Exchange.{exchanged, IsOpened, HasRows, BranchHasRows}
 use Rattle.enfilade_core.specs.Packing.{back, MayStandAt, IsPlaced}
-use Rattle.enfilade_core.specs.Touched.{rows_under, KeepsOrigin}
+use Rattle.enfilade_core.specs.Touched.{KeepsOrigin}
 use Rattle.enfilade_core.proofs.AroundMiddle.{map-none}
 use Rattle.enfilade_core.proofs.PackedRows.{RowIsSeen, rows-may_stand, rows-packed}
 use Rattle.enfilade_core.proofs.ExchangeNodes.{mapped-none, packed-has, taken-opened}

@@ -2,6 +2,7 @@ pub mod Tables
 pub mod Locals
 pub mod Parts
 pub mod Arenas
+pub mod Copies
 pub mod Later
 pub mod Tells
 pub mod Told

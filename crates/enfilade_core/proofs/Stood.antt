@@ -5,7 +5,7 @@ use Rattle.std.proofs.lemmas.List.{length-map}
 use Rattle.enfilade_core.specs.declared.tree.Row.{Row}
 use Rattle.enfilade_core.specs.declared.tree.Branch.{Branch}
 use Rattle.enfilade_core.specs.declared.standing.Standing.{Standing}
-use Rattle.enfilade_core.specs.Rows.{Shape, Rows, Branches}
+use Rattle.enfilade_core.specs.Rows.{Shape, Rows}
 use Rattle.enfilade_core.specs.Packing.{branch_back}
 use Rattle.enfilade_core.specs.Standing.{no_standing, node_debt, split_above, has_merge, standing_in, standing_below, standing_of, standings, standings_below}
 use Rattle.enfilade_core.proofs.PackedNode.{said-last}

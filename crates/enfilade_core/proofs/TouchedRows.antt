@@ -10,13 +10,13 @@ use Rattle.enfilade_core.specs.declared.tree.Row.{Row}
 use Rattle.enfilade_core.specs.declared.tree.Branch.{Branch}
 use Rattle.enfilade_core.specs.declared.gap.Gap.{Gap}
 use Rattle.enfilade_core.specs.declared.around.Touched.{Touched}
-use Rattle.enfilade_core.specs.Rows.{Shape, Branches, branch_rows, rows_table, node_at}
+use Rattle.enfilade_core.specs.Rows.{Shape, Branches, branch_rows, rows_table, node_at, branches_under}
 use Rattle.enfilade_core.specs.Axes.{Widths, InOrder, IsRightRows}
 use Rattle.enfilade_core.specs.Right.{IsRight, IsRightPart, AreRight}
 use Rattle.enfilade_core.specs.Summary.{height_of}
 use Rattle.enfilade_core.specs.Edits.{taken_out}
 use Rattle.enfilade_core.specs.Exchange.{exchanged, Grows, IsRightAt, branch_at, IsOpened, BranchesHaveRows, LevelRows}
-use Rattle.enfilade_core.specs.Touched.{branches_under, branches_at, IsSeenFrom, StandBefore, AreStill, IsTouched, with_middle}
+use Rattle.enfilade_core.specs.Touched.{branches_at, IsSeenFrom, StandBefore, AreStill, IsTouched, with_middle}
 use Rattle.enfilade_core.proofs.Nodes.{node-parts}
 use Rattle.enfilade_core.proofs.Orders.{InOrder-front, InOrder-back}
 use Rattle.enfilade_core.proofs.Parts.{right-now}

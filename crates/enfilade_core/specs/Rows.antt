@@ -1,5 +1,5 @@
 -- Nodes, and the rows of a tree.
-use Rattle.std.specs.Prelude.{ℕ, List, [], ◌∷◌, ◌++◌, map, fold, slice_index_or}
+use Rattle.std.specs.Prelude.{◌≡◌, ℕ, List, [], ◌∷◌, ◌++◌, map, fold, slice_index_or}
 use Rattle.std.specs.List.{flat_map}
 use Rattle.tumbler.specs.Places.{sum}
 use Rattle.enfilade_core.specs.declared.tree.Row.{Row}
@@ -9,6 +9,22 @@ use Rattle.enfilade_core.specs.declared.tree.Branch.{Branch}
 pub data Shape (L : Type 0) : Type 0 where
   Rows : List (Row L) → Shape L
   Branches : List Branch → Shape L
+
+-- the branches, or the rows, that hang under a node
+abbrev pub branches_under : {L : Type 0} → Shape L → List Branch
+branches_under (Rows rows) = []
+branches_under (Branches branches) = branches
+
+abbrev pub rows_under : {L : Type 0} → Shape L → List (Row L)
+rows_under (Rows rows) = rows
+rows_under (Branches branches) = []
+
+-- a node with branches under it, and one with rows
+abbrev pub IsInner : {L : Type 0} → Shape L → Type 0
+IsInner node = node ≡ Branches (branches_under node)
+
+abbrev pub IsBottom : {L : Type 0} → Shape L → Type 0
+IsBottom node = node ≡ Rows (rows_under node)
 
 -- What is said of each node, in the order of their numbers. A node is told what was said of those with
 -- lesser numbers.

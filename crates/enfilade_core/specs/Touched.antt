@@ -7,27 +7,11 @@ use Rattle.enfilade_core.specs.declared.tree.Row.{Row}
 use Rattle.enfilade_core.specs.declared.tree.Branch.{Branch}
 use Rattle.enfilade_core.specs.declared.gap.Gap.{Gap}
 use Rattle.enfilade_core.specs.declared.around.Touched.{Touched}
-use Rattle.enfilade_core.specs.Rows.{Shape, Rows, Branches, rows_in, rows_table}
+use Rattle.enfilade_core.specs.Rows.{Shape, Branches, rows_in, rows_table}
 use Rattle.enfilade_core.specs.Axes.{Widths}
 use Rattle.enfilade_core.specs.Edits.{shifted}
 use Rattle.enfilade_core.specs.Exchange.{IsPacked, branch_at}
 use Rattle.enfilade_core.specs.Packing.{branch_back}
-
--- the branches, or the rows, that hang under a node
-abbrev pub branches_under : {L : Type 0} → Shape L → List Branch
-branches_under (Rows rows) = []
-branches_under (Branches branches) = branches
-
-abbrev pub rows_under : {L : Type 0} → Shape L → List (Row L)
-rows_under (Rows rows) = rows
-rows_under (Branches branches) = []
-
--- a node with branches under it, and one with rows
-abbrev pub IsInner : {L : Type 0} → Shape L → Type 0
-IsInner node = node ≡ Branches (branches_under node)
-
-abbrev pub IsBottom : {L : Type 0} → Shape L → Type 0
-IsBottom node = node ≡ Rows (rows_under node)
 
 -- a place as it is seen from a base: what comes before the one comes before the other
 pub record IsSeenFrom (at base seen : List ℕ) : Type 0 where

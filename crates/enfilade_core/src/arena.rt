@@ -1,12 +1,13 @@
 //! Arenas: nodes that never change, the later ones made of earlier ones.
 ghost use Rattle.std.specs.Prelude.{◌≡◌, ◌≢◌, ℕ, ◌+◌, ◌^◌, ◌<◌, ◌≤◌, ◌↔◌, min, List as ListOf, [], ◌∷◌, ◌++◌, length, take, map, All, IsTrue, IfOk, IfSome, IfNone, OnOk, OnErr};
-ghost use Rattle.enfilade_core.specs.Rows.{Shape, Rows, rows_of, node_at};
+ghost use Rattle.enfilade_core.specs.Rows.{Shape, Rows, rows_of, node_at, IsBottom};
 ghost use Rattle.enfilade_core.specs.Right.{IsRight, AreRight};
 ghost use Rattle.enfilade_core.specs.Plain.{shape, plain_row};
 ghost use Rattle.enfilade_core.specs.Summary.{summary_of, kept};
 ghost use Rattle.enfilade_core.specs.Standing.{standing_of, kept_standing};
 ghost use Rattle.enfilade_core.specs.Edits.{KeepsRows};
 
+use crate::exchange::append_copies;
 use crate::held::Held;
 use crate::plane::Plane;
 use crate::standing::Standing;
@@ -145,6 +146,28 @@ impl<P: Plane> Arena<P> {
             standing,
         })?;
         Ok(node)
+    }
+
+    /// Adds a copy of a bottom node of another arena, which is the last one then. What is kept beside the rows is
+    /// copied with them, and not worked out again.
+    pub fn add_copy(&mut self, other: &Arena<P>, node: Node) -> Result<Node, Memory>
+        requires below { node.0 < length other.now }
+        requires bottom { IsBottom (node_at other.now node.0) }
+        ensures made { IfOk result (λ made. made.0 ≡ length self.old) }
+        ensures ok { OnOk result (self.new ≡ self.old ++ node_at other.now node.0 ∷ []) }
+        ensures err { OnErr result (self.new ≡ self.old) }
+    {
+        let held = other.rows_under(node);
+        let mut rows = List::new(self.alloc);
+        rows.reserve(held.len())?;
+        append_copies::<P>(self.alloc, held, &mut rows)?;
+        let made = Node(self.count());
+        self.nodes.push(Held {
+            children: Children::Bottom(rows),
+            summary: other.summary(node).copy(),
+            standing: other.standing(node),
+        })?;
+        Ok(made)
     }
 
     /// A new root with no rows.

@@ -1,12 +1,12 @@
 //! The children of a node around those that an exchange touches. They are left as they stand under it.
 ghost use Rattle.std.specs.Prelude.{◌≡◌, ◌+◌, ◌<◌, ◌≤◌, ◌++◌, map, drop, take, length, All, IsTrue, false, IfOk, OnOk};
 ghost use Rattle.tumbler.specs.Places.{IsUpTo};
-ghost use Rattle.enfilade_core.specs.Rows.{Branches, node_at};
+ghost use Rattle.enfilade_core.specs.Rows.{Branches, node_at, branches_under, rows_under, IsInner, IsBottom};
 ghost use Rattle.enfilade_core.specs.Right.{IsRight, IsRightPart};
 ghost use Rattle.enfilade_core.specs.Plain.{plain_row};
 ghost use Rattle.enfilade_core.specs.Exchange.{IsRightAt, MayBeRoot, Grows};
 ghost use Rattle.enfilade_core.specs.Packing.{branch_back};
-ghost use Rattle.enfilade_core.specs.Touched.{branches_under, rows_under, branches_at, IsInner, IsBottom, IsSeenFrom, StandBefore, AreStill, IsTouched, LiesWithin, with_middle, around_middle, MayBePacked};
+ghost use Rattle.enfilade_core.specs.Touched.{branches_at, IsSeenFrom, StandBefore, AreStill, IsTouched, LiesWithin, with_middle, around_middle, MayBePacked};
 
 use crate::arena::Arena;
 use crate::gap::Gap;

@@ -2,7 +2,7 @@
 ghost use Rattle.std.specs.Prelude.{◌≡◌, ◌≢◌, ◌⊎◌, ◌<◌, ◌++◌, [], map, length, All, IsTrue, false, IfOk, OnOk};
 ghost use Rattle.tumbler.specs.Places.{IsUpTo, IsTumbler, Fits, comes_before, sum};
 ghost use Rattle.tumbler.specs.Laws.{StandsBefore};
-ghost use Rattle.enfilade_core.specs.Rows.{moved, branch_rows, rows_table, node_at};
+ghost use Rattle.enfilade_core.specs.Rows.{moved, branch_rows, rows_table, node_at, IsBottom};
 ghost use Rattle.enfilade_core.specs.Axes.{InOrder, IsRightRow, IsRightRows};
 ghost use Rattle.enfilade_core.specs.Right.{IsRightPart};
 ghost use Rattle.enfilade_core.specs.Summary.{height_of};
@@ -10,7 +10,7 @@ ghost use Rattle.enfilade_core.specs.Plain.{plain_row};
 ghost use Rattle.enfilade_core.specs.Edits.{taken_out, shift_place, shift_row, shifted};
 ghost use Rattle.enfilade_core.specs.Exchange.{exchanged, Grows, MayHaveRows};
 ghost use Rattle.enfilade_core.specs.Packing.{back};
-ghost use Rattle.enfilade_core.specs.Touched.{IsBottom, KeepsOrigin, StaysPast};
+ghost use Rattle.enfilade_core.specs.Touched.{KeepsOrigin, StaysPast};
 
 use crate::arena::Arena;
 use crate::around::seen_from;
@@ -181,6 +181,7 @@ fn rows_kept<P: Plane>(
     let (up_to, past) = old.split_at(count_before(old, &seen_from(&gap.to, first)));
     let (_, within) = up_to.split_at(before.len());
     let mut made = List::new(alloc);
+    made.reserve(old.len().saturating_add(rows.len()))?;
     append_copies::<P>(alloc, before, &mut made)?;
     append_rows_back::<P>(alloc, rows, first, second, &mut made)?;
     append_moved::<P>(alloc, within, first, second, out)?;

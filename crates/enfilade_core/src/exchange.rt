@@ -1,8 +1,8 @@
 //! What stands in a gap of a tree is exchanged.
 ghost use Rattle.std.specs.Prelude.{ℕ, List as ListOf, ◌≡◌, ◌≢◌, ◌⊎◌, ◌+◌, ◌<◌, ◌≤◌, [], ◌∷◌, ◌++◌, map, drop, take, length, All, IsTrue, IfOk, IfSome, IfNone, OnOk, false, true};
 ghost use Rattle.tumbler.specs.Places.{IsUpTo, IsTumbler, comes_before};
-ghost use Rattle.enfilade_core.specs.Rows.{Rows, Branches, moved, branch_rows, rows_in, rows_table, rows_of, node_at};
-ghost use Rattle.enfilade_core.specs.Touched.{IsInner, IsBottom, branches_under, branches_at, with_middle, LiesWithin};
+ghost use Rattle.enfilade_core.specs.Rows.{Rows, Branches, moved, branch_rows, rows_in, rows_table, rows_of, node_at, IsInner, IsBottom, branches_under};
+ghost use Rattle.enfilade_core.specs.Touched.{branches_at, with_middle, LiesWithin};
 ghost use Rattle.enfilade_core.specs.Axes.{IsRightRow, IsRightRows, InOrder};
 ghost use Rattle.enfilade_core.specs.Right.{IsRight, IsRightPart, NamesBelow};
 ghost use Rattle.enfilade_core.specs.Summary.{height_of};
@@ -108,6 +108,7 @@ pub(crate) fn rows_exchanged<P: Plane>(
     let (up_to, past) = old.split_at(count_before(old, &gap.to));
     let (_, within) = up_to.split_at(before.len());
     let mut made = List::new(alloc);
+    made.reserve(old.len().saturating_add(rows.len()))?;
     append_copies::<P>(alloc, before, &mut made)?;
     append_copies::<P>(alloc, rows, &mut made)?;
     append_copies::<P>(alloc, within, out)?;

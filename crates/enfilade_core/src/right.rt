@@ -67,7 +67,7 @@ fn rows_summary<P: Plane>(alloc: Global, rows: &[Row<P::Leaf>]) -> Option<Summar
     let mut summary = Summary::none(alloc);
     for row in rows {
         let part = row_part::<P>(row)?;
-        summary = summary.with_part(part)?;
+        summary.append(part)?;
     }
     Some(summary)
 }
@@ -110,7 +110,7 @@ impl<P: Plane> Arena<P> {
         let mut summary = Summary::none(self.allocator());
         for branch in branches {
             let part = self.branch_part(branch)?;
-            summary = summary.with_part(part)?;
+            summary.append(part)?;
         }
         if branches.is_empty() {
             return None;

@@ -1,8 +1,7 @@
 //! What an arena keeps of the rows below a node.
-ghost use Rattle.std.specs.Prelude.{◌≡◌, ◌↔◌, ◌==◌, if◌then◌else◌, ◌+◌, ◌^◌, ◌<◌, ◌≤◌, [], min, IsTrue, IfSome, IfNone};
+ghost use Rattle.std.specs.Prelude.{◌≡◌, ◌↔◌, ◌+◌, ◌^◌, ◌<◌, ◌≤◌, [], min, IsTrue, IfSome, IfNone};
 ghost use Rattle.tumbler.specs.Places.{IsTumbler, sum, Fits};
 ghost use Rattle.tumbler.specs.Reach.{HasRoom};
-ghost use Rattle.enfilade_core.specs.Axes.{later};
 
 use std::alloc::Global;
 use tumbler::Tumbler;
@@ -31,20 +30,6 @@ pub struct Summary {
     pub along_second: Along,
 }
 
-/// The one of two places that comes later.
-fn later(a: Tumbler, b: Tumbler) -> Tumbler
-    ensures { result ≡ later a b }
-{
-    if a.is_before(&b) { b } else { a }
-}
-
-/// Where the first one stands of so many rows and those behind them.
-fn front(leaves: u64, first: Tumbler, behind: Tumbler) -> Tumbler
-    ensures { result ≡ (if leaves == 0 then behind else first) }
-{
-    if leaves == 0 { behind } else { first }
-}
-
 impl Along {
     ghost use Rattle.enfilade_core.specs.Summary.{along_row, along_moved, along_joined, no_along};
 
@@ -71,6 +56,16 @@ impl Along {
         }
     }
 
+    /// The same.
+    fn copy(&self) -> Along
+        ensures { result ≡ self.now }
+    {
+        Along {
+            extent: self.extent.copy(),
+            reach: self.reach.copy(),
+        }
+    }
+
     /// All moved.
     #[tactic(auto, using(crate::proofs::Rooms::rooms))]
     fn moved(&self, d: &Tumbler) -> Along
@@ -85,13 +80,13 @@ impl Along {
         }
     }
 
-    /// Of these rows and others.
-    fn joined(self, other: Along) -> Along
-        ensures { result ≡ along_joined self other }
+    /// Others join these rows.
+    fn join(&mut self, others: &Along)
+        ensures { self.new ≡ along_joined self.old others.now }
     {
-        Along {
-            reach: self.reach.greater(&other.reach),
-            extent: later(self.extent, other.extent),
+        self.reach = self.reach.greater(&others.reach);
+        if self.extent.is_before(&others.extent) {
+            self.extent = others.extent.copy();
         }
     }
 }
@@ -111,6 +106,20 @@ impl Summary {
             last: Tumbler::zero(alloc),
             along_first: Along::none(alloc),
             along_second: Along::none(alloc),
+        }
+    }
+
+    /// The same.
+    pub(crate) fn copy(&self) -> Summary
+        ensures { result ≡ self.now }
+    {
+        Summary {
+            height: self.height,
+            leaves: self.leaves,
+            first: self.first.copy(),
+            last: self.last.copy(),
+            along_first: self.along_first.copy(),
+            along_second: self.along_second.copy(),
         }
     }
 
@@ -145,27 +154,36 @@ impl Summary {
         }
     }
 
-    /// Of these rows and those of the neighbour behind.
-    pub(crate) fn joined(self, part: Summary) -> Summary
-        ensures { result ≡ kept (summary_joined self part) }
+    /// The rows of the neighbour behind join these.
+    fn join(&mut self, part: Summary)
+        ensures { self.new ≡ kept (summary_joined self.old part) }
     {
-        Summary {
-            height: part.height,
-            leaves: self.leaves.saturating_add(part.leaves),
-            first: front(self.leaves, self.first, part.first),
-            last: part.last,
-            along_first: self.along_first.joined(part.along_first),
-            along_second: self.along_second.joined(part.along_second),
+        let Summary {
+            height,
+            leaves,
+            first,
+            last,
+            along_first,
+            along_second,
+        } = part;
+        if self.leaves == 0 {
+            self.first = first;
         }
+        self.height = height;
+        self.leaves = self.leaves.saturating_add(leaves);
+        self.last = last;
+        self.along_first.join(&along_first);
+        self.along_second.join(&along_second);
     }
 
-    /// Of these rows and those of the neighbour behind, if that one may stand there.
-    pub(crate) fn with_part(self, part: Summary) -> Option<Summary>
-        ensures some { IfSome result (λ made. Follows self part × (made ≡ kept (summary_joined self part))) }
-        ensures none { IfNone result (¬ Follows self part) }
+    /// The rows of the neighbour behind join these, if that one may stand there.
+    pub(crate) fn append(&mut self, part: Summary) -> Option<()>
+        ensures some { IfSome result (λ _. Follows self.old part × (self.new ≡ kept (summary_joined self.old part))) }
+        ensures none { IfNone result (¬ Follows self.old part) }
     {
         if self.leaves == 0 {
-            return Some(self.joined(part));
+            self.join(part);
+            return Some(());
         }
         if self.height != part.height {
             return None;
@@ -173,6 +191,7 @@ impl Summary {
         if part.first.is_before(&self.last) {
             return None;
         }
-        Some(self.joined(part))
+        self.join(part);
+        Some(())
     }
 }

@@ -92,7 +92,7 @@ append_past-requires-clause-right g c =
 
 pub returns-clause-rows : goal.returns-clause-rows
 returns-clause-rows g c =
-    kept-made g.P.Plane.plain g.P.Plane.widths c.args.first.now c.args.second.now c.args.gap.now c.args.old.now c.count_before.result c.count_before-2.result (map (plain_row g.P.Plane.plain) c.args.rows.now) (map (plain_row g.P.Plane.plain) c.new-made.result.items) (map (plain_row g.P.Plane.plain) c.append_copies.new.into.items) (map (plain_row g.P.Plane.plain) c.append_rows_back.new.into.items) (map (plain_row g.P.Plane.plain) c.append_past.new.into.items)
+    kept-made g.P.Plane.plain g.P.Plane.widths c.args.first.now c.args.second.now c.args.gap.now c.args.old.now c.count_before.result c.count_before-2.result (map (plain_row g.P.Plane.plain) c.args.rows.now) (map (plain_row g.P.Plane.plain) c.reserve.new.self.items) (map (plain_row g.P.Plane.plain) c.append_copies.new.into.items) (map (plain_row g.P.Plane.plain) c.append_rows_back.new.into.items) (map (plain_row g.P.Plane.plain) c.append_past.new.into.items)
     c.split_at.result.0.now c.split_at-2.result.1.now record {
       up_to = c.requires.up_to;
       own = c.requires.own;
@@ -100,7 +100,7 @@ returns-clause-rows g c =
       before = count-there g.P.Plane.plain g.P.Plane.widths c.args.gap.now.from c.args.first.now c.args.second.now c.seen_from.result c.args.old.now c.count_before.result c.seen_from.ensures c.requires.own c.count_before.ensures;
       behind = count-there g.P.Plane.plain g.P.Plane.widths c.args.gap.now.to c.args.first.now c.args.second.now c.seen_from-2.result c.args.old.now c.count_before-2.result c.seen_from-2.ensures c.requires.own c.count_before-2.ensures;
     } c.split_at.ensures.front c.split_at-2.ensures.back
-    (ap (map (plain_row g.P.Plane.plain)) c.new-made.ensures.items) c.in_ok-append_copies.ensures c.in_ok-append_rows_back.ensures c.in_ok-append_past.ensures
+    (ap (map (plain_row g.P.Plane.plain)) (c.reserve.ensures.items ∙ c.new-made.ensures.items)) c.in_ok-append_copies.ensures c.in_ok-append_rows_back.ensures c.in_ok-append_past.ensures
 
 pub returns-clause-out : goal.returns-clause-out
 returns-clause-out g c =

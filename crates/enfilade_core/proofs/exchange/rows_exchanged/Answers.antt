@@ -33,9 +33,9 @@ append_shifted-requires-clause-right g c =
 pub returns-clause-rows : goal.returns-clause-rows
 returns-clause-rows g c =
     bottom-made c.args.gap.now (map (plain_row g.P.Plane.plain) c.args.rows.now) (map (plain_row g.P.Plane.plain) c.args.old.now)
-    (map (plain_row g.P.Plane.plain) c.new-made.result.items) (map (plain_row g.P.Plane.plain) c.append_copies.new.into.items) (map (plain_row g.P.Plane.plain) c.append_copies-2.new.into.items) (map (plain_row g.P.Plane.plain) c.append_shifted.new.into.items)
+    (map (plain_row g.P.Plane.plain) c.reserve.new.self.items) (map (plain_row g.P.Plane.plain) c.append_copies.new.into.items) (map (plain_row g.P.Plane.plain) c.append_copies-2.new.into.items) (map (plain_row g.P.Plane.plain) c.append_shifted.new.into.items)
     (map (plain_row g.P.Plane.plain) c.split_at.result.0.now) (map (plain_row g.P.Plane.plain) c.split_at-2.result.1.now)
-    (ap (map (plain_row g.P.Plane.plain)) c.new-made.ensures.items) c.in_ok-append_copies.ensures c.in_ok-append_copies-2.ensures c.in_ok-append_shifted.ensures
+    (ap (map (plain_row g.P.Plane.plain)) (c.reserve.ensures.items ∙ c.new-made.ensures.items)) c.in_ok-append_copies.ensures c.in_ok-append_copies-2.ensures c.in_ok-append_shifted.ensures
     (ap (map (plain_row g.P.Plane.plain)) c.split_at.ensures.front ∙ slice-before g.P.Plane.plain c.args.gap.now.from c.args.old.now c.count_before.result c.requires.old_right.ordered c.count_before.ensures)
     (ap (map (plain_row g.P.Plane.plain)) c.split_at-2.ensures.back ∙ slice-past g.P.Plane.plain c.args.gap.now.to c.args.old.now c.count_before-2.result c.requires.old_right.ordered c.count_before-2.ensures)
 

@@ -11,17 +11,17 @@ returns-in_err-part-clause-none g c =
     let at = mapped_at (plain_row g.P.Plane.plain) c.args.rows.now c.loop-row.row-index c.row-item.result c.loop-row-test.true c.row-item.is in
     if_none (IsRightRows g.P.Plane.widths (map (plain_row g.P.Plane.plain) c.args.rows.now) → ⊥) c.from_residual.result (λ right. c.in_err-part.ensures.none (item-right (IsRightRow g.P.Plane.widths) (map (plain_row g.P.Plane.plain) c.args.rows.now) c.loop-row.row-index (plain_row g.P.Plane.plain c.row-item.result) at.short at.at right.each))
 
-pub returns-in_err-summary-clause-none : goal.returns-in_err-summary-clause-none
-returns-in_err-summary-clause-none g c =
+pub returns-in_err-append-clause-none : goal.returns-in_err-append-clause-none
+returns-in_err-append-clause-none g c =
     let at = mapped_at (plain_row g.P.Plane.plain) c.args.rows.now c.loop-row.row-index c.row-item.result c.loop-row-test.true c.row-item.is in
-    if_none (IsRightRows g.P.Plane.widths (map (plain_row g.P.Plane.plain) c.args.rows.now) → ⊥) c.from_residual-in_err-summary.result (λ right. c.in_err-summary.ensures.none (row-follows g.P.Plane.widths (map (plain_row g.P.Plane.plain) c.args.rows.now) c.loop-row.row-index (plain_row g.P.Plane.plain c.row-item.result) c.loop-row.summary c.in_ok-part.part
+    if_none (IsRightRows g.P.Plane.widths (map (plain_row g.P.Plane.plain) c.args.rows.now) → ⊥) c.from_residual-in_err-append.result (λ right. c.in_err-append.ensures.none (row-follows g.P.Plane.widths (map (plain_row g.P.Plane.plain) c.args.rows.now) c.loop-row.row-index (plain_row g.P.Plane.plain c.row-item.result) c.loop-row.summary c.in_ok-part.part
     at.short at.at c.loop-row.invariant c.in_ok-part.ensures.some.0 c.in_ok-part.ensures.some.1 right))
 
 pub loop-row-preserved : goal.loop-row-preserved
 loop-row-preserved g c =
     let at = mapped_at (plain_row g.P.Plane.plain) c.args.rows.now c.loop-row.row-index c.row-item.result c.loop-row-test.true c.row-item.is in
-    row-more g.P.Plane.widths (map (plain_row g.P.Plane.plain) c.args.rows.now) c.loop-row.row-index (plain_row g.P.Plane.plain c.row-item.result) c.loop-row.summary c.in_ok-part.part c.in_ok-summary.summary
-    at.short at.at c.loop-row.invariant c.in_ok-part.ensures.some.0 c.in_ok-part.ensures.some.1 c.in_ok-summary.ensures.some.0 c.in_ok-summary.ensures.some.1
+    row-more g.P.Plane.widths (map (plain_row g.P.Plane.plain) c.args.rows.now) c.loop-row.row-index (plain_row g.P.Plane.plain c.row-item.result) c.loop-row.summary c.in_ok-part.part c.append.new.self
+    at.short at.at c.loop-row.invariant c.in_ok-part.ensures.some.0 c.in_ok-part.ensures.some.1 c.in_ok-append.ensures.some.0 c.in_ok-append.ensures.some.1
 
 pub returns-clause-some : goal.returns-clause-some
 returns-clause-some g c =

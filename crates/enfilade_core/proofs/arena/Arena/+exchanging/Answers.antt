@@ -1,7 +1,7 @@
 use Rattle.std.proofs.Common.{◌≡◌, ◌<◌, ◌++◌, ◌∙◌, List, map, IfOk, OnOk, arith, ap, sym, subst}
 use Rattle.std.proofs.lemmas.Result.{IfOk-weaker}
-use Rattle.enfilade_core.specs.Rows.{Shape, Branches, branch_rows, rows_table, node_at}
-use Rattle.enfilade_core.specs.Touched.{branches_under, branches_at, with_middle, MayBePacked}
+use Rattle.enfilade_core.specs.Rows.{Shape, Branches, branch_rows, rows_table, node_at, branches_under}
+use Rattle.enfilade_core.specs.Touched.{branches_at, with_middle, MayBePacked}
 use Rattle.enfilade_core.specs.Axes.{IsRightRows}
 use Rattle.enfilade_core.specs.Summary.{height_of}
 use Rattle.enfilade_core.specs.Plain.{plain_row}

@@ -1,8 +1,7 @@
 use Rattle.std.proofs.Common.{◌∙◌, ◌++◌, ap, map, List}
 use Rattle.enfilade_core.specs.declared.tree.Branch.{Branch}
-use Rattle.enfilade_core.specs.Rows.{node_at}
+use Rattle.enfilade_core.specs.Rows.{node_at, branches_under}
 use Rattle.enfilade_core.specs.Packing.{branch_back}
-use Rattle.enfilade_core.specs.Touched.{branches_under}
 use Rattle.enfilade_core.proofs.AroundMiddle.{made-in_parts, made-around}
 use Rattle.enfilade_core.proofs.arena.Arena.around.Goals as goal
 

@@ -3,8 +3,7 @@ use Rattle.std.specs.List.{All}
 use Rattle.std.proofs.lemmas.List.Elements.{All-take, All-drop}
 use Rattle.tumbler.specs.Places.{IsTumbler, sum}
 use Rattle.enfilade_core.specs.declared.tree.Branch.{Branch}
-use Rattle.enfilade_core.specs.Rows.{Branches, node_at}
-use Rattle.enfilade_core.specs.Touched.{branches_under}
+use Rattle.enfilade_core.specs.Rows.{Branches, node_at, branches_under}
 use Rattle.enfilade_core.proofs.OpenedAt.{inner-fits_first, inner-fits_second}
 use Rattle.enfilade_core.proofs.AroundMiddle.{made-opened}
 use Rattle.enfilade_core.proofs.arena.Arena.around_opened.Goals as goal

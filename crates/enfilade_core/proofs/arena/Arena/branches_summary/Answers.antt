@@ -10,15 +10,15 @@ pub returns-in_err-part-clause-none : goal.returns-in_err-part-clause-none
 returns-in_err-part-clause-none g c =
     if_none (IsRight g.P.Plane.widths c.args.self.now (Branches c.args.branches.now) → ⊥) c.from_residual.result (λ right. c.in_err-part.ensures.none (branch-right g.P.Plane.widths c.args.self.now c.args.branches.now c.loop-branch.branch-index c.branch-item.result c.loop-branch-test.true c.branch-item.is right))
 
-pub returns-in_err-summary-clause-none : goal.returns-in_err-summary-clause-none
-returns-in_err-summary-clause-none g c =
-    if_none (IsRight g.P.Plane.widths c.args.self.now (Branches c.args.branches.now) → ⊥) c.from_residual-in_err-summary.result (λ right. c.in_err-summary.ensures.none (branch-follows g.P.Plane.widths g.met.P.Plane.widths_stay c.args.self.now c.allocator.ensures.right c.args.branches.now c.loop-branch.branch-index c.branch-item.result c.loop-branch.summary c.in_ok-part.part
+pub returns-in_err-append-clause-none : goal.returns-in_err-append-clause-none
+returns-in_err-append-clause-none g c =
+    if_none (IsRight g.P.Plane.widths c.args.self.now (Branches c.args.branches.now) → ⊥) c.from_residual-in_err-append.result (λ right. c.in_err-append.ensures.none (branch-follows g.P.Plane.widths g.met.P.Plane.widths_stay c.args.self.now c.allocator.ensures.right c.args.branches.now c.loop-branch.branch-index c.branch-item.result c.loop-branch.summary c.in_ok-part.part
     c.loop-branch-test.true c.branch-item.is c.loop-branch.invariant c.in_ok-part.ensures.some.0 c.in_ok-part.ensures.some.1 right))
 
 pub loop-branch-preserved : goal.loop-branch-preserved
 loop-branch-preserved g c =
-    branch-more g.P.Plane.widths g.met.P.Plane.widths_stay c.args.self.now c.allocator.ensures.right c.args.branches.now c.loop-branch.branch-index c.branch-item.result c.loop-branch.summary c.in_ok-part.part c.in_ok-summary.summary
-    c.loop-branch-test.true c.branch-item.is c.loop-branch.invariant c.in_ok-part.ensures.some.0 c.in_ok-part.ensures.some.1 c.in_ok-summary.ensures.some.0 c.in_ok-summary.ensures.some.1
+    branch-more g.P.Plane.widths g.met.P.Plane.widths_stay c.args.self.now c.allocator.ensures.right c.args.branches.now c.loop-branch.branch-index c.branch-item.result c.loop-branch.summary c.in_ok-part.part c.append.new.self
+    c.loop-branch-test.true c.branch-item.is c.loop-branch.invariant c.in_ok-part.ensures.some.0 c.in_ok-part.ensures.some.1 c.in_ok-append.ensures.some.0 c.in_ok-append.ensures.some.1
 
 pub raised-requires : goal.raised-requires
 raised-requires g c =

@@ -1,8 +1,8 @@
 use Rattle.std.proofs.Common.{◌∙◌, List, subst}
 use Rattle.enfilade_core.specs.declared.tree.Branch.{Branch}
-use Rattle.enfilade_core.specs.Rows.{Branches, node_at}
+use Rattle.enfilade_core.specs.Rows.{Branches, node_at, branches_under}
 use Rattle.enfilade_core.specs.Exchange.{IsPacked}
-use Rattle.enfilade_core.specs.Touched.{branches_under, branches_at, with_middle}
+use Rattle.enfilade_core.specs.Touched.{branches_at, with_middle}
 use Rattle.enfilade_core.proofs.OpenedAt.{at-of_part}
 use Rattle.enfilade_core.proofs.AroundMiddle.{opened-right, opened-none, filled-if_right}
 use Rattle.enfilade_core.proofs.arena.Arena.repacked.Goals as goal

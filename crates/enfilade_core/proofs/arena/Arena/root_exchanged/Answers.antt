@@ -1,11 +1,11 @@
 use Rattle.std.proofs.Common.{◌++◌, ◌∙◌, ap, map, sym, subst, List}
 use Rattle.enfilade_core.specs.Axes.{IsRightRows}
-use Rattle.enfilade_core.specs.Rows.{Shape, moved, rows_of, node_at}
+use Rattle.enfilade_core.specs.Rows.{Shape, moved, rows_of, node_at, branches_under}
 use Rattle.enfilade_core.specs.Summary.{height_of}
 use Rattle.enfilade_core.specs.Edits.{taken_out}
 use Rattle.enfilade_core.specs.Exchange.{exchanged}
 use Rattle.enfilade_core.specs.Plain.{plain_row}
-use Rattle.enfilade_core.specs.Touched.{branches_under, around_middle}
+use Rattle.enfilade_core.specs.Touched.{around_middle}
 use Rattle.enfilade_core.proofs.Rooted.{at_root, seen_from_root, exchange_right}
 use Rattle.enfilade_core.proofs.ExchangeMiddle.{root-inner, rows-bottom, rows-under_right, root-bottom}
 use Rattle.enfilade_core.proofs.arena.Arena.root_exchanged.Goals as goal
