@@ -154,8 +154,3 @@ copied_skip marks old new k copied here = record {
     | inr ge ↦ let same : j ≡ k = omega (arith, le, ge) in absurd (true≢false (sym h ∙ ap (is_marked marks) same ∙ here))
   ];
 }
-
--- ---- a node by its number
-
-pub node_is : {L : Type 0} (old : List (Shape L)) (node : Shape L) (m k : ℕ) → node ≡ node_at old m → m ≡ k → node ≡ node_at old k
-node_is old node m k is same = is ∙ ap (node_at old) same

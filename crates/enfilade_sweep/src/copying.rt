@@ -1,27 +1,14 @@
 //! Nodes are copied, with the numbers that they have in the new arena.
-ghost use Rattle.std.specs.Prelude.{◌≡◌, ◌+◌, ◌<◌, length, map, get_or, All, IfOk, OnOk, IsTrue};
-ghost use Rattle.enfilade_core.specs.Plain.{plain_row, shape};
+ghost use Rattle.std.specs.Prelude.{◌≡◌, ◌+◌, ◌<◌, [], ◌∷◌, ◌++◌, length, map, get_or, All, IfOk, OnOk, IsTrue};
+ghost use Rattle.enfilade_core.specs.Rows.{node_at};
+ghost use Rattle.enfilade_core.specs.Right.{IsRight};
 ghost use Rattle.enfilade_sweep.specs.Sweep.{numbers, branches_of, renamed_branch, renamed};
 ghost use Rattle.enfilade_sweep.specs.Marks.{AreRanks, IsClosed, AreCopied};
 
 use enfilade_core::laws::nodes_are_right;
-use enfilade_core::{Arena, Branch, Children, Node, Plane, Row};
+use enfilade_core::{Arena, Branch, Children, Node, Plane};
 use std::alloc::Global;
 use tumbler::{List, Memory};
-
-fn copied_rows<P: Plane>(alloc: Global, rows: &[Row<P::Leaf>]) -> Result<List<Row<P::Leaf>>, Memory>
-    ensures { IfOk result (λ made. map (plain_row P.plain) made.items ≡ map (plain_row P.plain) rows.now) }
-{
-    let mut made = List::new(alloc);
-    for row in rows {
-        made.push(Row {
-            first: row.first.copy(),
-            second: row.second.copy(),
-            leaf: P::copy_leaf(alloc, &row.leaf)?,
-        })?;
-    }
-    Ok(made)
-}
 
 /// The node of the new arena at which a node of the old one is.
 fn node_there<P: Plane>(new: &Arena<P>, ranks: &[u64], node: Node) -> Node
@@ -45,6 +32,7 @@ fn renamed_branches<P: Plane>(
     ensures { IfOk result (λ made. made.items ≡ map (renamed_branch (λ k. get_or ranks.now k 0)) branches.now) }
 {
     let mut made = List::new(new.allocator());
+    made.reserve(branches.len())?;
     for branch in branches {
         let mut copy = branch.copy();
         copy.node = node_there(new, ranks, branch.node);
@@ -53,25 +41,30 @@ fn renamed_branches<P: Plane>(
     Ok(made)
 }
 
-fn renamed_children<P: Plane>(
-    new: &Arena<P>,
+/// Adds a copy of a node, by the numbers that what hangs under it has in the new arena. Rows are copied with what is
+/// kept beside them.
+fn add_renamed<P: Plane>(
+    old: &Arena<P>,
+    node: Node,
     ranks: &[u64],
-    children: &Children<P::Leaf>,
-) -> Result<Children<P::Leaf>, Memory>
-    requires known { All (λ branch. branch.node.0 < length ranks.now) (branches_of (shape P.plain children.now)) }
-    requires there { All (λ branch. get_or ranks.now branch.node.0 0 < length new.now) (branches_of (shape P.plain children.now)) }
-    ensures { IfOk result (λ made. shape P.plain made ≡ renamed (λ k. get_or ranks.now k 0) (shape P.plain children.now)) }
+    new: &mut Arena<P>,
+) -> Result<(), Memory>
+    requires below { node.0 < length old.now }
+    requires known { All (λ branch. branch.node.0 < length ranks.now) (branches_of (node_at old.now node.0)) }
+    requires there { All (λ branch. get_or ranks.now branch.node.0 0 < length new.old) (branches_of (node_at old.now node.0)) }
+    requires right { IsRight P.widths new.old (renamed (λ k. get_or ranks.now k 0) (node_at old.now node.0)) }
+    ensures { OnOk result (new.new ≡ new.old ++ renamed (λ k. get_or ranks.now k 0) (node_at old.now node.0) ∷ []) }
 {
-    match children {
-        Children::Bottom(rows) => {
-            let rows = copied_rows::<P>(new.allocator(), rows.as_slice())?;
-            Ok(Children::Bottom(rows))
+    match old.node(node) {
+        Children::Bottom(_) => {
+            new.add_copy(old, node)?;
         }
         Children::Inner(branches) => {
             let branches = renamed_branches(new, ranks, branches.as_slice())?;
-            Ok(Children::Inner(branches))
+            new.add_node(Children::Inner(branches))?;
         }
     }
+    Ok(())
 }
 
 /// Adds a copy of the node of this number, if it is marked.
@@ -97,8 +90,7 @@ fn copy_node<P: Plane>(
     let Some(node) = old.at_number(number) else {
         unreachable!()
     };
-    let children = renamed_children(new, ranks, old.node(node))?;
-    new.add_node(children)?;
+    add_renamed(old, node, ranks, new)?;
     Ok(())
 }
 
