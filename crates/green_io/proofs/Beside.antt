@@ -1,7 +1,7 @@
 -- What calls on one area leave of the others.
-use Rattle.std.proofs.Common.{◌≡◌, inl, inr, ⊎_elim, ℕ, List, Option, None, Some, refl, sym, ◌∙◌, subst, arith}
+use Rattle.std.proofs.Common.{◌≡◌, inr, ⊎_elim, ℕ, List, Option, None, Some, refl, sym, ◌∙◌, subst, arith}
 use Rattle.green_io.specs.declared.disk.Area.{Area}
-use Rattle.green_io.specs.Areas.{Areas, area_of, is_same, IsSameBeside, InArea}
+use Rattle.green_io.specs.Areas.{Areas, IsSameBeside}
 use Rattle.green_io.specs.Disk.{DiskState, IsDisk, Changes, LeftBy, Nothing, LeavesOnly, ReadsAsBeside, IsAsBeside, LeavesOthers, images_now}
 use Rattle.green_io.proofs.Crash.{weaker, then_nothing, nothing_new, none_called}
 

@@ -1,3 +1,4 @@
 pub mod Areas
 pub mod Disk
+pub mod Folder
 pub mod Outside

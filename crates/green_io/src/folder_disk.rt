@@ -2,6 +2,7 @@
 ghost use Rattle.std.specs.Prelude.{◌≡◌, ◌≤◌, ◌<◌, None, length, IfOk, OnErr};
 ghost use Rattle.green_io.specs.Disk.{DiskState, IsWithin};
 ghost use Rattle.green_io.specs.Outside.{HasRisen};
+ghost use Rattle.green_io.specs.Folder.{LieIn};
 
 use crate::disk::{Area, Disk, DiskFailed};
 use crate::folder_files::FolderFiles;
@@ -16,7 +17,7 @@ use tumbler::Memory;
 ///
 /// The files are opened at the first call, and those that are missing are made empty. A folder or a file that
 /// cannot be opened is a fault, and so is each failed call of the system, but one that was interrupted, which is
-/// tried again. Contracts see the number of faults alone.
+/// tried again. Contracts see where the files lie, and the number of faults.
 #[derive(Drop)]
 pub struct FolderDisk {
     files: FolderFiles,
@@ -24,17 +25,18 @@ pub struct FolderDisk {
 }
 
 impl Model for FolderDisk {
-    ghost use Rattle.std.specs.Prelude.{ℕ};
+    ghost use Rattle.green_io.specs.Folder.{FolderView};
 
-    ghost Value = { ℕ };
+    ghost Value = { FolderView };
 
-    ghost view = { λ disk. disk.faults };
+    ghost view = { λ disk. record { paths = disk.files.paths; faults = disk.faults } };
 }
 
 impl FolderDisk {
     /// A disk in this folder, with no fault so far. It makes the paths and opens nothing.
     pub fn new(rt: HostRuntime, folder: &str) -> Result<FolderDisk, Memory>
-        ensures { IfOk result (λ disk. disk ≡ 0) }
+        ensures faults { IfOk result (λ disk. disk.faults ≡ 0) }
+        ensures folder { IfOk result (λ disk. LieIn folder.now disk.paths) }
     {
         let files = FolderFiles::new(rt, folder)?;
         Ok(FolderDisk { files, faults: 0 })
@@ -118,7 +120,7 @@ fn sync_in(files: &mut FolderFiles, area: Area) -> io::Result<()> {
 impl Disk for FolderDisk {
     ghost state = { λ _. record { reads = None; clock = 0; images = λ _ _. Unit {0} } };
 
-    ghost fault_count = { λ disk. disk };
+    ghost fault_count = { λ disk. disk.faults };
 
     ghost is_disk = { λ _. record { sooner = λ t u image le is. tt; as_it_reads = tt } };
 

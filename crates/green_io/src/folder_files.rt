@@ -1,4 +1,6 @@
 //! The files of a folder that are the areas of a disk.
+ghost use Rattle.std.specs.Prelude.{◌≡◌, ◌++◌, IfOk};
+ghost use Rattle.green_io.specs.Folder.{LieIn};
 
 use crate::disk::Area;
 use std::alloc::{AllocError, Global};
@@ -8,15 +10,17 @@ use std::os::unix::fs::FileExt;
 
 /// Where the files lie.
 #[derive(Drop)]
-struct Paths {
-    folder: String,
-    log: String,
-    home: String,
-    journal: String,
+pub struct Paths {
+    pub folder: String,
+    pub log: String,
+    pub home: String,
+    pub journal: String,
 }
 
 impl Paths {
-    fn new(alloc: Global, folder: &str) -> Result<Paths, AllocError> {
+    fn new(alloc: Global, folder: &str) -> Result<Paths, AllocError>
+        ensures { IfOk result (λ paths. LieIn folder.now paths) }
+    {
         Ok(Paths {
             folder: String::from_str(alloc, folder)?,
             log: joined(alloc, folder, "/log")?,
@@ -26,7 +30,9 @@ impl Paths {
     }
 }
 
-fn joined(alloc: Global, folder: &str, name: &str) -> Result<String, AllocError> {
+fn joined(alloc: Global, folder: &str, name: &str) -> Result<String, AllocError>
+    ensures { IfOk result (λ path. path.bytes.items ≡ folder.now ++ name.now) }
+{
     let mut path = String::from_str(alloc, folder)?;
     path.push_str(name)?;
     Ok(path)
@@ -73,12 +79,14 @@ fn open_or_make(rt: &HostRuntime, path: &str) -> io::Result<File> {
 #[derive(Drop)]
 pub(crate) struct FolderFiles {
     rt: HostRuntime,
-    paths: Paths,
+    pub(crate) paths: Paths,
     files: Option<AreaFiles>,
 }
 
 impl FolderFiles {
-    pub(crate) fn new(rt: HostRuntime, folder: &str) -> Result<FolderFiles, AllocError> {
+    pub(crate) fn new(rt: HostRuntime, folder: &str) -> Result<FolderFiles, AllocError>
+        ensures { IfOk result (λ files. LieIn folder.now files.paths) }
+    {
         Ok(FolderFiles {
             rt,
             paths: Paths::new(rt.alloc(), folder)?,

@@ -1,5 +1,5 @@
-use Rattle.std.proofs.Common.{◌≡◌, ◌∷◌, ◌++◌, [], ℕ, List, map, get_or, ap, ◌∙◌, sym, subst}
-use Rattle.enfilade_core.specs.Rows.{Shape, Branches, node_at}
+use Rattle.std.proofs.Common.{◌∷◌, ◌++◌, [], ℕ, map, get_or, ap, ◌∙◌, sym, subst}
+use Rattle.enfilade_core.specs.Rows.{Shape, Branches}
 use Rattle.enfilade_core.specs.Right.{IsRight}
 use Rattle.enfilade_core.specs.Plain.{shape}
 use Rattle.enfilade_sweep.specs.Sweep.{renamed_branch, renamed}

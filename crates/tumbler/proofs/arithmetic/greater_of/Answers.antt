@@ -1,4 +1,4 @@
-use Rattle.std.proofs.Common.{arith, ◌∙◌}
+use Rattle.std.proofs.Common.{arith}
 use Rattle.std.proofs.lemmas.Grind.{common_steps}
 use Rattle.tumbler.proofs.ReachSteps.{greater-more}
 use Rattle.tumbler.proofs.arithmetic.greater_of.Goals as goal
