@@ -1,26 +1,22 @@
 -- The two orders of keys, and what the tests of rows see of them.
-use Rattle.std.proofs.Common.{◌≡◌, ◌∙◌, ℕ, ◌&&◌, Bool, true, false, cond, not, List, [], ◌∷◌, map, Option, Some, None, Ordering, Less, Equal, Greater, refl, sym, ap, nat_cmp}
+use Rattle.std.proofs.Common.{◌≡◌, ◌∙◌, ℕ, true, not, List, map, Equal, refl, ap, nat_cmp}
 use Rattle.std.proofs.lemmas.Iterator.Adapters.{option_map_id}
 use Rattle.std.proofs.lemmas.Map.Lookups.{exact_unsigned, exact_bytes, exact_pairs}
 use Rattle.std.specs.Cmp.{IsTotalOrder, nat_cmp_total, nat_eq_equiv, then_total, on_total, both_tied, unsigned_ties}
 use Rattle.std.specs.Cmp.Lexicographic.{slice_cmp, nat_list_cmp_total, nat_list_eq_equiv, texts_ties}
 use Rattle.std.specs.Prelude.{◌==◌}
-use Rattle.std.specs.List.{filter}
-use Rattle.std.specs.List.Sorted.{IsStrictlySortedBy}
-use Rattle.std.specs.Option.{option_map}
-use Rattle.std.specs.Ordering.{is_eq, ordering_then}
-use Rattle.std.specs.Map.{lookup, remove_entry, keys_of}
+use Rattle.std.specs.Ordering.{is_eq}
+use Rattle.std.specs.Map.{remove_entry}
 use Rattle.std.specs.BTreeMap as tree
 use Rattle.std.specs.BTreeMap.{BTreeMap, insert_entry, is_at}
-use Rattle.std.specs.BTreeSet as sorted
 use Rattle.std.specs.BTreeSet.{insert_key}
 use Rattle.febe_data.specs.declared.access.Mode.{Mode}
 use Rattle.world_rules.specs.declared.rows.OpenRow.{OpenRow}
 use Rattle.world_rules.specs.declared.rows.AccountRow.{AccountRow}
 use Rattle.world_rules.specs.World.{is_same, opens}
-use Rattle.world_rules.specs.Apply.{without_session, accounts_without, without_opening}
+use Rattle.world_rules.specs.Apply.{accounts_without, without_opening}
 use Rattle.access_table.specs.AccessRows.{mode_in, account_in, row_cmp, account_cmp}
-use Rattle.access_table.specs.inside.Keys.{opening_cmp, writing_cmp, open_row, open_rows, account_row, account_rows}
+use Rattle.access_table.specs.inside.Keys.{opening_cmp, open_row, open_rows, account_row, account_rows}
 use Rattle.access_table.proofs.Entries.{looked_up, removed, inserted}
 
 -- ---- the orders

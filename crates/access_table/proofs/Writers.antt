@@ -1,13 +1,13 @@
 -- The documents that are open for writing, beside those that are open.
-use Rattle.std.proofs.Common.{◌≡◌, ◌∙◌, ℕ, zero, suc, ◌≤◌, ◌&&◌, Bool, true, false, cond, not, List, [], ◌∷◌, map, Option, Some, None, Ordering, Less, Equal, Greater, refl, sym, ap, subst, nat_cmp, true≢false, ltb, arith, ltb-false, eq-eqb, is_gt, is_lt}
+use Rattle.std.proofs.Common.{◌≡◌, ◌∙◌, ℕ, ◌≤◌, ◌&&◌, Bool, true, false, cond, List, [], ◌∷◌, Option, Some, None, Ordering, Less, Equal, Greater, refl, sym, ap, subst, nat_cmp, true≢false, arith, ltb-false, eq-eqb, is_gt, is_lt}
 use Rattle.std.proofs.lemmas.Map.Lookups.{exact_bytes}
-use Rattle.std.specs.Prelude.{◌==◌, IsTrue, IfSome}
-use Rattle.std.specs.List.{slice_get, All}
+use Rattle.std.specs.Prelude.{IfSome}
+use Rattle.std.specs.List.{slice_get}
 use Rattle.std.specs.Cmp.Lexicographic.{slice_cmp, nat_list_cmp_total, texts_ties}
 use Rattle.std.specs.Cmp.{both_tied, nat_cmp_total}
 use Rattle.std.specs.declared.ops.Bound.TheVariants.{Included, Unbounded}
 use Rattle.std.specs.Ordering.{is_eq, ordering_then, ordering_reverse}
-use Rattle.std.specs.Map.{lookup, remove_entry}
+use Rattle.std.specs.Map.{remove_entry}
 use Rattle.std.specs.BTreeMap as tree
 use Rattle.std.specs.BTreeMap.{BTreeMap, insert_entry, is_at}
 use Rattle.std.specs.BTreeMap.Range.{IsInRange, IsLeBy}
@@ -16,9 +16,9 @@ use Rattle.std.specs.BTreeSet.{BTreeSet, insert_key, IsKeyInRange, IsKeyRangeOf}
 use Rattle.febe_data.specs.declared.access.Mode.{Mode}
 use Rattle.febe_data.specs.declared.access.Mode.TheVariants.{Read, Write}
 use Rattle.world_rules.specs.declared.rows.OpenRow.{OpenRow}
-use Rattle.world_rules.specs.World.{is_same, is_write}
+use Rattle.world_rules.specs.World.{is_same}
 use Rattle.world_rules.specs.Apply.{without_opening}
-use Rattle.access_table.specs.AccessRows.{mode_in, row_cmp, Writes, IsFirstWriter}
+use Rattle.access_table.specs.AccessRows.{row_cmp, Writes, IsFirstWriter}
 use Rattle.access_table.specs.inside.Keys.{opening_cmp, writing_cmp, open_rows, found_writing, HoldsWriters}
 use Rattle.access_table.proofs.Keyed.{opening_exact, opening_looked_up, opening_removed, opening_inserted}
 

@@ -1,5 +1,5 @@
 -- When a document is of an account.
-use Rattle.std.proofs.Common.{◌≡◌, ℕ, suc, ◌-◌, ◌<◌, ◌≤◌, ◌==◌, ◌&&◌, Bool, true, false, List, [], ◌∷◌, ◌++◌, length, take, drop, arith, sym, refl, append_assoc, nat_eq, slice_index}
+use Rattle.std.proofs.Common.{◌≡◌, ℕ, suc, ◌-◌, ◌<◌, ◌≤◌, ◌==◌, ◌&&◌, Bool, true, false, List, [], ◌∷◌, ◌++◌, length, take, drop, arith, refl, nat_eq, slice_index}
 use Rattle.std.proofs.Math.Numerals.{add-one}
 use Rattle.world_rules.specs.World.{is_same, is_of_account}
 use Rattle.std.proofs.lemmas.List.{take_at, length-append}

@@ -1,5 +1,5 @@
 -- What the table's calls leave, over plain variables.
-use Rattle.std.proofs.Common.{append_assoc, Result, Ok, ◌≡◌, ◌∙◌, ℕ, zero, suc, ◌+◌, ◌-◌, ◌<◌, ◌≤◌, Bool, true, false, cond, not, List, [], ◌∷◌, ◌++◌, map, length, get_or, Option, Some, None, Ordering, refl, sym, ap, subst, nat_cmp, is_eq, true≢false, arith}
+use Rattle.std.proofs.Common.{append_assoc, Result, Ok, ◌≡◌, ◌∙◌, ℕ, suc, ◌+◌, ◌-◌, ◌<◌, ◌≤◌, Bool, true, false, cond, not, List, [], ◌∷◌, ◌++◌, length, get_or, Option, Some, None, refl, sym, ap, subst, nat_cmp, arith}
 use Rattle.std.proofs.lemmas.Option.{slice_get-map, slice_get_read, slice_get_past}
 use Rattle.std.proofs.lemmas.List.Edits.{length-insert, length-remove}
 use Rattle.std.proofs.lemmas.List.Sums.{prefix_len-le-length}
@@ -13,11 +13,11 @@ use Rattle.std.specs.BTreeMap.{BTreeMap, is_at}
 use Rattle.std.specs.declared.boxed.Box.{Box}
 use Rattle.world_rules.specs.World.{is_same, is_child_of}
 use Rattle.doc_table.specs.declared.rows.DocumentRow.{DocumentRow}
-use Rattle.doc_table.specs.DocumentRows.{is_of, documents_in, has_in, root_in, content_in, added, removed, with_root, with_content, row_cmp, most_documents, next_document_in}
+use Rattle.doc_table.specs.DocumentRows.{is_of, documents_in, has_in, root_in, content_in, added, removed, row_cmp, most_documents, next_document_in}
 use Rattle.doc_table.specs.inside.Kept.{unboxed, IsAscending, is_before, IsAt, count_in, CountsAs, HoldsCounts, first_sibling}
 use Rattle.doc_table.proofs.Placed.{absent, found, has_found, lacks_found, inserted, taken_out, changed, changed_there}
 use Rattle.doc_table.proofs.Ordered.{same_item, long, ascends_in, ascends_left, documents_added, documents_removed, documents_changed}
-use Rattle.doc_table.proofs.Counted.{counts_added, counts_removed, count_small, same_is}
+use Rattle.doc_table.proofs.Counted.{counts_added, counts_removed, same_is}
 
 -- ---- what is not there
 

@@ -1,16 +1,16 @@
 -- How counts follow the documents that come in and go.
-use Rattle.std.proofs.Common.{◌≡◌, ◌≢◌, ◌∙◌, ℕ, zero, suc, ◌+◌, ◌-◌, ◌<◌, ◌≤◌, ◌^◌, ◌&&◌, Bool, true, false, cond, List, [], ◌∷◌, ◌++◌, map, length, take, get_or, Ordering, Less, Equal, Greater, refl, sym, ap, subst, nat_cmp, eqb, is_eq, true≢false, arith, length-append, eqb-true, eq-eqb, nat_eq}
+use Rattle.std.proofs.Common.{◌≡◌, ◌∙◌, ℕ, zero, suc, ◌+◌, ◌-◌, ◌<◌, ◌≤◌, ◌&&◌, Bool, true, false, cond, List, [], ◌∷◌, ◌++◌, length, take, get_or, Ordering, Less, Equal, Greater, refl, sym, ap, is_eq, true≢false, arith, length-append, eqb-true, eq-eqb, nat_eq}
 use Rattle.std.proofs.lemmas.List.Sums.{sum_by-cons, sum_by-insert, sum_by-remove, count_by-le-length}
 use Rattle.std.proofs.lemmas.Map.Lookups.{exact_bytes}
 use Rattle.std.specs.Prelude.{count_by, ◌==◌}
 use Rattle.std.specs.List.{sum_by, insert, remove}
-use Rattle.std.specs.Cmp.Lexicographic.{slice_cmp, texts_ties}
+use Rattle.std.specs.Cmp.Lexicographic.{texts_ties}
 use Rattle.std.specs.BTreeMap.{BTreeMap}
 use Rattle.std.specs.declared.boxed.Box.{Box}
 use Rattle.world_rules.proofs.Specs.{sum_by-map}
 use Rattle.world_rules.specs.World.{is_same, is_child_of}
 use Rattle.doc_table.specs.declared.rows.DocumentRow.{DocumentRow}
-use Rattle.doc_table.specs.DocumentRows.{documents_in, most_documents}
+use Rattle.doc_table.specs.DocumentRows.{documents_in}
 use Rattle.doc_table.specs.inside.Kept.{unboxed, HoldsCounts, CountsAs, count_in, first_sibling}
 use Rattle.doc_table.proofs.Ordered.{long}
 

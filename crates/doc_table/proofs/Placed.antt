@@ -1,15 +1,13 @@
 -- Where a document stands among rows in order, and what an edit at that place does.
-use Rattle.std.proofs.Common.{◌≡◌, ◌∙◌, ℕ, zero, suc, ◌+◌, ◌<◌, ◌≤◌, ◌||◌, Bool, true, false, cond, not, List, [], ◌∷◌, ◌++◌, map, length, take, drop, get_or, Option, Some, None, Ordering, Less, Equal, Greater, refl, sym, ap, subst, nat_cmp, is_eq, is_lt, true≢false, arith}
+use Rattle.std.proofs.Common.{◌≡◌, ◌∙◌, ℕ, ◌<◌, ◌||◌, Bool, true, false, cond, List, [], ◌∷◌, map, length, get_or, Option, Some, None, Ordering, Less, Equal, Greater, refl, sym, ap, nat_cmp, is_eq, true≢false, arith}
 use Rattle.std.proofs.Math.Numerals.{one-add}
-use Rattle.std.proofs.lemmas.Grind.{common_steps}
-use Rattle.std.specs.List.{filter, find, list_any, prefix_len, insert, remove, AllByRecursion}
+use Rattle.std.specs.List.{find, prefix_len, insert, remove, AllByRecursion}
 use Rattle.std.specs.List.Sorted.{IsStrictlySortedBy}
 use Rattle.std.specs.Cmp.Lexicographic.{slice_cmp, nat_list_cmp_total, texts_ties}
-use Rattle.std.specs.Ordering.{ordering_reverse, match_ordering}
+use Rattle.std.specs.Ordering.{ordering_reverse}
 use Rattle.std.specs.Prelude.{set}
 use Rattle.std.specs.BTreeSet.{insert_key}
 use Rattle.std.specs.declared.boxed.Box.{Box}
-use Rattle.world_rules.specs.World.{is_same}
 use Rattle.doc_table.specs.declared.rows.DocumentRow.{DocumentRow}
 use Rattle.doc_table.specs.DocumentRows.{is_of, documents_in, has_in, row_cmp, removed}
 use Rattle.doc_table.specs.inside.Kept.{unboxed, IsAscending, is_before}

@@ -1,5 +1,5 @@
 -- What the last test of a change or an entry decides, where the tests before it have held.
-use Rattle.std.proofs.Common.{◌≡◌, ◌∙◌, ◌↔◌, ℕ, ◌+◌, ◌-◌, ◌^◌, ◌<◌, ◌≤◌, Bool, IsTrue, List, length, All, sym, subst, arith}
+use Rattle.std.proofs.Common.{◌≡◌, ◌∙◌, ◌↔◌, ℕ, ◌+◌, ◌<◌, ◌≤◌, Bool, IsTrue, List, length, All, sym, subst, arith}
 use Rattle.febe_data.specs.Plain.{PlainSpec, PlainEntry}
 use Rattle.world_rules.specs.World.{World, has_document, text_length}
 use Rattle.world_rules.specs.Picking.{picked_addresses, runs_of}

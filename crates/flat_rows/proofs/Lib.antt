@@ -9,3 +9,4 @@ pub mod Relations
 pub mod Positions
 pub mod SharedBytes
 pub mod Indexed
+pub mod Lasts

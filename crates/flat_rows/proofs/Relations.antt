@@ -2,7 +2,7 @@
 use Rattle.std.proofs.Common.{◌≡◌, ℕ, ◌+◌, ◌<◌, ◌∙◌, ◌==◌, ◌&&◌, ◌||◌, ◌++◌, ◌∷◌, [], Bool, List, length, take, get_or, map, false, true, ap, sym, refl, cond, append-nil, arith, Some, None}
 use Rattle.std.specs.Prelude.{Option, filter, if◌then◌else◌}
 use Rattle.std.specs.Global.{Vec}
-use Rattle.std.specs.List.{list_any, flat_map}
+use Rattle.std.specs.List.{flat_map}
 use Rattle.std.specs.Option.{option_map, unwrap_or}
 use Rattle.std.specs.BTreeMap.{BTreeMap, Updates}
 use Rattle.std.specs.BTreeMap.{is_at}
@@ -18,17 +18,11 @@ use Rattle.std.proofs.lemmas.Simd.{map-map}
 use Rattle.std.proofs.lemmas.List.Concat.{flat_map-append}
 use Rattle.std.proofs.lemmas.List.Elements.{filter_more, filter-append}
 use Rattle.world_rules.specs.declared.rows.Row.{Row}
-use Rattle.febe_data.specs.declared.refusal.Refusal.{Refusal}
-use Rattle.febe_data.specs.declared.refusal.Refusal.TheVariants.{NoSuchDocument, NotOpen, BadAddress, TooLong}
-use Rattle.febe_data.specs.LimitsView.{LimitsView}
-use Rattle.febe_data.specs.Plain.{PlainSpec, relate}
 use Rattle.world_rules.specs.declared.pairs.Pair.{Pair}
-use Rattle.world_rules.specs.World.{World, is_same}
-use Rattle.world_rules.specs.Relation.{pairs_of_row, is_pair, has_pair, diagonals}
-use Rattle.world_rules.specs.Refusals.{first_holding, lacks_document, lacks_opening, is_bad_span, is_too_long, picking, wanted}
+use Rattle.world_rules.specs.World.{is_same}
+use Rattle.world_rules.specs.Relation.{pairs_of_row, is_pair, has_pair}
 use Rattle.flat_rows.specs.PairIndex.{pairs_with, places_at, places_in, pair_cmp, set_has, AddsPlace, IsPlaceIndex, IsPairSet}
 use Rattle.flat_rows.proofs.Sizes.{span_fits_at}
-use Rattle.world_rules.proofs.Checks.{held_first, held_then}
 
 pub ruleset picked_steps = (span_fits_at)
 

@@ -1,6 +1,8 @@
 //! Look-ups in the world's lists, by scans.
-ghost use Rattle.std.specs.Prelude.{◌≡◌, ◌+◌, ◌==◌, ◌&&◌, ◌<◌, ◌^◌, ◌↔◌, ◌∷◌, [], ◌++◌, IsTrue, length, take, count_by, nat_eq, not, map, IfOk, ◌-◌};
+ghost use Rattle.std.specs.Prelude.{◌≡◌, ◌+◌, ◌==◌, ◌&&◌, ◌<◌, ◌^◌, ◌↔◌, ◌∷◌, [], ◌++◌, IsTrue, length, take, count_by, nat_eq, not, map, IfOk, IsOk, ◌-◌, ◌≤◌};
 ghost use Rattle.std.specs.List.{list_any, find};
+ghost use Rattle.tumbler.specs.Places.{IsTumbler};
+ghost use Rattle.tumbler.specs.Address.{most_document_places};
 ghost use Rattle.std.specs.Option.{option_map, option_copied};
 ghost use Rattle.std.specs.Ordering.{nat_cmp, is_le, is_lt};
 ghost use Rattle.std.specs.Cmp.Lexicographic.{slice_cmp};
@@ -97,7 +99,8 @@ fn front_of(address: &Tumbler) -> &[u32]
 /// The address of the account's next document, where it is a tumbler.
 #[tactic(auto, using(world_rules::proofs::Fronts::fronts))]
 pub fn next_document(documents: &[Tumbler], account: &Tumbler) -> Result<Tumbler, WorldError>
-    ensures { IfOk result (λ document. document ≡ next_below documents.now (account.now ++ 0 ∷ [])) }
+    ensures value { IfOk result (λ document. document ≡ next_below documents.now (account.now ++ 0 ∷ [])) }
+    ensures accepted { IsTumbler (next_below documents.now (account.now ++ 0 ∷ [])) → IsOk result }
 {
     let first = extended(account, &[0, 1])?;
     let number = one_more_than(children_among(documents, front_of(&first)))?;
@@ -106,7 +109,8 @@ pub fn next_document(documents: &[Tumbler], account: &Tumbler) -> Result<Tumbler
 
 /// The address of the document's next version, where it is a tumbler.
 pub fn next_version(documents: &[Tumbler], document: &Tumbler) -> Result<Tumbler, WorldError>
-    ensures { IfOk result (λ version. version ≡ next_below documents.now document.now) }
+    ensures value { IfOk result (λ version. version ≡ next_below documents.now document.now) }
+    ensures accepted { IsTumbler (next_below documents.now document.now) → IsOk result }
 {
     let number = one_more_than(children_among(documents, document.places()))?;
     extended(document, &[number])
@@ -130,7 +134,8 @@ pub fn link_length(rows: &[Row], document: &Tumbler) -> usize
 
 /// The number of the next link that is made in the document.
 pub fn next_link(links: &[LinkRow], home: &Tumbler) -> Result<u32, WorldError>
-    ensures { IfOk result (λ n. n ≡ count_by (λ l. is_same l.home home.now) (map plain_link links.now) + 1) }
+    ensures value { IfOk result (λ n. n ≡ count_by (λ l. is_same l.home home.now) (map plain_link links.now) + 1) }
+    ensures accepted { count_by (λ l. is_same l.home home.now) (map plain_link links.now) + 1 < 2 ^ 32 → IsOk result }
 {
     one_more_than(links.iter().filter(|link| link.home == *home).count())
 }
@@ -138,7 +143,8 @@ pub fn next_link(links: &[LinkRow], home: &Tumbler) -> Result<u32, WorldError>
 /// The number of the document's next content byte.
 #[tactic(auto, using(world_rules::proofs::Fronts::fronts))]
 pub fn next_content(bytes: &[ByteRow], document: &Tumbler) -> Result<u32, WorldError>
-    ensures { IfOk result (λ n. n ≡ content_length_of bytes.now document.now + 1) }
+    ensures value { IfOk result (λ n. n ≡ content_length_of bytes.now document.now + 1) }
+    ensures accepted { length document.now ≤ most_document_places → content_length_of bytes.now document.now + 1 < 2 ^ 32 → IsOk result }
 {
     let first = extended(document, &[0, 1, 1])?;
     one_more_than(content_children(bytes, front_of(&first)))

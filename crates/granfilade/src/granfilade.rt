@@ -2,10 +2,10 @@
 ghost use Rattle.std.specs.Prelude.{◌≡◌, ℕ, ◌+◌, ◌<◌, ◌≤◌, ◌++◌, [], length, take, not, false, IsOk, IfOk, OnOk, OnErr};
 ghost use Rattle.tumbler.specs.Places.{place_bound};
 ghost use Rattle.tumbler.specs.Span.{SpanFits};
-ghost use Rattle.enfilade_core.specs.Rows.{rows_of};
+ghost use Rattle.enfilade_core.specs.Rows.{rows_of, node_at};
 ghost use Rattle.enfilade_core.specs.Exchange.{Grows};
-ghost use Rattle.enfilade_core.specs.Standing.{tree_debt, tree_allows};
-ghost use Rattle.enfilade_balance.specs.Steps.{root_after, is_idle};
+ghost use Rattle.enfilade_core.specs.Standing.{tree_debt, tree_allows, has_lone_child};
+ghost use Rattle.enfilade_balance.specs.Steps.{root_after, is_idle, is_dropped};
 ghost use Rattle.granfilade.specs.Content.{ContentTree, laid, content, tree_rows, laid_out, bytes_in};
 ghost use Rattle.granfilade.specs.Steps.{last_of};
 ghost use Rattle.granfilade.specs.Puts.{IsNext, IsContent, put_in};
@@ -99,6 +99,7 @@ impl Granfilade {
         ensures root { IfOk result (λ made. self.new.root ≡ (root_after (record { 0 = self.old.root }) made).0) }
         ensures lowers { IfOk result (λ made. is_idle made ≡ false → tree_debt self.new.nodes self.new.root + 1 ≤ tree_debt self.old.nodes self.old.root) }
         ensures idle { IfOk result (λ made. is_idle made ≡ not (tree_allows self.old.nodes self.old.root)) }
+        ensures dropped { IfOk result (λ made. is_dropped made ≡ has_lone_child (node_at self.old.nodes self.old.root)) }
         ensures succeeds { tree_allows self.old.nodes self.old.root ≡ false → IsOk result }
         ensures same { tree_allows self.old.nodes self.old.root ≡ false → self.new ≡ self.old }
         ensures refused { OnErr result (self.new ≡ self.old) }

@@ -1,5 +1,5 @@
 -- Each content that the disk model allows, a crash may leave, where no cut stands since the area was made stable.
-use Rattle.std.proofs.Common.{◌≡◌, ◌⊎◌, inl, inr, ⊎_elim, ℕ, ◌+◌, ◌-◌, ◌<◌, ◌≤◌, min, max, Bool, true, false, if◌then◌else◌, List, [], ◌∷◌, ◌++◌, length, take, drop, get_or, refl, sym, ap, ◌∙◌, subst, arith, append_assoc, length-append, length-take, length-drop}
+use Rattle.std.proofs.Common.{◌≡◌, ◌⊎◌, inl, inr, ⊎_elim, ℕ, ◌+◌, ◌-◌, ◌<◌, ◌≤◌, min, max, Bool, true, false, if◌then◌else◌, List, [], ◌∷◌, ◌++◌, length, take, drop, get_or, refl, sym, ap, ◌∙◌, arith, append_assoc, length-append, length-take, length-drop}
 use Rattle.std.proofs.lemmas.List.{get_or-take, get_or-drop, get_or_append_left, get_or-append_right, get_or_default, same_lists}
 use Rattle.std.proofs.lemmas.Bool.{cases_lt}
 use Rattle.green_io.specs.declared.disk.Area.{Area}
@@ -8,7 +8,7 @@ use Rattle.green_io.specs.Disk.{Torn}
 use Rattle.green_fakes.specs.DiskView.{bytes_after}
 use Rattle.green_fakes.specs.DiskImages.{is_sync, IsLeftByStep, IsLeftWhere, IsLeft, synced_after}
 use Rattle.green_fakes.specs.DiskLaws.{unwritten_torn}
-use Rattle.green_fakes.specs.DiskModel.{IsSameAt, StaysBeside, least_by, greatest_by, least_end, greatest_end, IsWithin, IsWrittenBy, IsWrittenWhere, IsWritten, IsModelled, IsUncutBy, IsUncutWhere, IsUncut, ModelledAreImages}
+use Rattle.green_fakes.specs.DiskModel.{IsSameAt, least_by, greatest_by, least_end, greatest_end, IsWithin, IsWrittenBy, IsWrittenWhere, IsWritten, IsUncutBy, IsUncutWhere, IsUncut, ModelledAreImages}
 use Rattle.green_fakes.proofs.Model.{Says, stays_torn_at}
 use Rattle.green_fakes.specs.declared.change.Step.{Step}
 use Rattle.green_fakes.specs.declared.change.Step.TheVariants.{Write, FailedWrite, Cut, FailedCut, Sync}

@@ -1,8 +1,7 @@
 -- Bytes that are written in place, and any bytes in the place of others.
-use Rattle.std.proofs.Common.{◌≡◌, ◌⊎◌, inl, inr, ℕ, ◌+◌, ◌-◌, ◌≤◌, ◌<◌, min, max, List, [], ◌++◌, length, take, drop, replicate, refl, sym, ap, ◌∙◌, arith, append_assoc, length-append, length-take, length-drop}
-use Rattle.std.proofs.lemmas.List.{append-nil, take_all, take_at, take-append-le, drop_all, drop_at, take_min, drop-drop, length-replicate, replicate-append-replicate}
+use Rattle.std.proofs.Common.{◌≡◌, ◌⊎◌, inl, inr, ℕ, ◌+◌, ◌-◌, ◌≤◌, ◌<◌, List, ◌++◌, length, take, drop, replicate, sym, ap, ◌∙◌, arith, append_assoc, length-append}
+use Rattle.std.proofs.lemmas.List.{append-nil, take_all, take_at, take-append-le, drop_all, drop-drop, length-replicate, replicate-append-replicate}
 use Rattle.std.proofs.lemmas.Bool.{cases_lt}
-use Rattle.green_io.specs.Disk.{Torn}
 use Rattle.green_fakes.specs.DiskView.{written_at}
 
 -- the front of bytes that have grown by zeros

@@ -1,13 +1,13 @@
 -- What a call leaves of the images of a disk in memory.
-use Rattle.std.proofs.Common.{◌≡◌, ◌⊎◌, inl, inr, ⊎_elim, ℕ, ◌+◌, ◌≤◌, Bool, true, false, List, [], ◌∷◌, length, Result, Ok, Err, Some, OnOk, OnErr, refl, sym, ap, ◌∙◌, subst, arith}
+use Rattle.std.proofs.Common.{◌≡◌, inl, inr, ⊎_elim, ℕ, ◌≤◌, Bool, true, false, List, ◌∷◌, length, Result, Ok, Err, Some, OnErr, refl, sym, ap, subst, arith}
 use Rattle.green_io.specs.declared.disk.Area.{Area}
 use Rattle.green_io.specs.declared.disk.Area.TheVariants.{Log, Home, Journal}
 use Rattle.green_io.specs.declared.disk.DiskFailed.{DiskFailed}
 use Rattle.green_io.specs.Areas.{Areas, area_of, is_same, IsSameBeside, InArea}
-use Rattle.green_io.specs.Disk.{DiskState, images_now, Torn, PartlyCut, Changes, LeftBy, Nothing, LeavesOnly}
+use Rattle.green_io.specs.Disk.{images_now, Torn, PartlyCut, Changes, LeftBy, Nothing, LeavesOnly}
 use Rattle.green_fakes.specs.MemoryView.{one_more}
-use Rattle.green_fakes.specs.DiskView.{DiskView, after_step, bytes_after, areas_after, areas_of, counted, with_fault, with_change, Writes, Cuts, Syncs}
-use Rattle.green_fakes.specs.DiskImages.{IsTornBy, is_sync, IsLeftByStep, IsLeftWhere, IsLeft, IsImage, IsImageFrom, state_of}
+use Rattle.green_fakes.specs.DiskView.{DiskView, after_step, bytes_after, areas_after, areas_of, Writes, Cuts, Syncs}
+use Rattle.green_fakes.specs.DiskImages.{IsTornBy, is_sync, IsLeftByStep, IsLeftWhere, IsLeft, IsImage, state_of}
 use Rattle.green_fakes.specs.DiskLaws.{unwritten_torn, bytes_left, image_now}
 use Rattle.green_fakes.specs.declared.change.Step.{Step}
 use Rattle.green_fakes.specs.declared.change.Step.TheVariants.{Write, FailedWrite, Cut, FailedCut, Sync}

@@ -1,13 +1,13 @@
 -- What a crash may leave is what the disk model says in words.
-use Rattle.std.proofs.Common.{◌≡◌, ◌⊎◌, ◌↔◌, inl, inr, ⊎_elim, ℕ, ◌+◌, ◌-◌, ◌<◌, ◌≤◌, min, max, Bool, true, false, if◌then◌else◌, List, [], ◌∷◌, ◌++◌, length, take, drop, get_or, refl, sym, ap, ◌∙◌, subst, arith, append_assoc, length-append, length-take, length-drop}
+use Rattle.std.proofs.Common.{◌≡◌, ◌⊎◌, inl, inr, ⊎_elim, ℕ, ◌+◌, ◌-◌, ◌<◌, ◌≤◌, min, max, Bool, true, false, if◌then◌else◌, List, [], ◌∷◌, ◌++◌, length, take, drop, get_or, refl, sym, ap, ◌∙◌, arith, append_assoc, length-append, length-take, length-drop}
 use Rattle.std.proofs.lemmas.List.{get_or-take, get_or-drop, get_or_append_left, get_or-append_right, get_or_default, same_lists}
 use Rattle.std.proofs.lemmas.Bool.{cases_lt}
 use Rattle.green_io.specs.declared.disk.Area.{Area}
 use Rattle.green_io.specs.Areas.{is_same}
 use Rattle.green_io.specs.Disk.{Torn, PartlyCut}
 use Rattle.green_fakes.specs.DiskView.{bytes_after}
-use Rattle.green_fakes.specs.DiskImages.{IsTornBy, is_sync, IsLeftByStep, IsLeftWhere, IsLeft, synced_after}
-use Rattle.green_fakes.specs.DiskModel.{IsSameAt, StaysBeside, StaysBefore, CallsAreModelled, least_by, greatest_by, least_end, greatest_end, IsWithin, IsWrittenBy, IsWrittenWhere, IsWritten, IsModelled, ImagesAreModelled}
+use Rattle.green_fakes.specs.DiskImages.{is_sync, IsLeftByStep, IsLeftWhere, IsLeft, synced_after}
+use Rattle.green_fakes.specs.DiskModel.{IsSameAt, StaysBeside, StaysBefore, CallsAreModelled, least_by, greatest_by, least_end, greatest_end, IsWithin, IsWrittenBy, IsWrittenWhere, IsWritten, ImagesAreModelled}
 use Rattle.green_fakes.specs.declared.change.Step.{Step}
 use Rattle.green_fakes.specs.declared.change.Step.TheVariants.{Write, FailedWrite, Cut, FailedCut, Sync}
 use Rattle.green_fakes.specs.declared.change.Change.{Change}

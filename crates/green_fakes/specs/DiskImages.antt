@@ -1,5 +1,5 @@
 -- What a crash may leave of a disk in memory.
-use Rattle.std.specs.Prelude.{◌≡◌, ◌⊎◌, ℕ, ◌<◌, ◌≤◌, ltb, Bool, true, false, if◌then◌else◌, List, [], ◌∷◌, length, Some}
+use Rattle.std.specs.Prelude.{◌≡◌, ◌⊎◌, ℕ, ◌≤◌, ltb, Bool, true, false, if◌then◌else◌, List, [], ◌∷◌, length, Some}
 use Rattle.green_io.specs.declared.disk.Area.{Area}
 use Rattle.green_io.specs.declared.disk.Area.TheVariants.{Log, Home, Journal}
 use Rattle.green_io.specs.Areas.{Areas, area_of, is_same}

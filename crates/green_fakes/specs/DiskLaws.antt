@@ -1,9 +1,9 @@
 -- A disk in memory is a disk: time goes one way, and as it reads it is one of its images.
-use Rattle.std.proofs.Common.{◌≡◌, ◌⊎◌, inl, inr, ℕ, ◌+◌, ◌-◌, ◌≤◌, min, max, Bool, true, false, List, [], ◌∷◌, ◌++◌, length, take, drop, replicate, refl, sym, ap, ◌∙◌, if◌then◌else◌, arith, append_assoc, length-append, length-take, length-drop}
+use Rattle.std.proofs.Common.{◌≡◌, inl, inr, ℕ, ◌+◌, ◌-◌, ◌≤◌, min, Bool, true, false, List, [], ◌∷◌, ◌++◌, length, take, drop, replicate, refl, sym, ap, ◌∙◌, if◌then◌else◌, arith, append_assoc, length-append, length-take, length-drop}
 use Rattle.std.proofs.lemmas.List.{take-append-drop, take_all, take_min, drop-drop, length-replicate}
 use Rattle.green_io.specs.declared.disk.Area.{Area}
 use Rattle.green_io.specs.declared.disk.Area.TheVariants.{Log, Home, Journal}
-use Rattle.green_io.specs.Areas.{Areas, area_of, is_same}
+use Rattle.green_io.specs.Areas.{Areas, is_same}
 use Rattle.green_io.specs.Disk.{IsDisk, Torn, PartlyCut}
 use Rattle.green_fakes.specs.DiskView.{DiskView, written_at, after_step, bytes_after, areas_after, areas_of}
 use Rattle.green_fakes.specs.DiskImages.{IsTornBy, is_sync, IsLeftByStep, IsLeftWhere, IsLeft, IsImage, IsImageFrom, state_of}

@@ -1,10 +1,10 @@
 -- What contracts see of a disk in memory, and what its calls do.
-use Rattle.std.specs.Prelude.{◌≡◌, ◌⊎◌, ℕ, ◌+◌, ◌-◌, ◌^◌, ◌==◌, min, Bool, true, false, if◌then◌else◌, List, [], ◌∷◌, ◌++◌, length, take, drop, replicate, Result, Ok, Err, IsOk, IsErr}
+use Rattle.std.specs.Prelude.{◌≡◌, ◌⊎◌, ℕ, ◌+◌, ◌-◌, ◌^◌, ◌==◌, min, if◌then◌else◌, List, [], ◌∷◌, ◌++◌, length, take, drop, replicate, Result, Ok, Err, IsOk, IsErr}
 use Rattle.tumbler.specs.ListView.{ListView}
 use Rattle.green_io.specs.declared.disk.Area.{Area}
 use Rattle.green_io.specs.declared.disk.Area.TheVariants.{Log, Home, Journal}
 use Rattle.green_io.specs.declared.disk.DiskFailed.{DiskFailed}
-use Rattle.green_io.specs.Areas.{Areas, area_of, is_same}
+use Rattle.green_io.specs.Areas.{Areas, is_same}
 use Rattle.green_io.specs.declared.source.ReadAnswer.{ReadAnswer}
 use Rattle.green_io.specs.declared.source.ReadAnswer.TheVariants.{Failed}
 use Rattle.green_fakes.specs.MemoryView.{one_more, fails_next, answer_of_count}

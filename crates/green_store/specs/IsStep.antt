@@ -4,6 +4,7 @@ use Rattle.febe_data.specs.declared.refusal.Refusal.TheVariants.{Memory}
 use Rattle.febe_data.specs.Plain.{PlainRequest, plain_request, PlainReply, plain_reply, refused}
 use Rattle.febe_data.specs.Validity.{IsRequest, IsReply}
 use Rattle.world_rules.specs.History.{is_live, kept}
+use Rattle.tree_world.specs.Condition.{StaysInShape}
 use Rattle.green_store.specs.declared.step.Step.{Step}
 use Rattle.green_store.specs.declared.step.Step.TheVariants as steps
 use Rattle.green_store.specs.declared.step.StepAnswer.{StepAnswer}
@@ -94,10 +95,11 @@ pub record IsBalanced (before after : StoreView) : Type 0 where
   pub base_stays : after.base ≡ before.base
   pub still : StandsStill before after
 
--- the arenas hold no node that no tree's root reaches
+-- the arenas hold no node that no tree's root reaches, and the trees stay in shape
 pub record IsSwept (before after : StoreView) : Type 0 where
   pub may : MaySweep before
   pub reached : after.trees.reached ≡ true
+  pub shape_stays : StaysInShape before.trees after.trees
   pub base_is : after.base ≡ after.trees.nodes
   pub still : StandsStill before after
 

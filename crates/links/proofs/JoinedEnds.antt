@@ -1,7 +1,5 @@
 -- Ends with joined spans ask for the same.
-use Rattle.std.proofs.Common.{◌≡◌, ◌≢◌, ℕ, zero, suc, ◌+◌, ◌<◌, Bool, ◌&&◌, ◌||◌, cond, Option, Some, None, List, [], ◌∷◌, ◌++◌, length, map, take, filter, replicate, refl, sym, ap, ◌∙◌, subst, arith, length-append}
-use Rattle.std.specs.List.{list_any}
-use Rattle.tumbler.specs.ListView.{ListView}
+use Rattle.std.proofs.Common.{◌≡◌, ◌≢◌, ℕ, zero, suc, ◌+◌, ◌<◌, Bool, ◌&&◌, ◌||◌, cond, Some, List, [], ◌∷◌, length, take, filter, refl, sym, ap, ◌∙◌, arith, length-append}
 use Rattle.tumbler.specs.Places.{width_at, comes_before}
 use Rattle.tumbler.specs.declared.span.Span.{Span}
 use Rattle.febe_data.specs.declared.run.Run.{Run}
@@ -12,8 +10,8 @@ use Rattle.world_rules.specs.World.{LinkRow, content_address}
 use Rattle.world_rules.specs.Finding.{is_home_wanted}
 use Rattle.links.specs.declared.row.WantedEnds.{WantedEnds}
 use Rattle.links.specs.LinkLists.{IsRun, run_span, ids_in}
-use Rattle.links.specs.Finding.{is_end_met, given, is_wanted, found_in}
-use Rattle.links.specs.inside.Joined.{AsksTheSame, WantsTheSame, IsWide}
+use Rattle.links.specs.Finding.{is_end_met, is_wanted, found_in}
+use Rattle.links.specs.inside.Joined.{AsksTheSame, WantsTheSame}
 
 -- spans that meet the same rows meet the same runs
 pub asks_the_same : (made spans : List Span) → ((row : Row (List ℕ)) → is_met_by made row ≡ is_met_by spans row) → (runs : List Run) → is_end_met (Some made) runs ≡ is_end_met (Some spans) runs

@@ -1,15 +1,15 @@
 -- Of spans that come one after another, the last one that starts before the end of a run meets it if any does.
-use Rattle.std.proofs.Common.{◌≡◌, ◌≢◌, ◌⊎◌, ℕ, zero, suc, ◌+◌, ◌-◌, ◌<◌, ◌≤◌, Bool, true, false, ◌&&◌, ◌||◌, cond, List, [], ◌∷◌, length, get_or, refl, sym, ap, ◌∙◌, subst, arith, true≢false, inl, inr}
+use Rattle.std.proofs.Common.{◌≡◌, ◌≢◌, ◌⊎◌, ℕ, zero, suc, ◌+◌, ◌-◌, ◌<◌, ◌≤◌, Bool, true, false, ◌||◌, cond, List, [], ◌∷◌, length, get_or, refl, sym, ap, ◌∙◌, subst, arith, true≢false, inl, inr}
 use Rattle.std.proofs.Math.Numerals.{one-add}
-use Rattle.std.specs.List.{All, AllPairs, list_any, prefix_len}
+use Rattle.std.specs.List.{list_any, prefix_len}
 use Rattle.std.specs.List.Sorted.{IsPartitionedBy}
 use Rattle.std.proofs.lemmas.Bool.{and_parts, and_from, cases_lt}
-use Rattle.std.proofs.lemmas.List.Elements.{All-head, All-tail}
-use Rattle.tumbler.specs.Places.{IsBefore, IsUpTo, comes_before, sum}
+use Rattle.std.proofs.lemmas.List.Elements.{All-tail}
+use Rattle.tumbler.specs.Places.{IsBefore, comes_before, sum}
 use Rattle.tumbler.specs.Span.{end_of}
 use Rattle.tumbler.specs.declared.span.Span.{Span}
-use Rattle.tumbler.proofs.Order.{upto_before, before_upto, before_before, upto_if_before}
-use Rattle.tumbler.proofs.Before.{before_if_true, true_if_before, up_to_if_false}
+use Rattle.tumbler.proofs.Order.{upto_before, before_before, upto_if_before}
+use Rattle.tumbler.proofs.Before.{before_if_true, true_if_before}
 use Rattle.enfilade_core.specs.Axes.{later}
 use Rattle.enfilade_core.proofs.Later.{later-first}
 use Rattle.enfilade_search.specs.Meeting.{touches}

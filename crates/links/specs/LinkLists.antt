@@ -1,6 +1,6 @@
 -- What the table of links shows: the links that came in and were not taken back, in ascending order of ids, and an
 -- index for the runs of each end.
-use Rattle.std.specs.Prelude.{◌≡◌, ℕ, ◌+◌, ◌<◌, ◌==◌, not, Bool, List, length, map, All, filter, count_by, Option, if◌then◌else◌}
+use Rattle.std.specs.Prelude.{ℕ, ◌+◌, ◌<◌, ◌==◌, not, Bool, List, length, map, All, filter, count_by, Option, if◌then◌else◌}
 use Rattle.std.specs.List.{find, list_any, flat_map}
 use Rattle.std.specs.List.Sorted.{IsPermutation}
 use Rattle.std.specs.declared.cmp.Ordering.{Ordering}

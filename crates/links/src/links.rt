@@ -5,8 +5,9 @@ ghost use Rattle.std.specs.Ordering.{nat_cmp};
 ghost use Rattle.std.specs.Cmp.Lexicographic.{slice_cmp};
 ghost use Rattle.std.specs.List.Sorted.{IsStrictlySortedBy};
 ghost use Rattle.tumbler.specs.Span.{SpanFits};
-ghost use Rattle.enfilade_core.specs.Standing.{tree_debt, tree_allows};
-ghost use Rattle.enfilade_balance.specs.Steps.{root_after, is_idle};
+ghost use Rattle.enfilade_core.specs.Rows.{node_at};
+ghost use Rattle.enfilade_core.specs.Standing.{tree_debt, tree_allows, has_lone_child};
+ghost use Rattle.enfilade_balance.specs.Steps.{root_after, is_idle, is_dropped};
 ghost use Rattle.spanfilade.specs.Index.{rows_in_index, at_mark};
 ghost use Rattle.links.specs.LinkLists.{LinkLists, most_links, plain_link, IsLink, HoldsRuns, index_at, with_index, ids_in, has_in, link_in, count_of_home_in, added, removed, marks_of, at_marks, AllGrow};
 ghost use Rattle.links.specs.Finding.{found_in, spans_met, EndsFit};
@@ -253,6 +254,7 @@ impl Links {
         ensures root { IfOk result (λ made. (index_at end self.new).root ≡ root_after (index_at end self.old).root made) }
         ensures lowers { IfOk result (λ made. is_idle made ≡ false → tree_debt (index_at end self.new).nodes (index_at end self.new).root.0 + 1 ≤ tree_debt (index_at end self.old).nodes (index_at end self.old).root.0) }
         ensures idle { IfOk result (λ made. is_idle made ≡ not (tree_allows (index_at end self.old).nodes (index_at end self.old).root.0)) }
+        ensures dropped { IfOk result (λ made. is_dropped made ≡ has_lone_child (node_at (index_at end self.old).nodes (index_at end self.old).root.0)) }
         ensures succeeds { tree_allows (index_at end self.old).nodes (index_at end self.old).root.0 ≡ false → IsOk result }
         ensures same { tree_allows (index_at end self.old).nodes (index_at end self.old).root.0 ≡ false → self.new ≡ self.old }
         ensures refused { OnErr result (self.new ≡ self.old) }

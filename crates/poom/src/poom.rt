@@ -1,10 +1,10 @@
 //! The trees of all documents.
 ghost use Rattle.std.specs.Prelude.{◌≡◌, ◌+◌, ◌<◌, ◌≤◌, ◌++◌, [], ◌∷◌, length, take, not, false, IsOk, IfOk, OnOk, OnErr};
-ghost use Rattle.enfilade_core.specs.Rows.{Rows, rows_of};
+ghost use Rattle.enfilade_core.specs.Rows.{Rows, rows_of, node_at};
 ghost use Rattle.enfilade_core.specs.Edits.{KeepsRows};
 ghost use Rattle.enfilade_core.specs.Exchange.{Grows};
-ghost use Rattle.enfilade_core.specs.Standing.{tree_debt, tree_allows};
-ghost use Rattle.enfilade_balance.specs.Steps.{root_after, is_idle};
+ghost use Rattle.enfilade_core.specs.Standing.{tree_debt, tree_allows, has_lone_child};
+ghost use Rattle.enfilade_balance.specs.Steps.{root_after, is_idle, is_dropped};
 ghost use Rattle.poom.specs.declared.part.Part.TheVariants.{Text, Links};
 ghost use Rattle.poom.specs.Laid.{IsRoot, texts, links};
 
@@ -78,6 +78,7 @@ impl Poom {
         ensures document { IsRoot self.old root.0 → IfOk result (λ made. IsRoot self.new (root_after root made).0) }
         ensures lowers { IfOk result (λ made. is_idle made ≡ false → tree_debt self.new (root_after root made).0 + 1 ≤ tree_debt self.old root.0) }
         ensures idle { IfOk result (λ made. is_idle made ≡ not (tree_allows self.old root.0)) }
+        ensures dropped { IfOk result (λ made. is_dropped made ≡ has_lone_child (node_at self.old root.0)) }
         ensures succeeds { tree_allows self.old root.0 ≡ false → IsOk result }
         ensures same { tree_allows self.old root.0 ≡ false → self.new ≡ self.old }
         ensures refused { OnErr result (self.new ≡ self.old) }

@@ -18,7 +18,7 @@ use Rattle.tumbler.specs.Span.{end_of}
 use Rattle.tumbler.specs.Places.{comes_before}
 use Rattle.poom.specs.Bounds.{IsBound}
 use Rattle.poom_compare.specs.declared.positions.Interval.{Interval}
-use Rattle.poom_compare.specs.Placed.{is_in, is_in_some, is_picked_at, is_picked_at_by, IsIntervalOf, IsInterval, AreApart, AreIntervalsOf}
+use Rattle.poom_compare.specs.Placed.{is_in, is_in_some, is_picked_at, is_picked_at_by, IsIntervalOf, IsInterval, AreApart}
 use Rattle.poom_compare.proofs.Lists.{no_pairs, here, pairs_front, pairs_across, all_front, all_last, same_at}
 
 -- ---- what one span picks

@@ -2,10 +2,10 @@
 ghost use Rattle.std.specs.Prelude.{◌≡◌, ◌<◌, ◌≤◌, ◌+◌, [], ◌∷◌, ◌++◌, length, not, false, All, IsOk, IfOk, IfSome, IfNone, OnOk, OnErr};
 ghost use Rattle.std.specs.List.Sorted.{IsPermutation};
 ghost use Rattle.tumbler.specs.Span.{SpanFits};
-ghost use Rattle.enfilade_core.specs.Rows.{rows_of};
+ghost use Rattle.enfilade_core.specs.Rows.{rows_of, node_at};
 ghost use Rattle.enfilade_core.specs.Exchange.{Grows};
-ghost use Rattle.enfilade_core.specs.Standing.{tree_debt, tree_allows};
-ghost use Rattle.enfilade_balance.specs.Steps.{root_after, is_idle};
+ghost use Rattle.enfilade_core.specs.Standing.{tree_debt, tree_allows, has_lone_child};
+ghost use Rattle.enfilade_balance.specs.Steps.{root_after, is_idle, is_dropped};
 ghost use Rattle.enfilade_core.specs.Axes.{IsRightRow, InOrder};
 ghost use Rattle.enfilade_core.specs.Planes.{key_widths};
 ghost use Rattle.spanfilade.specs.Index.{IndexTree, rows_in_index, row_of, rows_for, with_span, IsCovered, mark_of, at_mark};
@@ -173,6 +173,7 @@ impl Spanfilade {
         ensures root { IfOk result (λ made. self.new.root ≡ root_after self.old.root made) }
         ensures lowers { IfOk result (λ made. is_idle made ≡ false → tree_debt self.new.nodes self.new.root.0 + 1 ≤ tree_debt self.old.nodes self.old.root.0) }
         ensures idle { IfOk result (λ made. is_idle made ≡ not (tree_allows self.old.nodes self.old.root.0)) }
+        ensures dropped { IfOk result (λ made. is_dropped made ≡ has_lone_child (node_at self.old.nodes self.old.root.0)) }
         ensures succeeds { tree_allows self.old.nodes self.old.root.0 ≡ false → IsOk result }
         ensures same { tree_allows self.old.nodes self.old.root.0 ≡ false → self.new ≡ self.old }
         ensures refused { OnErr result (self.new ≡ self.old) }

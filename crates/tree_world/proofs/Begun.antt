@@ -1,5 +1,5 @@
 -- Trees and tables of nothing stand for the view before any entry.
-use Rattle.std.proofs.Common.{◌≡◌, ◌∙◌, ℕ, List, [], map, Some, None, refl, sym, ap, subst}
+use Rattle.std.proofs.Common.{◌≡◌, ℕ, List, [], map, refl, sym, subst}
 use Rattle.std.specs.Prelude.{IsPermutation}
 use Rattle.std.proofs.lemmas.List.Elements.{All-nil}
 use Rattle.std.proofs.lemmas.List.Sorted.{IsPermutation-refl}
@@ -14,7 +14,6 @@ use Rattle.doc_table.specs.declared.rows.DocumentRow.{DocumentRow}
 use Rattle.access_table.specs.AccessRows.{AccessRows, no_rows}
 use Rattle.world_rules.specs.declared.rows.SessionRow.{SessionRow}
 use Rattle.world_rules.specs.World.{LinkRow}
-use Rattle.world_rules.specs.declared.rows.ByteRow.{ByteRow}
 use Rattle.world_rules.specs.FlatView.{nothing_yet}
 use Rattle.tree_world.specs.Trees.{Trees}
 use Rattle.tree_world.specs.Standing.{Stands, EachIdOnce, IsCovered, byte_row}

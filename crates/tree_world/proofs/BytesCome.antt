@@ -1,6 +1,6 @@
 -- The bytes of a text come in.
-use Rattle.std.proofs.Common.{◌≡◌, ◌∙◌, ◌⊎◌, inl, inr, ℕ, zero, suc, ◌+◌, ◌-◌, ◌<◌, ◌≤◌, ◌||◌, ◌++◌, Bool, true, false, cond, List, [], ◌∷◌, length, take, map, refl, sym, ap, subst, arith, true≢false, append_assoc, All, length-append}
-use Rattle.std.specs.Prelude.{filter, count_by, IsPermutation}
+use Rattle.std.proofs.Common.{◌≡◌, ◌∙◌, ℕ, suc, ◌+◌, ◌<◌, ◌≤◌, ◌||◌, ◌++◌, Bool, true, false, cond, List, [], ◌∷◌, length, take, map, refl, sym, ap, subst, arith, true≢false, append_assoc, All, length-append}
+use Rattle.std.specs.Prelude.{filter, IsPermutation}
 use Rattle.std.specs.List.{list_any, AllByRecursion}
 use Rattle.std.proofs.lemmas.Bool.{false_from_ne_true}
 use Rattle.std.proofs.lemmas.List.{take_at}
@@ -15,14 +15,14 @@ use Rattle.granfilade.proofs.Stepping.{step_fits}
 use Rattle.enfilade_core.specs.declared.tree.Node.{Node}
 use Rattle.doc_table.specs.declared.rows.DocumentRow.{DocumentRow}
 use Rattle.doc_table.specs.DocumentRows.{content_in}
-use Rattle.granfilade.specs.Content.{ByteAt, ContentTree, so_far_on, laid_from, laid, content}
-use Rattle.granfilade.specs.Puts.{IsByteOf, IsBelow, IsNext, put_in}
+use Rattle.granfilade.specs.Content.{ByteAt, so_far_on, laid_from, laid}
+use Rattle.granfilade.specs.Puts.{IsBelow, IsNext, put_in}
 use Rattle.tumbler.specs.Address.{IsDocument}
 use Rattle.world_rules.specs.declared.rows.ByteRow.{ByteRow}
 use Rattle.world_rules.specs.World.{is_same, is_child_of, content_address, content_length_of}
 use Rattle.world_rules.specs.Edits.{new_bytes}
 use Rattle.world_rules.proofs.Documents.{same_end, child}
-use Rattle.tree_world.specs.Trees.{IsCounted, AreCounted}
+use Rattle.tree_world.specs.Trees.{IsCounted}
 use Rattle.tree_world.specs.Standing.{byte_row, EachOnce}
 use Rattle.tree_world.proofs.Found.{both, number_is, address_is, address_alike}
 use Rattle.tree_world.proofs.Within.{same_made}

@@ -1,5 +1,5 @@
 -- The bytes of runs, from contents that stand in the order of their addresses.
-use Rattle.std.proofs.Common.{◌≡◌, ◌≢◌, ◌∙◌, ◌⊎◌, inl, inr, ℕ, zero, suc, ◌+◌, ◌<◌, ◌≤◌, ◌&&◌, ◌||◌, ◌++◌, Bool, true, false, not, List, [], ◌∷◌, Option, Some, None, length, map, cond, refl, sym, ap, subst, arith, true≢false, append-nil}
+use Rattle.std.proofs.Common.{◌≡◌, ◌∙◌, ◌⊎◌, inl, inr, ℕ, zero, suc, ◌+◌, ◌&&◌, ◌||◌, ◌++◌, Bool, true, false, not, List, [], ◌∷◌, Option, Some, None, map, cond, refl, sym, ap, subst, arith, true≢false}
 use Rattle.std.specs.Prelude.{◌==◌, filter, fold, IsPermutation, if◌then◌else◌}
 use Rattle.std.specs.List.{list_any, find, filter_map, cons_option, AllByRecursion}
 use Rattle.std.specs.Option.{option_map, option_to_list}
@@ -9,7 +9,7 @@ use Rattle.std.proofs.lemmas.List.Sorted.{list_any-IsPermutation}
 use Rattle.tumbler.specs.Address.{IsDocument}
 use Rattle.tumbler.specs.Places.{IsBefore, IsUpTo, comes_before}
 use Rattle.tumbler.proofs.Before.{before_if_true, true_if_before, up_to_if_false, false_if_up_to}
-use Rattle.tumbler.proofs.Order.{before_before, before_upto, upto_before, upto_upto, upto_if_before, upto_itself, never_before_itself}
+use Rattle.tumbler.proofs.Order.{before_upto, upto_before, upto_upto, upto_if_before, never_before_itself}
 use Rattle.granfilade.specs.Content.{ByteAt}
 use Rattle.poom.specs.Pieces.{address_in, addresses_from}
 use Rattle.world_rules.specs.declared.rows.ByteRow.{ByteRow}

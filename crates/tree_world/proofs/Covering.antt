@@ -1,13 +1,13 @@
 -- What the index covers after spans came in.
-use Rattle.std.proofs.Common.{◌≡◌, ◌≢◌, ◌∙◌, ◌⊎◌, inl, inr, ⊎_elim, ℕ, zero, suc, ◌+◌, ◌<◌, ◌≤◌, ◌&&◌, ◌||◌, Bool, true, false, not, cond, List, [], ◌∷◌, ◌++◌, length, map, replicate, Ordering, Less, Equal, Greater, refl, sym, ap, subst, true≢false, arith, append_assoc, length-append, nat_cmp}
-use Rattle.std.specs.Prelude.{All, IsPermutation, IsTrue}
-use Rattle.std.specs.List.{list_any, flat_map}
+use Rattle.std.proofs.Common.{◌≡◌, ◌≢◌, ◌∙◌, ◌⊎◌, inl, inr, ⊎_elim, ℕ, zero, suc, ◌+◌, ◌<◌, ◌≤◌, ◌&&◌, ◌||◌, Bool, true, false, not, cond, List, [], ◌∷◌, ◌++◌, length, map, replicate, Ordering, Less, Equal, Greater, refl, sym, ap, subst, true≢false, arith, append_assoc, nat_cmp}
+use Rattle.std.specs.Prelude.{All, IsPermutation}
+use Rattle.std.specs.List.{list_any}
 use Rattle.std.specs.Ordering.{is_le, is_lt, ordering_reverse}
 use Rattle.std.specs.Cmp.Lexicographic.{slice_cmp, nat_list_cmp_total}
 use Rattle.std.proofs.lemmas.List.Sorted.{list_any-IsPermutation}
 use Rattle.std.proofs.lemmas.List.Elements.{All-nil, All-cons, All-append, All-weaker}
 use Rattle.tumbler.specs.declared.span.Span.{Span}
-use Rattle.tumbler.specs.Places.{IsBefore, IsUpTo, comes_before, sum, difference, width_at}
+use Rattle.tumbler.specs.Places.{IsBefore, IsUpTo, comes_before, sum, width_at}
 use Rattle.tumbler.specs.Span.{end_of}
 use Rattle.tumbler.proofs.Order.{before_by_first, before_by_rest, upto_itself, upto_if_before, before_upto, upto_upto}
 use Rattle.tumbler.proofs.Before.{up_to_if_false, before_if_true}
@@ -16,7 +16,7 @@ use Rattle.enfilade_core.specs.declared.tree.Row as placed
 use Rattle.enfilade_core.specs.Axes.{later}
 use Rattle.enfilade_core.specs.Edits.{put_before}
 use Rattle.febe_data.specs.declared.run.Run.{Run}
-use Rattle.poom.specs.Pieces.{address_in, addresses_from}
+use Rattle.poom.specs.Pieces.{addresses_from}
 use Rattle.poom.specs.Edited.{run_addresses}
 use Rattle.spanfilade.specs.Index.{IndexTree, rows_in_index, row_of, rows_for, row_end, with_span, lengthened, IsLengthened}
 use Rattle.spanfilade.specs.Index as index
@@ -26,7 +26,7 @@ use Rattle.links.specs.LinkLists.{run_span}
 use Rattle.world_rules.specs.World.{is_same, content_address}
 use Rattle.world_rules.specs.Picking.{is_between}
 use Rattle.tree_world.specs.Standing.{covers, IsCovered}
-use Rattle.tree_world.proofs.Found.{both, address_alike, address_is}
+use Rattle.tree_world.proofs.Found.{both, address_alike}
 
 -- ---- between
 

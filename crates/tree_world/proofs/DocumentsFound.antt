@@ -1,8 +1,7 @@
 -- The documents that are found are those that show what specs pick.
-use Rattle.std.proofs.Common.{◌≡◌, ◌≢◌, ◌∙◌, ◌⊎◌, inl, inr, ℕ, zero, suc, ◌+◌, ◌<◌, ◌≤◌, ◌&&◌, ◌||◌, ◌++◌, Bool, true, false, not, List, [], ◌∷◌, Option, Some, None, length, map, cond, refl, sym, ap, subst, arith, true≢false, All}
-use Rattle.std.specs.Prelude.{filter, IsTrue, IsPermutation, ◌==◌}
+use Rattle.std.proofs.Common.{◌≡◌, ◌∙◌, ◌⊎◌, inl, inr, ℕ, zero, suc, ◌+◌, ◌&&◌, ◌||◌, ◌++◌, Bool, true, false, not, List, [], ◌∷◌, Option, Some, None, map, cond, refl, sym, ap, subst, arith, true≢false, All}
+use Rattle.std.specs.Prelude.{filter, IsTrue}
 use Rattle.std.specs.List.{list_any, find, flat_map, AllByRecursion}
-use Rattle.std.specs.List.Sorted.{IsStrictlySortedBy}
 use Rattle.std.specs.BTreeMap.{is_at}
 use Rattle.std.specs.Option.{option_map}
 use Rattle.std.specs.declared.cmp.Ordering.{Ordering}
@@ -17,14 +16,14 @@ use Rattle.tumbler.specs.Address.{IsDocument}
 use Rattle.tumbler.specs.Places.{IsBefore, IsUpTo, comes_before, sum}
 use Rattle.tumbler.specs.Span.{end_of}
 use Rattle.tumbler.specs.declared.span.Span.{Span}
-use Rattle.tumbler.proofs.Before.{true_if_before, before_if_true, up_to_if_false, false_if_up_to}
-use Rattle.tumbler.proofs.Order.{before_upto, upto_before, same_if_tied}
+use Rattle.tumbler.proofs.Before.{true_if_before, before_if_true, up_to_if_false}
+use Rattle.tumbler.proofs.Order.{upto_before, same_if_tied}
 use Rattle.febe_data.specs.declared.run.Run.{Run}
 use Rattle.febe_data.specs.Plain.{PlainSpec}
 use Rattle.enfilade_core.specs.declared.tree.Node.{Node}
 use Rattle.enfilade_core.specs.declared.tree.Row as placed
 use Rattle.enfilade_core.specs.Axes.{later}
-use Rattle.enfilade_core.specs.Rows.{Shape, rows_of}
+use Rattle.enfilade_core.specs.Rows.{Shape}
 use Rattle.enfilade_search.specs.Meeting.{touches}
 use Rattle.doc_table.specs.declared.rows.DocumentRow.{DocumentRow}
 use Rattle.doc_table.specs.DocumentRows.{documents_in, root_in, is_of}
@@ -35,19 +34,17 @@ use Rattle.links.proofs.Ordered.{ascends_left}
 use Rattle.links.specs.LinkLists.{run_span}
 use Rattle.poom.specs.declared.piece.Piece.{Piece}
 use Rattle.poom.specs.Edited.{IsContentRun, run_addresses}
-use Rattle.poom.specs.Laid.{IsRoot, texts, links}
+use Rattle.poom.specs.Laid.{IsRoot}
 use Rattle.poom.specs.Picked.{is_picked}
 use Rattle.poom.specs.Pieces.{IsPiece, address_in, addresses_from, laid}
-use Rattle.world_rules.specs.declared.rows.Part.{Part}
-use Rattle.world_rules.specs.declared.rows.Part.TheVariants.{Text, Links}
 use Rattle.world_rules.specs.declared.rows.Row.{Row}
-use Rattle.world_rules.specs.World.{World, is_same, is_text, is_text_of, is_link_of, ascending}
+use Rattle.world_rules.specs.World.{is_same, is_text, is_text_of, is_link_of, ascending}
 use Rattle.world_rules.specs.Edits.{new_rows}
 use Rattle.world_rules.specs.Picking.{is_between, picked_addresses}
 use Rattle.world_rules.specs.Finding.{shows_one_of, documents_found}
 use Rattle.world_rules.specs.FlatView.{FlatView}
 use Rattle.tree_world.specs.Trees.{Trees, text_at, links_at, text_in, links_in}
-use Rattle.tree_world.specs.Standing.{Stands, link_rows, covers, IsCovered}
+use Rattle.tree_world.specs.Standing.{Stands, link_rows, covers}
 use Rattle.tree_world.specs.inside.Seen.{has_picked, shows, addresses_by_specs}
 use Rattle.tree_world.proofs.Options.{none_there}
 use Rattle.tree_world.proofs.Looked.{found_holds}

@@ -1,5 +1,5 @@
 -- Trees stand for a view after a document got another root.
-use Rattle.std.proofs.Common.{◌≡◌, ◌∙◌, ℕ, ◌+◌, ◌-◌, ◌<◌, ◌≤◌, Bool, true, false, not, cond, List, [], ◌∷◌, ◌++◌, length, take, drop, Option, Some, None, refl, sym, ap, subst, arith}
+use Rattle.std.proofs.Common.{◌≡◌, ◌∙◌, ℕ, ◌+◌, ◌-◌, ◌≤◌, Bool, true, false, cond, List, [], ◌∷◌, ◌++◌, length, take, drop, Option, Some, refl, sym, ap, subst, arith}
 use Rattle.std.specs.Prelude.{All, filter, IsPermutation}
 use Rattle.std.proofs.lemmas.Bool.{le-leb}
 use Rattle.std.proofs.lemmas.List.Elements.{All-nil, All-cons, All-head, All-tail, All-append, All-take, All-drop, All-weaker}
@@ -14,20 +14,20 @@ use Rattle.poom.specs.Picked.{is_picked, left_from}
 use Rattle.spanfilade.specs.Index.{IndexTree}
 use Rattle.febe_data.specs.Plain.{PlainSpec, span_deleted, blocks_swapped, specs_copied}
 use Rattle.doc_table.specs.declared.rows.DocumentRow.{DocumentRow}
-use Rattle.doc_table.specs.DocumentRows.{documents_in, has_in, root_in, content_in, with_root}
+use Rattle.doc_table.specs.DocumentRows.{root_in, with_root}
 use Rattle.world_rules.specs.declared.cuts.Cuts.{Cuts}
 use Rattle.world_rules.specs.declared.rows.Row.{Row}
-use Rattle.world_rules.specs.World.{World, is_same, is_text_of, is_link_of}
+use Rattle.world_rules.specs.World.{is_same, is_text_of, is_link_of}
 use Rattle.world_rules.specs.Edits.{cuts_of, new_rows, rows_with, rows_without, rows_swapped}
 use Rattle.world_rules.specs.Picking.{picked_addresses}
 use Rattle.world_rules.specs.Apply.{with_swapped}
 use Rattle.world_rules.specs.FlatView.{FlatView}
 use Rattle.world_rules.proofs.Rearranged.{InOrder}
 use Rattle.tree_world.specs.Trees.{Trees, text_at, links_at, text_in, links_in}
-use Rattle.tree_world.specs.Standing.{Stands, SessionsStand, link_rows, IsCovered}
+use Rattle.tree_world.specs.Standing.{Stands, link_rows, IsCovered}
 use Rattle.tree_world.specs.Changed.{after_change}
 use Rattle.tree_world.proofs.Tables.{root_set, root_documents, root_contents}
-use Rattle.tree_world.proofs.Roots.{RootsStand, root_stands, roots_set, texts_after, links_after, covered_after}
+use Rattle.tree_world.proofs.Roots.{RootsStand, roots_set, texts_after, links_after, covered_after}
 use Rattle.tree_world.proofs.Made.{restand}
 use Rattle.tree_world.proofs.FlatRows.{text_with_is, other_text_with, links_with, text_without_is, links_without_are, other_text_without, other_links_without, text_swapped_is, other_text_swapped, links_swapped, rearranged_by}
 

@@ -1,5 +1,5 @@
 -- Trees stand for a view with other counts of entries, and whatever documents are marked.
-use Rattle.std.proofs.Common.{◌≡◌, ℕ, List}
+use Rattle.std.proofs.Common.{ℕ, List}
 use Rattle.world_rules.specs.declared.rows.SessionRow.{SessionRow}
 use Rattle.world_rules.specs.FlatView.{FlatView}
 use Rattle.tree_world.specs.Trees.{Trees}

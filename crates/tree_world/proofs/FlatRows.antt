@@ -1,12 +1,11 @@
 -- What edits of the world's rows make of the rows of one document and part.
-use Rattle.std.proofs.Common.{◌≡◌, ◌∙◌, ℕ, zero, suc, ◌+◌, ◌-◌, ◌<◌, ◌≤◌, ◌&&◌, Bool, true, false, not, cond, List, [], ◌∷◌, ◌++◌, length, map, take, drop, Ordering, Less, Equal, Greater, Some, None, ap, sym, refl, subst, true≢false, arith, append_assoc, append-nil}
+use Rattle.std.proofs.Common.{◌≡◌, ◌∙◌, ℕ, zero, suc, ◌+◌, ◌-◌, ◌≤◌, ◌&&◌, Bool, true, false, not, cond, List, [], ◌∷◌, ◌++◌, length, map, take, drop, Ordering, Less, Equal, Greater, Some, ap, sym, refl, subst, true≢false, arith, append_assoc, append-nil}
 use Rattle.std.specs.Prelude.{filter, nat_le}
 use Rattle.std.specs.Ordering.{nat_cmp, is_lt, is_le, ordering_reverse}
 use Rattle.std.specs.Cmp.Lexicographic.{slice_cmp, nat_list_cmp_total}
 use Rattle.std.proofs.lemmas.List.{map-append}
 use Rattle.std.proofs.lemmas.List.Elements.{filter-append}
 use Rattle.tumbler.specs.declared.span.Span.{Span}
-use Rattle.tumbler.specs.Places.{comes_before}
 use Rattle.tumbler.specs.Span.{end_of}
 use Rattle.world_rules.specs.declared.rows.Part.{Part}
 use Rattle.world_rules.specs.declared.rows.Part.TheVariants.{Text, Links}
@@ -20,9 +19,9 @@ use Rattle.world_rules.proofs.Filters.{became, both_tests, none_pass}
 use Rattle.std.proofs.lemmas.Bool.{and_right}
 use Rattle.world_rules.specs.Laws.{staying, between, in_other_order}
 use Rattle.world_rules.proofs.InRow.{InRow, row_head, row_tail, row_new}
-use Rattle.world_rules.proofs.RowsWith.{new_rows_pass, text_apart, links_apart, others_with, text_with, text_with_in_row, one_document, differs_back}
-use Rattle.world_rules.proofs.Deleted.{shows, closes_up, text_part, link_part, picks_place, others_without, cond_document}
-use Rattle.world_rules.proofs.Rearranged.{InOrder, Ascend, cuts_ascend, text_swapped, swapped_in_row, swapped_addresses, others_swapped, three_test, four_test}
+use Rattle.world_rules.proofs.RowsWith.{text_apart, links_apart, others_with, text_with, text_with_in_row, one_document, differs_back}
+use Rattle.world_rules.proofs.Deleted.{shows, closes_up, text_part, link_part, picks_place, others_without}
+use Rattle.world_rules.proofs.Rearranged.{InOrder, text_swapped, swapped_in_row, swapped_addresses, others_swapped, three_test, four_test}
 use Rattle.poom.specs.Laid as laid
 use Rattle.poom.specs.Laid.{exchanged_at, swapped_at, rearranged, AreCuts}
 use Rattle.poom.specs.Picked.{is_picked, left_from}

@@ -1,18 +1,18 @@
 -- What holds of the trees alone, after a change.
-use Rattle.std.proofs.Common.{◌≡◌, ◌∙◌, ℕ, ◌+◌, ◌<◌, ◌≤◌, Bool, true, false, cond, List, [], ◌∷◌, ◌++◌, length, take, Option, Some, None, refl, sym, ap, subst, arith}
+use Rattle.std.proofs.Common.{◌≡◌, ℕ, ◌≤◌, Bool, true, false, cond, List, sym, subst}
 use Rattle.std.specs.Prelude.{All}
 use Rattle.std.proofs.lemmas.List.Elements.{All-weaker, All-map}
 use Rattle.std.proofs.lemmas.Map.Views.{All-insert_key}
 use Rattle.tumbler.specs.Address.{IsDocument}
 use Rattle.enfilade_core.specs.declared.tree.Node.{Node}
-use Rattle.enfilade_core.specs.Rows.{Shape, rows_of}
+use Rattle.enfilade_core.specs.Rows.{Shape}
 use Rattle.enfilade_core.specs.Edits.{KeepsRows}
 use Rattle.enfilade_core.specs.Exchange.{Grows}
-use Rattle.granfilade.specs.Content.{ContentTree, ByteAt, content, tree_rows}
+use Rattle.granfilade.specs.Content.{ContentTree, content, tree_rows}
 use Rattle.granfilade.specs.Puts.{IsContent}
-use Rattle.poom.specs.Laid.{IsRoot, IsOneDocument}
+use Rattle.poom.specs.Laid.{IsRoot}
 use Rattle.doc_table.specs.declared.rows.DocumentRow.{DocumentRow}
-use Rattle.doc_table.specs.DocumentRows.{is_of, has_in, root_in, content_in, row_cmp, added, with_root}
+use Rattle.doc_table.specs.DocumentRows.{is_of, has_in, row_cmp, added, with_root}
 use Rattle.tree_world.specs.Trees.{IsCounted, AreCounted, AreDue}
 use Rattle.tree_world.proofs.Tables.{root_contents, content_added}
 use Rattle.tree_world.proofs.Roots.{roots_added, roots_set}

@@ -1,7 +1,7 @@
 -- What look-ups in trees and tables come to in a world that they stand for.
-use Rattle.std.proofs.Common.{◌≡◌, ◌∙◌, ℕ, zero, suc, ◌+◌, ◌&&◌, ◌<◌, ◌++◌, Bool, true, false, List, [], ◌∷◌, length, map, Option, Some, None, cond, refl, sym, ap, subst, arith, lt-ltb, IsPermutation}
-use Rattle.std.specs.Prelude.{All, IfSome, count_by}
-use Rattle.std.specs.List.{find, filter, list_any}
+use Rattle.std.proofs.Common.{◌≡◌, ◌∙◌, ℕ, suc, ◌+◌, ◌<◌, ◌++◌, Bool, true, false, List, [], ◌∷◌, length, Option, Some, None, cond, refl, sym, ap, subst, lt-ltb, IsPermutation}
+use Rattle.std.specs.Prelude.{All, count_by}
+use Rattle.std.specs.List.{find, list_any}
 use Rattle.std.specs.Option.{option_map}
 use Rattle.std.proofs.lemmas.List.Sorted.{list_any-IsPermutation, sum_by-IsPermutation}
 use Rattle.std.proofs.lemmas.List.Sums.{length-filter}
@@ -13,7 +13,6 @@ use Rattle.tumbler.specs.Address.{IsDocumentOf}
 use Rattle.doc_table.specs.DocumentRows.{version_address_in, documents_in, has_in, root_in, is_of}
 use Rattle.poom.specs.Laid.{IsRoot}
 use Rattle.enfilade_core.specs.Rows.{Shape}
-use Rattle.world_rules.specs.declared.rows.Row.{Row}
 use Rattle.links.specs.LinkLists.{count_of_home_in}
 use Rattle.world_rules.specs.World.{LinkRow, is_same}
 use Rattle.world_rules.proofs.Specs.{list_any-map}

@@ -1,6 +1,6 @@
 -- Trees stand for a view after a document came in.
-use Rattle.std.proofs.Common.{◌≡◌, ◌∙◌, ℕ, ◌+◌, Bool, true, false, cond, List, [], ◌∷◌, ◌++◌, Option, Some, None, refl, sym, ap, subst, append-nil}
-use Rattle.std.specs.Prelude.{All, filter, IsPermutation}
+use Rattle.std.proofs.Common.{◌≡◌, ◌∙◌, ℕ, ◌+◌, false, List, [], ◌∷◌, ◌++◌, Option, Some, None, refl, sym, ap, subst, append-nil}
+use Rattle.std.specs.Prelude.{All, filter}
 use Rattle.std.specs.Option.{option_map}
 use Rattle.doc_table.specs.declared.rows.DocumentRow.{DocumentRow}
 use Rattle.std.proofs.lemmas.List.Elements.{All-nil}
@@ -13,8 +13,8 @@ use Rattle.poom.specs.Laid.{IsRoot}
 use Rattle.poom.specs.Laid as laid
 use Rattle.spanfilade.specs.Index.{IndexTree}
 use Rattle.febe_data.specs.declared.access.Mode.TheVariants.{Write}
-use Rattle.febe_data.specs.Plain.{document_created, version_made, copy_opened}
-use Rattle.doc_table.specs.DocumentRows.{documents_in, has_in, root_in, content_in, added}
+use Rattle.febe_data.specs.Plain.{document_created, version_made}
+use Rattle.doc_table.specs.DocumentRows.{documents_in, has_in, root_in, added}
 use Rattle.access_table.specs.AccessRows.{AccessRows, mode_in, opened}
 use Rattle.world_rules.specs.declared.rows.Row.{Row}
 use Rattle.world_rules.specs.World.{World, is_same, is_text_of, is_link_of}

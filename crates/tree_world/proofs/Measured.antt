@@ -1,6 +1,6 @@
 -- What a walk over documents adds up: what their trees owe, and how deep the deepest is.
 use Rattle.std.proofs.Common.{◌≡◌, ℕ, ◌+◌, ◌<◌, min, max, List, length, get_or, take, Option, Some, None, refl, arith, ap, sym, ◌∙◌}
-use Rattle.std.specs.List.{slice_get, sum_by, fold}
+use Rattle.std.specs.List.{slice_get}
 use Rattle.std.specs.Option.{option_map}
 use Rattle.std.proofs.lemmas.Option.{get_or_from_slice_get}
 use Rattle.std.proofs.lemmas.List.Sums.{sum_by_more, fold_more}

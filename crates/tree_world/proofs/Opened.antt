@@ -1,14 +1,12 @@
 -- Trees stand for a view after a change of who has what open.
-use Rattle.std.proofs.Common.{◌≡◌, ◌∙◌, ◌⊎◌, inl, inr, ℕ, List, [], ◌∷◌, ◌++◌, Some, None, refl, sym, ap, subst}
-use Rattle.std.specs.BTreeSet.{insert_key}
+use Rattle.std.proofs.Common.{◌≡◌, ◌∙◌, inl, inr, ℕ, List, [], sym, subst}
 use Rattle.febe_data.specs.declared.access.Mode.{Mode}
-use Rattle.febe_data.specs.declared.access.Mode.TheVariants.{Read, Write}
+use Rattle.febe_data.specs.declared.access.Mode.TheVariants.{Write}
 use Rattle.febe_data.specs.Plain.{restarted, ended as ended_change, account_changed, document_opened, document_closed}
 use Rattle.world_rules.specs.declared.rows.OpenRow.{OpenRow}
 use Rattle.world_rules.specs.declared.rows.AccountRow.{AccountRow}
-use Rattle.world_rules.specs.World.{World, mode_of}
 use Rattle.world_rules.specs.FlatView.{FlatView}
-use Rattle.access_table.specs.AccessRows.{AccessRows, no_rows, mode_in, opened, closed, account_set, ended, Writes, IsFirstWriter}
+use Rattle.access_table.specs.AccessRows.{AccessRows, no_rows, opened, closed, account_set, ended}
 use Rattle.tree_world.specs.Trees.{Trees}
 use Rattle.tree_world.specs.Standing.{Stands, SessionsStand}
 use Rattle.tree_world.specs.Changed.{after_change, MayWrite}

@@ -1,5 +1,5 @@
 -- What is found and what is not.
-use Rattle.std.proofs.Common.{◌≡◌, Bool, true, false, Option, Some, None, ap, sym, true≢false}
+use Rattle.std.proofs.Common.{◌≡◌, Bool, true, false, Option, Some, None, ap, true≢false}
 
 abbrev value_or : {X : Type 0} → X → Option X → X
 value_or d (Some x) = x

@@ -1,10 +1,10 @@
 -- Contents stand in the order of their addresses.
-use Rattle.std.proofs.Common.{◌≡◌, ◌≢◌, ◌∙◌, ℕ, zero, suc, ◌+◌, ◌<◌, ◌≤◌, ◌++◌, List, [], ◌∷◌, length, refl, sym, ap, subst, arith, All}
-use Rattle.std.specs.List.{flat_map, AllByRecursion}
+use Rattle.std.proofs.Common.{◌≡◌, ◌≢◌, ℕ, ◌+◌, ◌<◌, ◌≤◌, ◌++◌, List, [], ◌∷◌, length, sym, subst, arith, All}
+use Rattle.std.specs.List.{AllByRecursion}
 use Rattle.std.proofs.lemmas.List.Elements.{All-head, All-tail}
 use Rattle.tumbler.specs.ListView.{ListView}
 use Rattle.tumbler.specs.Places.{IsBefore, IsUpTo}
-use Rattle.tumbler.proofs.Order.{before_upto, upto_before, upto_upto, upto_if_before}
+use Rattle.tumbler.proofs.Order.{before_upto, upto_upto}
 use Rattle.enfilade_core.specs.declared.tree.Row.{Row}
 use Rattle.granfilade.specs.Content.{ByteAt, so_far_on, laid_from, laid_row, laid_out}
 use Rattle.granfilade.specs.Puts.{IsByteOf, IsLeaf, IsContent, Linked, end_of_row}

@@ -1,12 +1,5 @@
 -- What is shared by trees is the relation in a world that they stand for.
-use Rattle.std.proofs.Common.{◌≡◌, ◌∙◌, ℕ, ◌||◌, Bool, true, false, not, List, [], ◌∷◌, Option, Some, None, map, refl, sym, ap, true≢false, All}
-use Rattle.std.specs.Prelude.{IsTrue}
-use Rattle.std.specs.List.{list_any, flat_map}
-use Rattle.std.proofs.lemmas.List.Elements.{All-nil, All-cons}
-use Rattle.tumbler.specs.declared.span.Span.{Span}
-use Rattle.tumbler.specs.Places.{fits}
-use Rattle.tumbler.specs.Span.{SpanFits}
-use Rattle.febe_data.specs.declared.run.Diagonal.{Diagonal}
+use Rattle.std.proofs.Common.{◌≡◌, ◌∙◌, List, [], ◌∷◌, Option, Some, None, refl, sym, ap}
 use Rattle.febe_data.specs.Plain.{PlainSpec}
 use Rattle.enfilade_core.specs.declared.tree.Node.{Node}
 use Rattle.enfilade_core.specs.Rows.{rows_of}
@@ -14,7 +7,6 @@ use Rattle.doc_table.specs.DocumentRows.{root_in}
 use Rattle.poom.specs.Laid.{texts}
 use Rattle.poom_compare.specs.Shared.{pairs_between, rows_picked, shared}
 use Rattle.poom_compare.proofs.Worlds.{of_world}
-use Rattle.world_rules.specs.declared.pairs.Pair.{Pair}
 use Rattle.world_rules.specs.declared.rows.Row.{Row}
 use Rattle.world_rules.specs.FlatView.{FlatView}
 use Rattle.world_rules.specs.Relation.{diagonals, diagonals_of}

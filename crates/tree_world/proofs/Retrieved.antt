@@ -2,7 +2,7 @@
 use Rattle.std.proofs.Common.{◌≡◌, ◌∙◌, ◌≢◌, ℕ, zero, suc, ◌+◌, ◌<◌, ◌≤◌, ◌++◌, ◌==◌, ◌&&◌, Bool, cond, false, not, List, [], ◌∷◌, length, take, map, get_or, refl, sym, ap, subst, arith, All, append_assoc, append-nil}
 use Rattle.std.specs.Prelude.{filter}
 use Rattle.std.proofs.lemmas.Bool.Decides.{nat_tests}
-use Rattle.std.specs.List.{flat_map, filter_map, cons_option}
+use Rattle.std.specs.List.{flat_map, cons_option}
 use Rattle.std.proofs.lemmas.List.{take_more, take_all, map-append}
 use Rattle.std.proofs.lemmas.List.Concat.{flat_map-append}
 use Rattle.std.proofs.lemmas.List.Elements.{filter_map-append, All-head}
@@ -19,14 +19,14 @@ use Rattle.poom.specs.Edited.{IsContentRun, run_addresses}
 use Rattle.poom.specs.Pieces.{address_in, addresses_from}
 use Rattle.links.specs.LinkLists.{run_span}
 use Rattle.world_rules.specs.declared.rows.Row.{Row}
-use Rattle.world_rules.specs.World.{World, byte_at}
+use Rattle.world_rules.specs.World.{byte_at}
 use Rattle.world_rules.specs.Picking.{picked_text, picked_links, addresses_of}
 use Rattle.world_rules.specs.Answers as wanted
 use Rattle.world_rules.specs.Answers.{items_of_span, items_of}
 use Rattle.world_rules.specs.FlatView.{FlatView}
 use Rattle.tree_world.specs.Trees.{Trees, text_in, links_in}
 use Rattle.tree_world.specs.Standing.{Stands}
-use Rattle.tree_world.specs.inside.Seen.{text_picked, links_picked, byte_found, bytes_found, text_item, items_picked, items_by_specs}
+use Rattle.tree_world.specs.inside.Seen.{byte_found, bytes_found, text_item, items_picked, items_by_specs}
 use Rattle.tree_world.proofs.Within.{part_of, in_part}
 use Rattle.tree_world.proofs.Ordered.{contents_ascend, contents_made}
 use Rattle.tree_world.proofs.Contents.{run_bytes, same_byte}

@@ -1,5 +1,5 @@
 -- What stands in each document after one got another root, or one came in.
-use Rattle.std.proofs.Common.{◌≡◌, ◌∙◌, ℕ, ◌+◌, ◌<◌, ◌≤◌, Bool, true, false, cond, List, [], ◌∷◌, ◌++◌, length, take, Option, Some, None, refl, sym, ap, subst, arith}
+use Rattle.std.proofs.Common.{◌≡◌, ◌∙◌, ℕ, ◌<◌, ◌≤◌, Bool, true, false, cond, List, [], ◌∷◌, ◌++◌, length, take, Option, Some, None, refl, sym, ap, subst, arith}
 use Rattle.std.specs.Prelude.{All, filter}
 use Rattle.std.specs.List.{find}
 use Rattle.std.specs.Option.{option_map}
@@ -12,7 +12,7 @@ use Rattle.enfilade_core.specs.Exchange.{Grows}
 use Rattle.poom.specs.Laid as laid
 use Rattle.poom.specs.Laid.{IsRoot, IsOneDocument}
 use Rattle.doc_table.specs.declared.rows.DocumentRow.{DocumentRow}
-use Rattle.doc_table.specs.DocumentRows.{is_of, has_in, root_in, row_cmp, added, with_root}
+use Rattle.doc_table.specs.DocumentRows.{is_of, root_in, row_cmp, added, with_root}
 use Rattle.world_rules.specs.declared.rows.Row.{Row}
 use Rattle.world_rules.specs.World.{is_same, is_text_of, is_link_of}
 use Rattle.world_rules.specs.Edits.{new_rows}
@@ -21,7 +21,6 @@ use Rattle.tree_world.specs.Standing.{link_rows, IsCovered}
 use Rattle.tree_world.specs.Trees.{text_at, links_at}
 use Rattle.tree_world.proofs.Options.{none_there, one_value}
 use Rattle.tree_world.proofs.Found.{address_is}
-use Rattle.tree_world.proofs.Tables.{root_set, root_added}
 
 abbrev pub RootsStand : List (Shape ℕ) → List (DocumentRow Node) → Type 0
 RootsStand nodes rows = All (λ (row : DocumentRow Node). IsRoot nodes row.root.0) rows

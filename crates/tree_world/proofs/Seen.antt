@@ -1,5 +1,5 @@
 -- What trees show is what the world that they stand for shows.
-use Rattle.std.proofs.Common.{◌≡◌, ◌∙◌, ℕ, zero, suc, ◌+◌, ◌-◌, ◌<◌, ◌≤◌, ◌&&◌, ◌++◌, Bool, true, false, not, List, [], ◌∷◌, length, map, take, drop, cond, refl, sym, ap, subst, arith}
+use Rattle.std.proofs.Common.{◌≡◌, ◌∙◌, ℕ, ◌+◌, ◌-◌, ◌≤◌, ◌&&◌, Bool, true, false, not, List, [], ◌∷◌, length, map, take, drop, cond, refl, sym, ap, subst, arith}
 use Rattle.std.specs.Prelude.{filter}
 use Rattle.std.specs.List.{flat_map, sum_by}
 use Rattle.std.specs.declared.cmp.Ordering.{Ordering}
@@ -21,13 +21,13 @@ use Rattle.poom.proofs.Picks.{picked_between}
 use Rattle.world_rules.specs.declared.rows.Part.TheVariants.{Text, Links}
 use Rattle.world_rules.specs.declared.rows.Row.{Row}
 use Rattle.world_rules.specs.World.{World, is_text_of, is_link_of}
-use Rattle.world_rules.specs.Picking.{is_between, picks, picked_text, picked_links, addresses_of, picked_by_spec, picked_addresses, Stretch, stretches_on, stretches, is_next_byte, run_of, runs_of}
+use Rattle.world_rules.specs.Picking.{is_between, picks, picked_text, picked_links, addresses_of, picked_by_spec, picked_addresses, stretches_on, stretches, is_next_byte, run_of, runs_of}
 use Rattle.world_rules.specs.Edits.{new_rows}
 use Rattle.world_rules.specs.FlatView.{FlatView}
 use Rattle.world_rules.specs.Refusals.{total_of}
-use Rattle.tree_world.specs.Trees.{Trees, text_in, links_in}
+use Rattle.tree_world.specs.Trees.{Trees, text_in}
 use Rattle.tree_world.specs.Standing.{Stands, link_rows}
-use Rattle.tree_world.specs.inside.Seen.{text_picked, text_count, runs_picked, runs_by_spec, runs_by_specs}
+use Rattle.tree_world.specs.inside.Seen.{text_picked, text_count, runs_picked, runs_by_specs}
 
 -- ---- spans of positions
 

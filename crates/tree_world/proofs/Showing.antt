@@ -1,17 +1,17 @@
 -- Whether trees show content of spans, one span and one document after the other.
-use Rattle.std.proofs.Common.{◌≡◌, ◌≢◌, ◌∙◌, ℕ, zero, suc, ◌+◌, ◌<◌, ◌≤◌, ◌==◌, ◌||◌, ◌++◌, Bool, true, false, not, List, [], ◌∷◌, length, take, map, get_or, cond, refl, sym, ap, subst, arith, Option, Some, None}
+use Rattle.std.proofs.Common.{◌≡◌, ◌∙◌, ℕ, zero, suc, ◌+◌, ◌<◌, ◌≤◌, ◌==◌, ◌||◌, ◌++◌, Bool, true, false, not, List, [], ◌∷◌, length, take, map, get_or, cond, refl, sym, ap, arith, Option, None}
 use Rattle.std.specs.Prelude.{filter, if◌then◌else◌}
 use Rattle.std.specs.List.{list_any}
 use Rattle.std.proofs.lemmas.Bool.Decides.{nat_tests}
 use Rattle.std.proofs.lemmas.List.{take_more, take_all}
-use Rattle.std.proofs.lemmas.List.Elements.{filter_more, All-push}
+use Rattle.std.proofs.lemmas.List.Elements.{filter_more}
 use Rattle.std.proofs.lemmas.List.Folds.{list_any-append}
 use Rattle.tumbler.specs.declared.span.Span.{Span}
 use Rattle.enfilade_core.specs.declared.tree.Node.{Node}
 use Rattle.enfilade_core.specs.declared.tree.Row as placed
 use Rattle.poom.specs.Laid.{texts, links}
 use Rattle.poom.specs.Picked.{is_picked}
-use Rattle.poom.specs.Runs.{Stretch, stretches_on, is_next, interval, intervals}
+use Rattle.poom.specs.Runs.{stretches_on, is_next, interval, intervals}
 use Rattle.poom.specs.Shown.{positions_in, intervals_in}
 use Rattle.doc_table.specs.DocumentRows.{root_in}
 use Rattle.tree_world.specs.Trees.{Trees, text_at, links_at}

@@ -1,5 +1,5 @@
 -- Sums that are counted up to a greatest number.
-use Rattle.std.proofs.Common.{◌≡◌, ℕ, ◌+◌, ◌<◌, ◌≤◌, ◌∙◌, ◌==◌, Bool, List, length, take, get_or, min, cond, arith, map, ap, sym, subst}
+use Rattle.std.proofs.Common.{◌≡◌, ℕ, ◌+◌, ◌<◌, ◌∙◌, ◌==◌, List, length, take, get_or, min, cond, arith, map, ap, sym}
 use Rattle.std.specs.List.{sum_by}
 use Rattle.std.proofs.lemmas.Bool.Decides.{nat_tests}
 use Rattle.std.proofs.lemmas.List.{length-map}
@@ -9,7 +9,7 @@ use Rattle.febe_data.specs.declared.spec.Spec.{Spec}
 use Rattle.febe_data.specs.Plain.{PlainSpec, plain_spec}
 use Rattle.world_rules.specs.declared.rows.Row.{Row}
 use Rattle.world_rules.specs.FlatView.{FlatView}
-use Rattle.world_rules.specs.Picking.{addresses_of, picked_text, picked_links}
+use Rattle.world_rules.specs.Picking.{picked_text, picked_links}
 use Rattle.world_rules.specs.Refusals.{total_of, span_bytes, span_items}
 use Rattle.world_rules.proofs.Specs.{sum_by-map}
 use Rattle.tree_world.specs.Trees.{Trees, text_in, links_in}

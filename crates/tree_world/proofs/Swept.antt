@@ -1,14 +1,17 @@
 -- What trees hold after each was copied into an arena of its own.
-use Rattle.std.proofs.Common.{◌≡◌, ◌∙◌, ℕ, zero, suc, ◌+◌, ◌<◌, ◌≤◌, ◌||◌, not, Bool, true, false, cond, List, [], ◌∷◌, ◌++◌, length, take, map, get_or, slice_get, Option, Some, None, refl, sym, ap, subst, true≢false, arith}
+use Rattle.std.proofs.Common.{◌≡◌, ◌∙◌, ℕ, zero, suc, ◌+◌, ◌<◌, ◌||◌, not, Bool, true, false, cond, List, [], ◌∷◌, ◌++◌, length, take, map, get_or, slice_get, max, fold, Option, Some, None, refl, sym, ap, subst, true≢false, arith}
 use Rattle.std.specs.Prelude.{All}
-use Rattle.std.specs.List.{find, Contains}
+use Rattle.std.specs.List.{find, list_any, Contains}
 use Rattle.std.specs.Option.{option_map, unwrap_or}
-use Rattle.std.proofs.lemmas.List.{take_all, map_more}
-use Rattle.std.proofs.lemmas.List.Elements.{All-nil, All-cons, All-head, All-tail, All-weaker, All-map, All-more, All-contains_itself}
+use Rattle.std.proofs.lemmas.List.{map_more}
+use Rattle.std.proofs.lemmas.List.Folds.{fold-map}
+use Rattle.std.proofs.lemmas.List.Elements.{All-nil, All-cons, All-head, All-tail, All-weaker, All-map, All-contains_itself}
 use Rattle.enfilade_core.specs.declared.tree.Node.{Node}
 use Rattle.enfilade_core.specs.declared.tree.Row.{Row}
 use Rattle.enfilade_core.specs.Rows.{Shape, rows_of}
-use Rattle.enfilade_core.specs.Standing.{tree_allows}
+use Rattle.enfilade_core.specs.Planes.{text_widths, key_widths}
+use Rattle.enfilade_core.specs.Standing.{tree_debt, tree_allows}
+use Rattle.enfilade_core.specs.Summary.{depth_of}
 use Rattle.enfilade_sweep.specs.Sweep.{is_root, IsSwept, numbers, are_held}
 use Rattle.granfilade.specs.Content.{ContentTree}
 use Rattle.spanfilade.specs.Index.{IndexTree, rows_in_index}
@@ -20,7 +23,7 @@ use Rattle.doc_table.specs.DocumentRows.{is_of, documents_in, content_in, root_i
 use Rattle.world_rules.specs.FlatView.{FlatView}
 use Rattle.tree_world.specs.Trees.{Trees, AreSound, text_at, links_at}
 use Rattle.tree_world.specs.Standing.{Stands}
-use Rattle.tree_world.specs.Condition.{roots_in, reached_of}
+use Rattle.tree_world.specs.Condition.{roots_in, reached_of, documents_debt, documents_allow, documents_depth, Condition, condition_of, StaysInShape}
 use Rattle.tree_world.specs.inside.SameRows.{SameRows}
 use Rattle.tree_world.specs.inside.Swept.{IsSweptContent, IsSweptIndex, AreSweptDocuments}
 use Rattle.tree_world.proofs.SameRows.{stands_over, sound_over}
@@ -124,13 +127,16 @@ same_roots old new (row ∷ rows) (m ∷ made) same stand below =
 
 -- the same, as `swept_pooms` has it
 pub copied_documents : (old arena new poom : List (Shape ℕ)) (rows : List (DocumentRow Node)) (roots made : List Node) → arena ≡ old → poom ≡ new → roots ≡ roots_taken rows → map (rows_of new) (numbers made) ≡ map (rows_of arena) (numbers roots)
-    → map (tree_allows new) (numbers made) ≡ map (tree_allows arena) (numbers roots) → IsSwept arena (numbers roots) new (numbers made) → are_held new (numbers made) ≡ true → RootsStand old rows → AreSweptDocuments old rows poom made
-copied_documents old arena new poom rows roots made lent installed are same allows swept held stand =
+    → map (tree_debt new) (numbers made) ≡ map (tree_debt arena) (numbers roots) → map (tree_allows new) (numbers made) ≡ map (tree_allows arena) (numbers roots)
+    → map (depth_of text_widths new) (numbers made) ≡ map (depth_of text_widths arena) (numbers roots) → IsSwept arena (numbers roots) new (numbers made) → are_held new (numbers made) ≡ true → RootsStand old rows → AreSweptDocuments old rows poom made
+copied_documents old arena new poom rows roots made lent installed are same owes allows deep swept held stand =
     let each : SameEach old poom rows made = ap (λ ns. map (rows_of ns) (numbers made)) installed ∙ same ∙ (λ i. map (rows_of (lent i)) ((ap numbers are ∙ numbers_taken rows) i)) in
     record {
       long = same_long old poom rows made each;
       each = same_roots old poom rows made each stand (subst (λ ns. All (λ k. k < length ns) (numbers made)) (sym installed) (roots_below arena new (numbers roots) (numbers made) swept));
       rows = each;
+      owed = ap (λ ns. map (tree_debt ns) (numbers made)) installed ∙ owes ∙ (λ i. map (tree_debt (lent i)) ((ap numbers are ∙ numbers_taken rows) i));
+      deep = ap (λ ns. map (depth_of text_widths ns) (numbers made)) installed ∙ deep ∙ (λ i. map (depth_of text_widths (lent i)) ((ap numbers are ∙ numbers_taken rows) i));
       allowed = ap (λ ns. map (tree_allows ns) (numbers made)) installed ∙ allows ∙ (λ i. map (tree_allows (lent i)) ((ap numbers are ∙ numbers_taken rows) i));
       held = ap (λ ns. are_held ns (numbers made)) installed ∙ held;
     }
@@ -178,7 +184,22 @@ rooted_reads reads nothing alike old new (row ∷ rows) (m ∷ made) same d = st
     step true rest = alike old new m row.root (ap head_rows same)
     step false rest = rest
 
+-- ---- the shape of documents' trees, by their roots alone
+
+debts_are : (nodes : List (Shape ℕ)) (rows : List (DocumentRow Node)) → documents_debt nodes rows ≡ fold (λ (a n : ℕ). a + n) 0 (map (tree_debt nodes) (roots_in rows))
+debts_are nodes rows = sym (fold-map (λ (a n : ℕ). a + n) (tree_debt nodes) 0 (roots_in rows) ∙ fold-map (λ (a k : ℕ). a + tree_debt nodes k) (λ (row : DocumentRow Node). row.root.0) 0 rows)
+
+depths_are : (nodes : List (Shape ℕ)) (rows : List (DocumentRow Node)) → documents_depth nodes rows ≡ fold max 0 (map (depth_of text_widths nodes) (roots_in rows))
+depths_are nodes rows = sym (fold-map max (depth_of text_widths nodes) 0 (roots_in rows) ∙ fold-map (λ (a k : ℕ). max a (depth_of text_widths nodes k)) (λ (row : DocumentRow Node). row.root.0) 0 rows)
+
+allows_are : (nodes : List (Shape ℕ)) (rows : List (DocumentRow Node)) → documents_allow nodes rows ≡ list_any (λ (b : Bool). b) (map (tree_allows nodes) (roots_in rows))
+allows_are nodes [] = refl
+allows_are nodes (row ∷ rows) = ap (λ (b : Bool). tree_allows nodes row.root.0 || b) (allows_are nodes rows)
+
 -- ---- all trees
+
+pub shape_from : (before old : Trees) (after : Condition) → before ≡ old → StaysInShape (condition_of before) after → StaysInShape (condition_of old) after
+shape_from before old after is shape = subst (λ (t : Trees). StaysInShape (condition_of t) after) is shape
 
 -- as `set_roots` has it
 pub rooted_as : (rows : List (DocumentRow Node)) (made slice : List Node) (now : List (DocumentRow Node)) → now ≡ with_roots slice rows → slice ≡ made → now ≡ with_roots made rows
@@ -221,3 +242,21 @@ module _ (before : Trees) (contents : ContentTree) (index from to three : IndexT
     where
       all_true : {a b c d e f : Bool} → a ≡ true → b ≡ true → c ≡ true → d ≡ true → e ≡ true → f ≡ true → not (not a || not b || not c || not d || not e || not f) ≡ true
       all_true ea eb ec ed ee ef = λ i. not (not (ea i) || not (eb i) || not (ec i) || not (ed i) || not (ee i) || not (ef i))
+
+  pub swept_shape : StaysInShape (condition_of before) (condition_of (record before { contents = contents; index = index; nodes = nodes; documents = documents; links = links }))
+  swept_shape =
+      let roots : roots_in documents ≡ numbers made = ap roots_in now ∙ rooted_numbers before.documents made by_documents.long in
+      let debts : documents_debt nodes documents ≡ documents_debt before.nodes before.documents = debts_are nodes documents ∙ ap (λ ks. fold (λ (a n : ℕ). a + n) 0 (map (tree_debt nodes) ks)) roots
+      ∙ ap (fold (λ (a n : ℕ). a + n) 0) by_documents.owed ∙ sym (debts_are before.nodes before.documents) in
+      let allow : documents_allow nodes documents ≡ documents_allow before.nodes before.documents = allows_are nodes documents ∙ ap (λ ks. list_any (λ (b : Bool). b) (map (tree_allows nodes) ks)) roots
+      ∙ ap (list_any (λ (b : Bool). b)) by_documents.allowed ∙ sym (allows_are before.nodes before.documents) in
+      let depth : documents_depth nodes documents ≡ documents_depth before.nodes before.documents = depths_are nodes documents ∙ ap (λ ks. fold max 0 (map (depth_of text_widths nodes) ks)) roots
+      ∙ ap (fold max 0) by_documents.deep ∙ sym (depths_are before.nodes before.documents) in
+      record {
+        debt = λ i. by_contents.debt i + by_index.debt i + (ap (λ (lists : LinkLists). tree_debt lists.from.nodes lists.from.root.0) linked ∙ by_from.debt) i
+            + (ap (λ (lists : LinkLists). tree_debt lists.to.nodes lists.to.root.0) linked ∙ by_to.debt) i + (ap (λ (lists : LinkLists). tree_debt lists.three.nodes lists.three.root.0) linked ∙ by_three.debt) i + debts i;
+        allows = λ i. by_contents.allows i || by_index.allows i || (ap (λ (lists : LinkLists). tree_allows lists.from.nodes lists.from.root.0) linked ∙ by_from.allows) i
+            || (ap (λ (lists : LinkLists). tree_allows lists.to.nodes lists.to.root.0) linked ∙ by_to.allows) i || (ap (λ (lists : LinkLists). tree_allows lists.three.nodes lists.three.root.0) linked ∙ by_three.allows) i || allow i;
+        depth = λ i. max (by_contents.depth i) (max (by_index.depth i) (max ((ap (λ (lists : LinkLists). depth_of key_widths lists.from.nodes lists.from.root.0) linked ∙ by_from.depth) i)
+            (max ((ap (λ (lists : LinkLists). depth_of key_widths lists.to.nodes lists.to.root.0) linked ∙ by_to.depth) i) (max ((ap (λ (lists : LinkLists). depth_of key_widths lists.three.nodes lists.three.root.0) linked ∙ by_three.depth) i) (depth i)))));
+      }

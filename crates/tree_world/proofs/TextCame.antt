@@ -1,27 +1,27 @@
 -- Trees stand for a view after a text came in.
-use Rattle.std.proofs.Common.{◌≡◌, ◌∙◌, ◌⊎◌, inl, inr, ℕ, zero, suc, ◌+◌, ◌-◌, ◌<◌, ◌≤◌, ◌++◌, Bool, true, false, cond, List, [], ◌∷◌, Option, Some, None, length, take, map, refl, sym, ap, subst, arith, All, length-append}
+use Rattle.std.proofs.Common.{◌≡◌, ◌∙◌, ℕ, zero, suc, ◌+◌, ◌<◌, ◌≤◌, ◌++◌, Bool, true, false, cond, List, ◌∷◌, Option, Some, None, length, take, refl, sym, ap, subst, arith, All, length-append}
 use Rattle.std.specs.Prelude.{filter, IsPermutation}
-use Rattle.std.proofs.lemmas.List.Elements.{All-map, All-weaker, All-append}
+use Rattle.std.proofs.lemmas.List.Elements.{All-map, All-weaker}
 use Rattle.tumbler.specs.Address.{IsDocument}
 use Rattle.enfilade_core.specs.declared.tree.Node.{Node}
 use Rattle.enfilade_core.specs.Rows.{Shape, rows_of}
 use Rattle.enfilade_core.specs.Edits.{KeepsRows}
 use Rattle.enfilade_core.specs.Exchange.{Grows}
-use Rattle.granfilade.specs.Content.{ByteAt, ContentTree, laid, content, tree_rows}
+use Rattle.granfilade.specs.Content.{ContentTree, laid, content, tree_rows}
 use Rattle.granfilade.specs.Puts.{IsContent, IsNext, put_in}
 use Rattle.poom.specs.Laid as laid
 use Rattle.poom.specs.Laid.{IsRoot, exchanged_at}
-use Rattle.poom.specs.Pieces.{address_in, addresses_from}
+use Rattle.poom.specs.Pieces.{addresses_from}
 use Rattle.spanfilade.specs.Index.{IndexTree}
 use Rattle.febe_data.specs.Plain.{text_inserted}
 use Rattle.doc_table.specs.declared.rows.DocumentRow.{DocumentRow}
-use Rattle.doc_table.specs.DocumentRows.{documents_in, root_in, content_in, is_of, with_root, with_content}
+use Rattle.doc_table.specs.DocumentRows.{root_in, content_in, is_of, with_root, with_content}
 use Rattle.world_rules.specs.declared.rows.Row.{Row}
-use Rattle.world_rules.specs.World.{World, is_same, is_text_of, is_link_of, content_address, content_length_of}
+use Rattle.world_rules.specs.World.{is_same, is_text_of, content_address, content_length_of}
 use Rattle.world_rules.specs.Edits.{new_rows, rows_with, new_bytes, content_addresses}
 use Rattle.world_rules.specs.FlatView.{FlatView}
-use Rattle.tree_world.specs.Trees.{Trees, text_at, links_at, text_in, links_in, AreCounted, IsCounted}
-use Rattle.tree_world.specs.Standing.{Stands, SessionsStand, link_rows, byte_row, IsCovered}
+use Rattle.tree_world.specs.Trees.{Trees, text_at, links_at, AreCounted, IsCounted}
+use Rattle.tree_world.specs.Standing.{Stands, link_rows, IsCovered}
 use Rattle.tree_world.specs.Changed.{after_change}
 use Rattle.tree_world.proofs.Tables.{found_own, root_set, root_contents, content_documents, content_roots, content_set}
 use Rattle.tree_world.proofs.Roots.{RootsStand, taken_back}

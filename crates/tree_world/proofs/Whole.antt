@@ -1,7 +1,6 @@
 -- A span of all text, and how many bytes runs have.
-use Rattle.std.proofs.Common.{◌≡◌, ◌∙◌, ℕ, zero, suc, ◌+◌, List, [], ◌∷◌, ◌++◌, length, refl, sym, ap, length-append}
+use Rattle.std.proofs.Common.{◌≡◌, ◌∙◌, ℕ, zero, suc, ◌+◌, List, [], ◌∷◌, length, refl, sym, ap, length-append}
 use Rattle.std.proofs.lemmas.List.Sums.{sum_by-cons}
-use Rattle.tumbler.specs.declared.span.Span.{Span}
 use Rattle.febe_data.specs.declared.run.Run.{Run}
 use Rattle.poom.specs.Picked.{picked_from}
 use Rattle.poom.specs.Pieces.{addresses_from}

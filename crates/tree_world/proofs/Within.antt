@@ -1,13 +1,13 @@
 -- Which addresses of bytes and links are in the span of a run.
-use Rattle.std.proofs.Common.{◌≡◌, ◌≢◌, ◌∙◌, ◌⊎◌, inl, inr, ℕ, zero, suc, ◌+◌, ◌<◌, ◌≤◌, ◌&&◌, ◌||◌, ◌++◌, Bool, true, false, not, List, [], ◌∷◌, length, cond, refl, sym, ap, subst, arith, append_assoc, true≢false, All}
+use Rattle.std.proofs.Common.{◌≡◌, ◌∙◌, ◌⊎◌, inl, inr, ℕ, zero, suc, ◌+◌, ◌<◌, ◌≤◌, ◌&&◌, ◌||◌, ◌++◌, Bool, true, false, not, List, [], ◌∷◌, refl, sym, ap, subst, arith, append_assoc, true≢false, All}
 use Rattle.std.specs.List.{list_any}
 use Rattle.std.specs.Prelude.{◌==◌}
 use Rattle.std.proofs.lemmas.Bool.Decides.{nat_tests}
 use Rattle.tumbler.specs.Address.{IsDocument}
 use Rattle.tumbler.specs.Places.{IsBefore, IsUpTo, comes_before}
 use Rattle.tumbler.proofs.Addresses.{one_cut}
-use Rattle.tumbler.proofs.Before.{before_if_true, true_if_before, up_to_if_false, false_if_up_to, never_before_none}
-use Rattle.tumbler.proofs.Order.{before_by_first, before_by_rest, before_cases, upto_cases, upto_by_rest, upto_itself, upto_if_before, never_before_itself}
+use Rattle.tumbler.proofs.Before.{before_if_true, true_if_before, up_to_if_false, false_if_up_to}
+use Rattle.tumbler.proofs.Order.{before_by_first, before_by_rest, upto_cases, upto_itself, upto_if_before}
 use Rattle.poom.specs.Pieces.{address_in, addresses_from}
 use Rattle.world_rules.specs.World.{is_same}
 

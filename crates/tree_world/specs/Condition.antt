@@ -1,8 +1,7 @@
 -- The condition of a world's trees: what they owe for their shape, how deep they are, and which nodes are there.
-use Rattle.std.specs.Prelude.{ℕ, ◌+◌, ◌||◌, not, min, max, Bool, List, [], ◌∷◌, length, map, sum_by, fold}
+use Rattle.std.specs.Prelude.{◌≡◌, ℕ, ◌+◌, ◌||◌, not, min, max, Bool, List, [], ◌∷◌, length, map, sum_by, fold}
 use Rattle.std.specs.List.{list_any}
 use Rattle.enfilade_core.specs.declared.tree.Node.{Node}
-use Rattle.enfilade_core.specs.Axes.{Widths}
 use Rattle.enfilade_core.specs.Rows.{Shape}
 use Rattle.enfilade_core.specs.Planes.{content_widths, text_widths, key_widths}
 use Rattle.enfilade_core.specs.Standing.{tree_debt, tree_allows}
@@ -20,6 +19,12 @@ pub record Condition : Type 0 where
   pub depth : ℕ
   pub nodes : ℕ
   pub reached : Bool
+
+-- trees owe what they owed together, one allows a step where one did, and the deepest is as deep
+pub record StaysInShape (old new : Condition) : Type 0 where
+  pub debt : new.debt ≡ old.debt
+  pub allows : new.allows ≡ old.allows
+  pub depth : new.depth ≡ old.depth
 
 -- ---- documents: versions that share a tree count for each of them
 

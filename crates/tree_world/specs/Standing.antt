@@ -1,6 +1,6 @@
 -- Which worlds trees and tables stand for. Worlds differ in the order of their lists; of the rows of one part of one
 -- document the order is fixed.
-use Rattle.std.specs.Prelude.{◌≡◌, ℕ, ◌+◌, ◌==◌, ◌&&◌, not, false, Bool, List, [], ◌∷◌, length, map, All, Some, IsTrue, IsPermutation}
+use Rattle.std.specs.Prelude.{◌≡◌, ℕ, ◌+◌, ◌==◌, ◌&&◌, false, Bool, List, [], ◌∷◌, length, map, All, Some, IsTrue, IsPermutation}
 use Rattle.std.specs.List.{filter, list_any}
 use Rattle.febe_data.specs.declared.access.Mode.TheVariants.{Write}
 use Rattle.granfilade.specs.Content.{ByteAt, content}

@@ -1,11 +1,13 @@
 //! Nodes that no root reaches are let go: trees are copied into arenas of their own, which then take the place of the old.
 ghost use Rattle.std.specs.Prelude.{◌≡◌, ◌<◌, [], ◌∷◌, true, length, map, All, IfOk, OnOk, OnErr};
 ghost use Rattle.enfilade_core.specs.Rows.{rows_of};
+ghost use Rattle.enfilade_core.specs.Standing.{tree_debt, tree_allows};
+ghost use Rattle.enfilade_core.specs.Summary.{depth_of};
 ghost use Rattle.enfilade_sweep.specs.Sweep.{are_held};
 ghost use Rattle.poom.specs.Laid.{IsRoot};
 ghost use Rattle.doc_table.specs.declared.rows.DocumentRow.{DocumentRow};
 ghost use Rattle.world_rules.specs.FlatView.{FlatView};
-ghost use Rattle.tree_world.specs.Condition.{condition_of};
+ghost use Rattle.tree_world.specs.Condition.{condition_of, StaysInShape};
 ghost use Rattle.tree_world.specs.Standing.{Stands};
 ghost use Rattle.tree_world.specs.inside.Swept.{IsSweptContent, IsSweptIndex, AreSweptDocuments};
 
@@ -25,6 +27,9 @@ fn swept_tree<P: Plane>(arena: &Arena<P>, root: Node) -> Result<(Arena<P>, Node)
     requires { root.0 < length arena.now }
     ensures below { IfOk result (λ made. made.1.0 < length made.0) }
     ensures rows { IfOk result (λ made. rows_of made.0 made.1.0 ≡ rows_of arena.now root.0) }
+    ensures debt { IfOk result (λ made. tree_debt made.0 made.1.0 ≡ tree_debt arena.now root.0) }
+    ensures allows { IfOk result (λ made. tree_allows made.0 made.1.0 ≡ tree_allows arena.now root.0) }
+    ensures depth { IfOk result (λ made. depth_of P.widths made.0 made.1.0 ≡ depth_of P.widths arena.now root.0) }
     ensures held { IfOk result (λ made. are_held made.0 (made.1.0 ∷ []) ≡ true) }
 {
     let mut roots = List::new(arena.allocator());
@@ -99,6 +104,7 @@ impl TreeWorld {
     pub(crate) fn sweep_trees(&mut self, alloc: Global) -> Result<(), Memory>
         ensures stands { (view : FlatView) → Stands self.old view → Stands self.new view }
         ensures swept { OnOk result ((condition_of self.new).reached ≡ true) }
+        ensures shape { OnOk result (StaysInShape (condition_of self.old) (condition_of self.new)) }
         ensures err { OnErr result (self.new ≡ self.old) }
     {
         let contents = swept_contents(&self.contents)?;

@@ -5,7 +5,7 @@ ghost use Rattle.febe_data.specs.Plain.{plain_entry};
 ghost use Rattle.world_rules.specs.FlatView.{FlatView, after_entry};
 ghost use Rattle.world_rules.specs.History.{is_counted};
 ghost use Rattle.world_rules.specs.InPlace.{DropsOnly, HasRoom};
-ghost use Rattle.tree_world.specs.Condition.{Condition};
+ghost use Rattle.tree_world.specs.Condition.{Condition, StaysInShape};
 
 use crate::world::TreeWorld;
 use febe_data::{Entry, Memory};
@@ -53,10 +53,12 @@ pub trait Tends: Applies {
         ensures idle { (condition self.old).allows ≡ false → IsOk result × (condition self.new ≡ condition self.old) }
         ensures err { OnErr result (condition self.new ≡ condition self.old) };
 
-    /// Lets go of all nodes that no tree's root reaches. The world stands for what it stood for, whatever comes of it.
+    /// Lets go of all nodes that no tree's root reaches. The world stands for what it stood for, whatever comes of it, and
+    /// the trees stay as deep and as near to balance.
     fn sweep(&mut self, alloc: Global) -> Result<(), Memory>
         ensures stands { (view : FlatView) → Self.stands self.old view → Self.stands self.new view }
         ensures swept { OnOk result ((condition self.new).reached ≡ true) }
+        ensures shape { OnOk result (StaysInShape (condition self.old) (condition self.new)) }
         ensures err { OnErr result (condition self.new ≡ condition self.old) };
 }
 

@@ -1,6 +1,6 @@
 //! What a request that is not refused changes, and what it is answered then.
-ghost use Rattle.std.specs.Prelude.{◌≡◌, ◌+◌, ◌∷◌, [], map, Some, IfOk, slice_index, ◌++◌};
-ghost use Rattle.tumbler.specs.Places.{IsTumbler};
+ghost use Rattle.std.specs.Prelude.{◌≡◌, ◌≢◌, ◌+◌, ◌-◌, ◌<◌, ◌≤◌, ◌^◌, ◌∷◌, [], length, map, Some, IsOk, IfOk, slice_index, ◌++◌};
+ghost use Rattle.tumbler.specs.Places.{most_places, place, IsTumbler};
 ghost use Rattle.febe_data.specs.Plain.{plain_spec, plain_reply, create, version, opens, inserted, copied, rearranged, deleted, linked, account_set, closed, account_changed, copy_opened, document_opened, opened, document_closed, text_inserted, span_deleted, blocks_swapped, specs_copied, link_made};
 ghost use Rattle.febe_data.specs.Validity.{IsReply};
 ghost use Rattle.world_rules.specs.World.{is_of_account, version_for, content_length, links_made_in, link_length, link_address};
@@ -48,7 +48,8 @@ pub(crate) fn positions_of(alloc: Global, cuts: &[Tumbler]) -> Result<List<u32>,
 
 /// One more than the count, where a place can hold it.
 pub fn one_more_than(count: usize) -> Result<u32, WorldError>
-    ensures { IfOk result (λ number. number ≡ count + 1) }
+    ensures value { IfOk result (λ number. number ≡ count + 1) }
+    ensures accepted { count + 1 < 2 ^ 32 → IsOk result }
 {
     let count = u32::try_from(count).map_err(|_| WorldError::TooGreat)?;
     count.checked_add(1).ok_or(WorldError::TooGreat)
@@ -58,6 +59,7 @@ pub fn one_more_than(count: usize) -> Result<u32, WorldError>
 pub fn extended(address: &Tumbler, tail: &[u32]) -> Result<Tumbler, WorldError>
     ensures value { IfOk result (λ longer. longer ≡ address.now ++ tail.now) }
     ensures valid { IfOk result IsTumbler }
+    ensures accepted { length address.now + length tail.now ≤ most_places → (0 < length tail.now → place tail.now (length tail.now - 1) ≢ 0) → IsOk result }
 {
     let longer = address.extended(tail).map_err(|_| WorldError::NoTumbler)?;
     let _ = longer.places();

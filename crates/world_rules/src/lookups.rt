@@ -1,8 +1,9 @@
 //! What requests ask of a world, whatever it keeps: look-ups, each with the answer that the definitions give for any view
 //! that the value stands for.
-ghost use Rattle.std.specs.Prelude.{◌≡◌, ◌+◌, ◌-◌, ◌^◌, ℕ, not, min, length, map, true, false, is_none, nat_lt, All, IsOk, IfOk, OnOk, OnErr, IfSome, IfNone, Some};
+ghost use Rattle.std.specs.Prelude.{◌≡◌, ◌+◌, ◌-◌, ◌^◌, ◌<◌, ℕ, not, min, length, map, true, false, is_none, nat_lt, All, IsOk, IfOk, OnOk, OnErr, IfSome, IfNone, Some};
 ghost use Rattle.std.specs.List.{list_any};
 ghost use Rattle.tumbler.specs.Places.{IsTumbler};
+ghost use Rattle.tumbler.specs.Address.{most_document_places, IsAccount, IsDocument};
 ghost use Rattle.febe_data.specs.Plain.{plain_spec, plain_item, plain_want, plain_entry};
 ghost use Rattle.febe_data.specs.Validity.{IsDiagonal};
 ghost use Rattle.world_rules.specs.World.{has_document, account_of_session, mode_of, is_held_against, text_length, link_length, next_document, next_version, content_length, links_made_in};
@@ -81,23 +82,27 @@ pub trait Lookups {
     fn link_length(&self, document: &Tumbler) -> usize
         ensures { (view : FlatView) → stands self.now view → result ≡ link_length view.world document.now };
 
-    /// The address of the account's next document.
+    /// The address of the account's next document. It is refused only where that is no tumbler.
     fn next_document(&self, account: &Tumbler) -> Result<Tumbler, WorldError>
         ensures value { (view : FlatView) → stands self.now view → IfOk result (λ document. document ≡ next_document view.world account.now) }
-        ensures valid { IfOk result IsTumbler };
+        ensures valid { IfOk result IsTumbler }
+        ensures accepted { (view : FlatView) → stands self.now view → IsAccount account.now → IsTumbler (next_document view.world account.now) → IsOk result };
 
-    /// The address of the document's next version.
+    /// The address of the document's next version. It is refused only where that is no tumbler.
     fn next_version(&self, document: &Tumbler) -> Result<Tumbler, WorldError>
         ensures value { (view : FlatView) → stands self.now view → IfOk result (λ version. version ≡ next_version view.world document.now) }
-        ensures valid { IfOk result IsTumbler };
+        ensures valid { IfOk result IsTumbler }
+        ensures accepted { (view : FlatView) → stands self.now view → IsDocument document.now → length document.now < most_document_places → IsTumbler (next_version view.world document.now) → IsOk result };
 
-    /// The number of the document's next content byte.
+    /// The number of the document's next content byte. It is refused only where a place can't hold it.
     fn next_content(&self, document: &Tumbler) -> Result<u32, WorldError>
-        ensures { (view : FlatView) → stands self.now view → IfOk result (λ number. number ≡ content_length view.world document.now + 1) };
+        ensures value { (view : FlatView) → stands self.now view → IfOk result (λ number. number ≡ content_length view.world document.now + 1) }
+        ensures accepted { (view : FlatView) → stands self.now view → IsDocument document.now → content_length view.world document.now + 1 < 2 ^ 32 → IsOk result };
 
-    /// The number of the next link that is made in the document.
+    /// The number of the next link that is made in the document. It is refused only where a place can't hold it.
     fn next_link(&self, home: &Tumbler) -> Result<u32, WorldError>
-        ensures { (view : FlatView) → stands self.now view → IfOk result (λ number. number ≡ links_made_in view.world home.now + 1) };
+        ensures value { (view : FlatView) → stands self.now view → IfOk result (λ number. number ≡ links_made_in view.world home.now + 1) }
+        ensures accepted { (view : FlatView) → stands self.now view → links_made_in view.world home.now + 1 < 2 ^ 32 → IsOk result };
 }
 
 /// What is asked of content and links.

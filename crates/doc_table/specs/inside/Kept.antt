@@ -11,7 +11,6 @@ use Rattle.std.specs.BTreeMap.{BTreeMap}
 use Rattle.std.specs.declared.boxed.Box.{Box}
 use Rattle.doc_table.specs.declared.rows.DocumentRow.{DocumentRow}
 use Rattle.world_rules.specs.World.{is_same}
-use Rattle.doc_table.specs.DocumentRows.{documents_in}
 
 abbrev pub unboxed : {R A : Type 0} → List (Box (DocumentRow R) A) → List (DocumentRow R)
 unboxed boxes = map (λ b. b.value) boxes

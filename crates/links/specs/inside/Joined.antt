@@ -1,5 +1,5 @@
 -- What is asked of ends, with spans that come one after another.
-use Rattle.std.specs.Prelude.{◌≡◌, ◌≢◌, ℕ, List, [], All, Option, Some, None}
+use Rattle.std.specs.Prelude.{◌≡◌, ◌≢◌, List, [], All, Option, Some, None}
 use Rattle.tumbler.specs.ListView.{ListView}
 use Rattle.tumbler.specs.Span.{SpanFits}
 use Rattle.tumbler.specs.declared.span.Span.{Span}

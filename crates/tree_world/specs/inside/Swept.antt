@@ -2,7 +2,9 @@
 use Rattle.std.specs.Prelude.{◌≡◌, ℕ, true, List, [], ◌∷◌, length, map, All}
 use Rattle.enfilade_core.specs.declared.tree.Node.{Node}
 use Rattle.enfilade_core.specs.Rows.{Shape, rows_of}
-use Rattle.enfilade_core.specs.Standing.{tree_allows}
+use Rattle.enfilade_core.specs.Planes.{content_widths, text_widths, key_widths}
+use Rattle.enfilade_core.specs.Standing.{tree_debt, tree_allows}
+use Rattle.enfilade_core.specs.Summary.{depth_of}
 use Rattle.enfilade_sweep.specs.Sweep.{numbers, are_held}
 use Rattle.granfilade.specs.Content.{ContentTree, tree_rows}
 use Rattle.spanfilade.specs.Index.{IndexTree, rows_in_index}
@@ -10,19 +12,27 @@ use Rattle.poom.specs.Laid.{IsRoot}
 use Rattle.doc_table.specs.declared.rows.DocumentRow.{DocumentRow}
 use Rattle.tree_world.specs.Condition.{roots_in}
 
--- a tree has the rows that it had, and its arena no node that its root does not reach
+-- a tree has the rows and the shape that it had, and its arena no node that its root does not reach
 pub record IsSweptContent (old new : ContentTree) : Type 0 where
   pub rows : tree_rows new ≡ tree_rows old
+  pub debt : tree_debt new.nodes new.root ≡ tree_debt old.nodes old.root
+  pub allows : tree_allows new.nodes new.root ≡ tree_allows old.nodes old.root
+  pub depth : depth_of content_widths new.nodes new.root ≡ depth_of content_widths old.nodes old.root
   pub held : are_held new.nodes (new.root ∷ []) ≡ true
 
 pub record IsSweptIndex (old new : IndexTree) : Type 0 where
   pub rows : rows_in_index new ≡ rows_in_index old
+  pub debt : tree_debt new.nodes new.root.0 ≡ tree_debt old.nodes old.root.0
+  pub allows : tree_allows new.nodes new.root.0 ≡ tree_allows old.nodes old.root.0
+  pub depth : depth_of key_widths new.nodes new.root.0 ≡ depth_of key_widths old.nodes old.root.0
   pub held : are_held new.nodes (new.root.0 ∷ []) ≡ true
 
--- So has the tree of each document, whose root is at the document's place among these. It allows a step where it did.
+-- So has the tree of each document, whose root is at the document's place among these.
 pub record AreSweptDocuments (old : List (Shape ℕ)) (documents : List (DocumentRow Node)) (new : List (Shape ℕ)) (roots : List Node) : Type 0 where
   pub long : length roots ≡ length documents
   pub each : All (λ (root : Node). IsRoot new root.0) roots
   pub rows : map (rows_of new) (numbers roots) ≡ map (rows_of old) (roots_in documents)
+  pub owed : map (tree_debt new) (numbers roots) ≡ map (tree_debt old) (roots_in documents)
   pub allowed : map (tree_allows new) (numbers roots) ≡ map (tree_allows old) (roots_in documents)
+  pub deep : map (depth_of text_widths new) (numbers roots) ≡ map (depth_of text_widths old) (roots_in documents)
   pub held : are_held new (numbers roots) ≡ true

@@ -1,4 +1,4 @@
-use Rattle.std.proofs.Common.{◌≡◌, ◌∙◌, ◌+◌, ◌-◌, ◌≤◌, ap, sym, subst, true, false, not, Some, None, refl, arith, ltb-true, ltb-false}
+use Rattle.std.proofs.Common.{◌-◌, ap, arith}
 use Rattle.doc_table.proofs.Changed.{counts_as, counts_none}
 use Rattle.doc_table.proofs.counts.count_down.Goals as goal
 

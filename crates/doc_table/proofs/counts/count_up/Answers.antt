@@ -1,4 +1,4 @@
-use Rattle.std.proofs.Common.{◌≡◌, ◌∙◌, ◌+◌, ◌-◌, ap, sym, true, false, not, Some, None, refl, arith}
+use Rattle.std.proofs.Common.{◌+◌, ap}
 use Rattle.doc_table.proofs.Changed.{counts_as}
 use Rattle.doc_table.proofs.counts.count_up.Goals as goal
 

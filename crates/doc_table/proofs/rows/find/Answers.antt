@@ -1,4 +1,3 @@
-use Rattle.std.proofs.Common.{◌≡◌, ◌∙◌, ap, sym, true, false, not, Some, None, refl, arith}
 use Rattle.doc_table.proofs.Changed.{absent_past, absent_at}
 use Rattle.doc_table.proofs.rows.find.Goals as goal
 

@@ -1,5 +1,5 @@
 use Rattle.std.proofs.Common.{ap, refl, arith}
-use Rattle.doc_table.proofs.RootsSet.{still_long, next_set, all_set}
+use Rattle.doc_table.proofs.RootsSet.{still_long, next_set}
 use Rattle.doc_table.proofs.Changed.{row_with_root}
 use Rattle.doc_table.proofs.rows.set_roots.Goals as goal
 

@@ -1,4 +1,4 @@
-use Rattle.std.proofs.Common.{◌≡◌, ◌∙◌, ℕ, List, ap}
+use Rattle.std.proofs.Common.{◌∙◌, ℕ, List, ap}
 use Rattle.std.specs.List.{prefix_len}
 use Rattle.tumbler.specs.Places.{comes_before}
 use Rattle.tumbler.specs.declared.span.Span.{Span}

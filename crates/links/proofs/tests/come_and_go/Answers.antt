@@ -1,6 +1,6 @@
 use Rattle.std.proofs.Common.{rules, ◌≡◌, false, subst}
 use Rattle.std.specs.Prelude.{OnOk}
-use Rattle.links.specs.LinkLists.{LinkLists, plain_link, added, has_in}
+use Rattle.links.specs.LinkLists.{plain_link, added, has_in}
 use Rattle.links.proofs.Trials.{links_again, from_again, to_again, three_again}
 use Rattle.links.proofs.tests.come_and_go.Goals as goal
 

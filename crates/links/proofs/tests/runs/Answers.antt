@@ -1,6 +1,5 @@
 use Rattle.std.proofs.Common.{◌≡◌, ◌++◌, ◌∷◌, [], subst}
 use Rattle.std.specs.Prelude.{OnOk}
-use Rattle.links.specs.LinkLists.{IsRun}
 use Rattle.links.proofs.Trials.{runs_more}
 use Rattle.links.proofs.tests.runs.Goals as goal
 

@@ -1,4 +1,4 @@
-use Rattle.std.proofs.Common.{◌≡◌, ◌∙◌, All, refl, sym, subst, rules}
+use Rattle.std.proofs.Common.{All, refl, sym, subst, rules}
 use Rattle.std.specs.List.Sorted.{IsPermutation, IsNonDecreasingBy}
 use Rattle.std.proofs.lemmas.List.Sorted.{All-permutation, IsNonDecreasingBy-from_sort_by_key}
 use Rattle.poom_compare.specs.declared.positions.Interval.{Interval}

@@ -1,4 +1,4 @@
-use Rattle.std.proofs.Common.{◌≡◌, ◌∙◌}
+use Rattle.std.proofs.Common.{◌∙◌}
 use Rattle.tree_world.proofs.Covering.{added_keeps, added_covers}
 use Rattle.tree_world.proofs.indexing.index_runs.Goals as goal
 

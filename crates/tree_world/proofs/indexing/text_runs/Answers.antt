@@ -1,4 +1,4 @@
-use Rattle.std.proofs.Common.{◌≡◌, ◌∙◌, ap}
+use Rattle.std.proofs.Common.{◌∙◌, ap}
 use Rattle.enfilade_core.specs.Rows.{rows_of}
 use Rattle.poom.specs.Laid.{texts}
 use Rattle.poom.specs.Picked.{picked_from}

@@ -1,6 +1,4 @@
-use Rattle.std.proofs.Common.{◌≡◌, ◌∙◌, ◌≤◌, ℕ, length, sym, subst}
-use Rattle.enfilade_core.specs.Exchange.{Grows}
-use Rattle.tree_world.proofs.TextCame.{with_bytes}
+use Rattle.std.proofs.Common.{◌∙◌, ◌≤◌, ℕ, length, sym, subst}
 use Rattle.tree_world.proofs.Roots.{taken_back, within_grown}
 use Rattle.tree_world.proofs.inserting.put_text.Goals as goal
 

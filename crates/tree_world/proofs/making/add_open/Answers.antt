@@ -1,4 +1,4 @@
-use Rattle.std.proofs.Common.{◌≡◌, ◌∙◌, ap}
+use Rattle.std.proofs.Common.{◌∙◌, ap}
 use Rattle.doc_table.specs.DocumentRows.{has_in, removed}
 use Rattle.tree_world.proofs.Tables.{has_added, removed_added}
 use Rattle.tree_world.proofs.making.add_open.Goals as goal

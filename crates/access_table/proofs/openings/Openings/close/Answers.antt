@@ -1,5 +1,4 @@
-use Rattle.std.proofs.Common.{◌≡◌, true, false, Some, None, refl}
-use Rattle.febe_data.specs.declared.access.Mode.TheVariants.{Read, Write}
+use Rattle.std.proofs.Common.{false, None, refl}
 use Rattle.access_table.proofs.Writers.{closed_rows, writers_changed}
 use Rattle.access_table.proofs.openings.Openings.close.Goals as goal
 

@@ -1,5 +1,4 @@
-use Rattle.std.proofs.Common.{◌≡◌, ◌∙◌, ap, sym, true, false, Some, None, refl, length}
-use Rattle.febe_data.specs.declared.access.Mode.TheVariants.{Read, Write}
+use Rattle.std.proofs.Common.{◌∙◌, ap, sym, refl}
 use Rattle.access_table.proofs.Ending.{fewer_left, shorter}
 use Rattle.world_rules.specs.Apply.{without_session}
 use Rattle.access_table.proofs.openings.Openings.end.Goals as goal

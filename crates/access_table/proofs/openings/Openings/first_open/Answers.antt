@@ -1,5 +1,3 @@
-use Rattle.std.proofs.Common.{◌≡◌, ◌∙◌, ap, sym, true, false, Some, None, refl, length}
-use Rattle.febe_data.specs.declared.access.Mode.TheVariants.{Read, Write}
 use Rattle.access_table.proofs.Ending.{nothing_open, others_open}
 use Rattle.access_table.proofs.openings.Openings.first_open.Goals as goal
 

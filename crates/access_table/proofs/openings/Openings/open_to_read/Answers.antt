@@ -1,5 +1,5 @@
-use Rattle.std.proofs.Common.{◌≡◌, true, false, Some, None, refl}
-use Rattle.febe_data.specs.declared.access.Mode.TheVariants.{Read, Write}
+use Rattle.std.proofs.Common.{false, Some, refl}
+use Rattle.febe_data.specs.declared.access.Mode.TheVariants.{Read}
 use Rattle.access_table.proofs.Writers.{opened_rows, writers_changed}
 use Rattle.access_table.proofs.openings.Openings.open_to_read.Goals as goal
 

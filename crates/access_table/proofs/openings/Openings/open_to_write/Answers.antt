@@ -1,5 +1,5 @@
-use Rattle.std.proofs.Common.{◌≡◌, ◌∙◌, ap, sym, true, false, Some, None, refl, length}
-use Rattle.febe_data.specs.declared.access.Mode.TheVariants.{Read, Write}
+use Rattle.std.proofs.Common.{true, Some, refl}
+use Rattle.febe_data.specs.declared.access.Mode.TheVariants.{Write}
 use Rattle.access_table.proofs.Writers.{opened_rows, writers_changed, writers_back}
 use Rattle.access_table.proofs.openings.Openings.open_to_write.Goals as goal
 

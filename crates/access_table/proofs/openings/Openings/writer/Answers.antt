@@ -1,5 +1,4 @@
-use Rattle.std.proofs.Common.{◌≡◌, true, false, Some, None, refl, sym}
-use Rattle.febe_data.specs.declared.access.Mode.TheVariants.{Read, Write}
+use Rattle.std.proofs.Common.{sym}
 use Rattle.access_table.proofs.Writers.{no_writer, other_writer, first_writer}
 use Rattle.access_table.proofs.openings.Openings.writer.Goals as goal
 

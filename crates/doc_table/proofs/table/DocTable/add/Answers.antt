@@ -1,8 +1,8 @@
-use Rattle.std.proofs.Common.{◌≡◌, ◌∙◌, ◌+◌, ◌-◌, ◌≤◌, ◌<◌, length, ap, sym, subst, true, false, not, Some, None, refl, arith}
+use Rattle.std.proofs.Common.{◌∙◌, ◌≤◌, ap, sym, subst}
 use Rattle.std.specs.List.{insert, prefix_len}
 use Rattle.doc_table.specs.DocumentRows.{has_in}
 use Rattle.doc_table.specs.inside.Kept.{is_before}
-use Rattle.doc_table.proofs.Changed.{place_fits, add_holds, add_shows, fresh, room_below}
+use Rattle.doc_table.proofs.Changed.{place_fits, add_holds, add_shows, room_below}
 use Rattle.doc_table.proofs.table.DocTable.add.Goals as goal
 
 pub insert-requires : goal.insert-requires

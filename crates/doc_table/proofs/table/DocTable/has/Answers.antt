@@ -1,4 +1,4 @@
-use Rattle.std.proofs.Common.{◌≡◌, ◌∙◌, ◌+◌, ◌-◌, ◌≤◌, ap, sym, subst, true, false, not, Some, None, refl, arith, ltb-true, ltb-false}
+use Rattle.std.proofs.Common.{◌∙◌, ap}
 use Rattle.doc_table.proofs.Changed.{has_is}
 use Rattle.doc_table.specs.inside.Kept.{unboxed}
 use Rattle.doc_table.proofs.table.DocTable.has.Goals as goal

@@ -1,4 +1,4 @@
-use Rattle.std.proofs.Common.{◌≡◌, ◌++◌, ◌∷◌, []}
+use Rattle.std.proofs.Common.{◌++◌, ◌∷◌, []}
 use Rattle.doc_table.specs.DocumentRows.{documents_in}
 use Rattle.doc_table.proofs.Changed.{next_made, ok_value}
 use Rattle.doc_table.proofs.table.DocTable.next_document.Goals as goal

@@ -1,4 +1,4 @@
-use Rattle.std.proofs.Common.{◌≡◌, ◌∙◌, ◌+◌, ◌-◌, ◌≤◌, ap, sym, subst, true, false, not, Some, None, refl, arith, ltb-true, ltb-false}
+use Rattle.std.proofs.Common.{◌∙◌, ◌+◌, ap}
 use Rattle.doc_table.proofs.Counted.{siblings_counted}
 use Rattle.doc_table.specs.DocumentRows.{documents_in}
 use Rattle.doc_table.specs.inside.Kept.{unboxed}

@@ -1,4 +1,4 @@
-use Rattle.std.proofs.Common.{◌≡◌, ◌∙◌, ◌+◌, ◌-◌, ◌≤◌, ◌<◌, ap, sym, subst, true, false, not, Some, None, refl, arith, ltb-true, ltb-false, get_or}
+use Rattle.std.proofs.Common.{◌≡◌, ◌∙◌, ◌≤◌, ◌<◌, ap, sym, subst, Some, ltb-true, ltb-false, get_or}
 use Rattle.doc_table.proofs.Changed.{nth_some, nth_none}
 use Rattle.std.specs.Prelude.{slice_get, length}
 use Rattle.doc_table.specs.DocumentRows.{documents_in}

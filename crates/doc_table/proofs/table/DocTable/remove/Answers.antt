@@ -1,4 +1,4 @@
-use Rattle.std.proofs.Common.{◌≡◌, ◌∙◌, ◌+◌, ◌-◌, ◌≤◌, ◌<◌, length, ap, sym, subst, true, false, not, Some, None, refl, arith}
+use Rattle.std.proofs.Common.{subst}
 use Rattle.doc_table.specs.inside.Kept.{IsAt}
 use Rattle.doc_table.proofs.Changed.{remove_holds, remove_shows}
 use Rattle.doc_table.proofs.table.DocTable.remove.Goals as goal

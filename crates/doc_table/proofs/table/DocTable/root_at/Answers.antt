@@ -1,4 +1,4 @@
-use Rattle.std.proofs.Common.{◌≡◌, ◌∙◌, ◌+◌, ◌-◌, ◌≤◌, ◌<◌, List, ap, sym, subst, true, false, not, Some, None, refl, arith, ltb-true, ltb-false, get_or}
+use Rattle.std.proofs.Common.{◌≡◌, ◌∙◌, ◌≤◌, ◌<◌, List, ap, sym, subst, Some, ltb-true, ltb-false, get_or}
 use Rattle.std.specs.Prelude.{slice_get, length}
 use Rattle.std.specs.Option.{option_map}
 use Rattle.doc_table.specs.declared.rows.DocumentRow.{DocumentRow}

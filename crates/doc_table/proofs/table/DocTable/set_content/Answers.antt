@@ -1,4 +1,4 @@
-use Rattle.std.proofs.Common.{◌≡◌, ◌∙◌, ◌+◌, ◌-◌, ◌≤◌, ◌<◌, length, ap, sym, subst, true, false, not, Some, None, refl, arith}
+use Rattle.std.proofs.Common.{ap, subst, refl}
 use Rattle.doc_table.specs.inside.Kept.{IsAt}
 use Rattle.doc_table.proofs.Changed.{set_holds, set_shows, row_with_content}
 use Rattle.doc_table.proofs.table.DocTable.set_content.Goals as goal

@@ -1,6 +1,3 @@
-use Rattle.std.proofs.Common.{List, ◌∙◌, ap}
-use Rattle.doc_table.specs.declared.rows.DocumentRow.{DocumentRow}
-use Rattle.doc_table.specs.DocumentRows.{with_roots}
 use Rattle.doc_table.proofs.RootsSet.{roots_hold}
 use Rattle.doc_table.proofs.table.DocTable.set_roots.Goals as goal
 

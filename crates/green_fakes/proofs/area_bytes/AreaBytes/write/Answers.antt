@@ -1,5 +1,5 @@
 -- The bytes have grown up to the end of what is written.
-use Rattle.std.proofs.Common.{◌∙◌, sym, arith}
+use Rattle.std.proofs.Common.{◌∙◌, arith}
 use Rattle.green_fakes.proofs.Bytes.{overwritten, whole_back}
 use Rattle.green_fakes.proofs.area_bytes.AreaBytes.write.Goals as goal
 

@@ -1,4 +1,4 @@
-use Rattle.std.proofs.Common.{◌≡◌, ◌+◌, ap, refl}
+use Rattle.std.proofs.Common.{◌+◌, ap, refl}
 use Rattle.tree_world.proofs.Counted.{counted_more, known_here}
 use Rattle.tree_world.proofs.counts.Counts.count.Goals as goal
 

@@ -1,5 +1,5 @@
-use Rattle.std.proofs.Common.{◌≡◌, ◌∙◌, ◌+◌, sym, refl}
-use Rattle.tree_world.proofs.Counted.{reserved, reserved_room, known_there, room_there, not_most}
+use Rattle.std.proofs.Common.{sym, refl}
+use Rattle.tree_world.proofs.Counted.{reserved, reserved_room, known_there, room_there}
 use Rattle.tree_world.proofs.counts.Counts.reserve.Goals as goal
 
 pub returns-in_err-insert-clause-in_place : goal.returns-in_err-insert-clause-in_place

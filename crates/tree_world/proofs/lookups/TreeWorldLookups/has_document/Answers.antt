@@ -1,4 +1,4 @@
-use Rattle.std.proofs.Common.{◌≡◌, ◌∙◌, ap}
+use Rattle.std.proofs.Common.{◌∙◌, ap}
 use Rattle.doc_table.specs.DocumentRows.{has_in}
 use Rattle.tree_world.specs.Trees.{Trees}
 use Rattle.tree_world.proofs.Looked.{document_seen}

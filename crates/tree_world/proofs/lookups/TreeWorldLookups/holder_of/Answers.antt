@@ -1,5 +1,4 @@
-use Rattle.std.proofs.Common.{◌≡◌, ◌∙◌, ap, sym, subst, List}
-use Rattle.world_rules.specs.declared.rows.OpenRow.{OpenRow}
+use Rattle.std.proofs.Common.{ap}
 use Rattle.tree_world.specs.Trees.{Trees}
 use Rattle.tree_world.proofs.Writers.{holder_is}
 use Rattle.tree_world.proofs.lookups.TreeWorldLookups.holder_of.Goals as goal

@@ -1,4 +1,4 @@
-use Rattle.std.proofs.Common.{◌≡◌, ◌∙◌, ap}
+use Rattle.std.proofs.Common.{ap}
 use Rattle.tree_world.specs.Trees.{Trees}
 use Rattle.tree_world.proofs.Writers.{held_is, unheld_is}
 use Rattle.tree_world.proofs.lookups.TreeWorldLookups.is_held_against.Goals as goal

@@ -1,5 +1,4 @@
-use Rattle.std.proofs.Common.{◌≡◌, ◌∙◌, ap}
-use Rattle.tree_world.specs.Trees.{Trees}
+use Rattle.std.proofs.Common.{◌∙◌}
 use Rattle.tree_world.proofs.Looked.{root_stands, as_many_links, no_links}
 use Rattle.tree_world.proofs.lookups.TreeWorldLookups.link_length.Goals as goal
 

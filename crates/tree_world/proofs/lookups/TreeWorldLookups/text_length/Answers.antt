@@ -1,5 +1,4 @@
-use Rattle.std.proofs.Common.{◌≡◌, ◌∙◌, ap}
-use Rattle.tree_world.specs.Trees.{Trees}
+use Rattle.std.proofs.Common.{◌∙◌}
 use Rattle.tree_world.proofs.Looked.{root_stands, as_long_text, no_text}
 use Rattle.tree_world.proofs.lookups.TreeWorldLookups.text_length.Goals as goal
 

@@ -1,4 +1,4 @@
-use Rattle.std.proofs.Common.{◌≡◌, Result, Ok, Err, sym, subst}
+use Rattle.std.proofs.Common.{Result, Ok, Err, sym, subst}
 use Rattle.std.specs.Prelude.{OnErr}
 use Rattle.febe_data.specs.Plain.{plain_change}
 use Rattle.world_rules.specs.FlatView.{with_entry}

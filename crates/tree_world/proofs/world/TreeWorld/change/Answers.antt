@@ -1,4 +1,4 @@
-use Rattle.std.proofs.Common.{◌≡◌, sym, subst}
+use Rattle.std.proofs.Common.{sym, subst}
 use Rattle.std.specs.Prelude.{OnOk}
 use Rattle.febe_data.specs.Plain.{plain_change, plain_specs, text_inserted, specs_copied}
 use Rattle.tree_world.specs.Standing.{Stands}

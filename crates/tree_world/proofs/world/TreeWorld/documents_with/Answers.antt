@@ -1,7 +1,6 @@
-use Rattle.std.proofs.Common.{◌≡◌, ◌∙◌, All, List, map, ap, subst, sym}
+use Rattle.std.proofs.Common.{All, map, subst}
 use Rattle.enfilade_core.specs.declared.tree.Node.{Node}
 use Rattle.doc_table.specs.declared.rows.DocumentRow.{DocumentRow}
-use Rattle.tumbler.specs.declared.span.Span.{Span}
 use Rattle.febe_data.specs.Plain.{plain_spec}
 use Rattle.poom.specs.Laid.{IsRoot}
 use Rattle.tree_world.specs.Trees.{Trees}

@@ -1,4 +1,4 @@
-use Rattle.std.proofs.Common.{◌≡◌, sym, subst}
+use Rattle.std.proofs.Common.{sym, subst}
 use Rattle.tree_world.specs.Standing.{Stands}
 use Rattle.tree_world.proofs.Opened.{ended_in}
 use Rattle.tree_world.proofs.world.TreeWorld.end.Goals as goal

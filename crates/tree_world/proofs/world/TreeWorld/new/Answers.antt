@@ -1,4 +1,4 @@
-use Rattle.std.proofs.Common.{◌≡◌, sym, subst}
+use Rattle.std.proofs.Common.{subst}
 use Rattle.links.specs.LinkLists.{HoldsRuns}
 use Rattle.tree_world.proofs.Begun.{begun}
 use Rattle.tree_world.proofs.world.TreeWorld.new.Goals as goal

@@ -1,4 +1,4 @@
-use Rattle.std.proofs.Common.{◌≡◌, refl, sym, subst}
+use Rattle.std.proofs.Common.{refl, sym, subst}
 use Rattle.tree_world.specs.Standing.{Stands}
 use Rattle.tree_world.proofs.Opened.{opened_in}
 use Rattle.tree_world.proofs.world.TreeWorld.open.Goals as goal

@@ -1,4 +1,4 @@
-use Rattle.std.proofs.Common.{◌≡◌, ◌∙◌, ◌+◌, ◌++◌, arith}
+use Rattle.std.proofs.Common.{◌∙◌, ◌+◌, arith}
 use Rattle.tree_world.specs.inside.Seen.{runs_picked}
 use Rattle.tree_world.proofs.Steps.{more_at, front_of}
 use Rattle.tree_world.proofs.world.TreeWorld.push_spec_runs_up_to.Goals as goal

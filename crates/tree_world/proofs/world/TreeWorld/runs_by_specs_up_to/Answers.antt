@@ -1,4 +1,4 @@
-use Rattle.std.proofs.Common.{◌≡◌, ◌++◌, subst}
+use Rattle.std.proofs.Common.{◌++◌, subst}
 use Rattle.febe_data.specs.Plain.{plain_spec}
 use Rattle.tree_world.specs.inside.Seen.{runs_by_spec, ComesTo}
 use Rattle.tree_world.proofs.Steps.{front_of_specs}

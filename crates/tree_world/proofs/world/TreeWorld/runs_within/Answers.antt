@@ -1,6 +1,5 @@
-use Rattle.std.proofs.Common.{◌≡◌, ◌∙◌, ◌<◌, List, Option, length, map, ap, sym, subst, arith}
+use Rattle.std.proofs.Common.{◌≡◌, ◌∙◌, ◌<◌, length, map, ap, sym, subst, arith}
 use Rattle.std.specs.Prelude.{IfNone, IfSome}
-use Rattle.std.proofs.lemmas.Bool.{lt-ltb}
 use Rattle.febe_data.specs.Plain.{plain_spec}
 use Rattle.tree_world.specs.inside.Seen.{runs_by_specs}
 use Rattle.tree_world.proofs.Seen.{runs_seen}

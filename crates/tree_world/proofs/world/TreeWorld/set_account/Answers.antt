@@ -1,4 +1,4 @@
-use Rattle.std.proofs.Common.{◌≡◌, sym, subst}
+use Rattle.std.proofs.Common.{sym, subst}
 use Rattle.tree_world.specs.Standing.{Stands}
 use Rattle.tree_world.proofs.Opened.{account_in_place}
 use Rattle.tree_world.proofs.world.TreeWorld.set_account.Goals as goal
