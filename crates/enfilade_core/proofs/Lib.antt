@@ -14,6 +14,8 @@ pub mod Rooms
 pub mod Heights
 pub mod BranchTests
 pub mod GoneThrough
+pub mod Joined
+pub mod KeptParts
 pub mod ChildrenTold
 pub mod Merges
 pub mod Seen

@@ -1,8 +1,8 @@
 -- A displacement that has room for a reach can be added to it.
-use Rattle.std.proofs.Common.{ℕ, List}
+use Rattle.std.proofs.Common.{◌≡◌, ℕ, List}
 use Rattle.tumbler.specs.Places.{IsTumbler, sum, Fits}
-use Rattle.tumbler.specs.Reach.{lead, HasRoom}
-use Rattle.tumbler.proofs.Reaches.{lead_fits_if_room}
+use Rattle.tumbler.specs.Reach.{lead, greater, HasRoom}
+use Rattle.tumbler.proofs.Reaches.{lead_fits_if_room, greater_assoc}
 use Rattle.tumbler.proofs.Tumblers.{sum-is_tumbler}
 use Rattle.tumbler.proofs.SumOrder.{fits_if_tumbler as fits_back}
 
@@ -18,3 +18,8 @@ pub fits_if_tumbler : (a d : List ℕ) → IsTumbler (sum a d) → Fits a d
 fits_if_tumbler a d t = fits_back a d t
 
 pub ruleset fitting = (tumbler_if_fits, fits_if_tumbler)
+
+pub greater_in_turn : (a b c : List ℕ) → greater (greater a b) c ≡ greater a (greater b c)
+greater_in_turn a b c = greater_assoc a b c
+
+pub ruleset row_reaches = (tumbler_if_fits, fits_if_tumbler, greater_in_turn)

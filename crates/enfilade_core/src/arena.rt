@@ -135,9 +135,7 @@ impl<P: Plane> Arena<P> {
         ensures ok { OnOk result (self.new ≡ self.old ++ shape P.plain children ∷ []) }
         ensures err { OnErr result (self.new ≡ self.old) }
     {
-        let Some(summary) = self.children_summary(&children) else {
-            unreachable!();
-        };
+        let summary = self.children_told(&children);
         let standing = self.children_standing(&children);
         let node = Node(self.count());
         self.nodes.push(Held {

@@ -46,6 +46,7 @@ impl<P: Plane> Arena<P> {
         requires part { IsRightPart P.widths self.now branch.now }
         ensures value { result ≡ comes_before (first_place (branch_rows (rows_table self.now) branch.now)) at.now }
         ensures some { branch_rows (rows_table self.now) branch.now ≢ [] }
+        ensures ordered { InOrder (branch_rows (rows_table self.now) branch.now) }
     {
         let _right = self.allocator();
         if !branch.first.is_before(at) {
@@ -65,19 +66,19 @@ impl<P: Plane> Arena<P> {
         branch.first.add(&summary.last)
     }
 
-    /// Where the rows of a branch stand, beside a gap: by its first and its last row.
+    /// Where the rows of a branch stand, beside a gap: by its origin, its first and its last row.
     pub(crate) fn beside(&self, branch: &Branch, gap: &Gap) -> Beside
         requires part { IsRightPart P.widths self.now branch.now }
         ensures { IsBeside gap.now (branch_rows (rows_table self.now) branch.now) result }
     {
+        if !self.starts_before(branch, &gap.to) {
+            return Beside::Past;
+        }
         let last = self.last_of(branch);
         if last.is_before(&gap.from) {
             return Beside::Before;
         }
         let first = self.first_of(branch);
-        if !first.is_before(&gap.to) {
-            return Beside::Past;
-        }
         if first.is_before(&gap.from) {
             return Beside::Across;
         }

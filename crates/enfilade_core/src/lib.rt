@@ -10,6 +10,7 @@ mod exchange;
 mod found;
 mod gap;
 mod held;
+mod kept;
 pub mod laws;
 mod opening;
 mod packing;

@@ -80,11 +80,38 @@ impl Along {
         }
     }
 
+    /// A row joins these rows.
+    #[tactic(auto, using(crate::proofs::Rooms::row_reaches))]
+    fn join_row(&mut self, place: &Tumbler, width: &Tumbler)
+        requires { IsTumbler (sum place.now width.now) }
+        ensures { self.new ≡ along_joined self.old (along_row place.now width.now) }
+    {
+        let extent = place.add(width);
+        self.reach.raise_by_lead(place);
+        self.reach.raise_by_lead(&extent);
+        if self.extent.is_before(&extent) {
+            self.extent = extent;
+        }
+    }
+
+    /// Others, moved, join these rows.
+    fn join_moved(&mut self, d: &Tumbler, others: &Along)
+        requires fits { Fits d.now others.now.extent }
+        requires room { HasRoom d.now others.now.reach }
+        ensures { self.new ≡ along_joined self.old (along_moved d.now others.now) }
+    {
+        self.reach.raise_by_moved(&others.reach, d);
+        let extent = d.add(&others.extent);
+        if self.extent.is_before(&extent) {
+            self.extent = extent;
+        }
+    }
+
     /// Others join these rows.
     fn join(&mut self, others: &Along)
         ensures { self.new ≡ along_joined self.old others.now }
     {
-        self.reach = self.reach.greater(&others.reach);
+        self.reach.raise(&others.reach);
         if self.extent.is_before(&others.extent) {
             self.extent = others.extent.copy();
         }
@@ -93,7 +120,7 @@ impl Along {
 
 impl Summary {
     ghost use Rattle.enfilade_core.specs.Summary.{no_summary, summary_moved, summary_joined, raised, kept};
-    ghost use Rattle.enfilade_core.specs.Following.{Follows};
+    ghost use Rattle.enfilade_core.specs.Following.{Follows, placed_summary, with_last};
 
     /// Of no rows.
     pub(crate) fn none(alloc: Global) -> Summary
@@ -174,6 +201,45 @@ impl Summary {
         self.last = last;
         self.along_first.join(&along_first);
         self.along_second.join(&along_second);
+    }
+
+    /// A row at these places, with these widths, joins these rows. Where the last row stands is left as it was.
+    pub(crate) fn join_row(
+        &mut self,
+        first: &Tumbler,
+        first_width: &Tumbler,
+        second: &Tumbler,
+        second_width: &Tumbler,
+    )
+        requires first { IsTumbler (sum first.now first_width.now) }
+        requires second { IsTumbler (sum second.now second_width.now) }
+        ensures { self.new ≡ with_last self.old.last (kept (summary_joined self.old (placed_summary first.now first_width.now second.now second_width.now))) }
+    {
+        if self.leaves == 0 {
+            self.first = first.copy();
+        }
+        self.height = 0;
+        self.leaves = self.leaves.saturating_add(1);
+        self.along_first.join_row(first, first_width);
+        self.along_second.join_row(second, second_width);
+    }
+
+    /// What is told of a node joins these rows, moved on both axes. Where the last row stands is left as it was.
+    pub(crate) fn join_moved(&mut self, first: &Tumbler, second: &Tumbler, part: &Summary)
+        requires first { Fits first.now part.now.first }
+        requires first_extent { Fits first.now part.now.along_first.extent }
+        requires first_room { HasRoom first.now part.now.along_first.reach }
+        requires second_extent { Fits second.now part.now.along_second.extent }
+        requires second_room { HasRoom second.now part.now.along_second.reach }
+        ensures { self.new ≡ with_last self.old.last (kept (summary_joined self.old (summary_moved first.now second.now part.now))) }
+    {
+        if self.leaves == 0 {
+            self.first = first.add(&part.first);
+        }
+        self.height = part.height;
+        self.leaves = self.leaves.saturating_add(part.leaves);
+        self.along_first.join_moved(first, &part.along_first);
+        self.along_second.join_moved(second, &part.along_second);
     }
 
     /// The rows of the neighbour behind join these, if that one may stand there.

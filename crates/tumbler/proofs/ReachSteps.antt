@@ -3,9 +3,10 @@ use Rattle.std.proofs.Common.{◌≡◌, ◌≢◌, ℕ, zero, suc, ◌+◌, ◌
 use Rattle.std.proofs.lemmas.List.{drop_more, drop-drop, drop_all, take_more}
 use Rattle.std.proofs.lemmas.Grind.{common_steps}
 use Rattle.std.proofs.lemmas.Bool.{cases_lt}
-use Rattle.tumbler.specs.Places.{place_bound}
+use Rattle.tumbler.specs.Places.{place_bound, sum}
 use Rattle.tumbler.specs.Reach.{lead, greater, HasRoom}
 use Rattle.tumbler.proofs.Reaches.{greater-none}
+use Rattle.tumbler.proofs.SumSteps.{sum_adds}
 
 -- ---- leads
 
@@ -68,5 +69,60 @@ room-step a r k lt = rw (drop_more r k 0 lt) (rw (first_of_rest a k, rest_of_res
 
 pub room-end : (a r : List ℕ) (k : ℕ) → length r ≤ k → HasRoom (drop k a) (drop k r)
 room-end a r k le = rw (drop_all k r le) tt
+
+-- ---- covering: the greater of two is the first of them
+
+pub covers-step : (a b : List ℕ) (k : ℕ) → k < length a → k < length b → get_or b k 0 ≤ get_or a k 0 → greater (drop (k + 1) a) (drop (k + 1) b) ≡ drop (k + 1) a → greater (drop k a) (drop k b) ≡ drop k a
+covers-step a b k in_a in_b le h =
+    rw (drop_more a k 0 in_a, drop_more b k 0 in_b, h) (ap (λ (n : ℕ). n ∷ drop (k + 1) a) (omega arith))
+
+pub covers-end : (a b : List ℕ) (k : ℕ) → length b ≤ k → greater (drop k a) (drop k b) ≡ drop k a
+covers-end a b k le = rw (drop_all k b le) (greater-none (drop k a))
+
+pub covers-lead_zero : (a p : List ℕ) (k : ℕ) → k < length a → k < length p → get_or p k 0 ≡ 0 → greater (drop (k + 1) a) (lead (drop (k + 1) p)) ≡ drop (k + 1) a → greater (drop k a) (lead (drop k p)) ≡ drop k a
+covers-lead_zero a p k in_a in_p e h =
+    rw (drop_more a k 0 in_a, drop_more p k 0 in_p, lead_zero (get_or p k 0) (drop (k + 1) p) e, h) (ap (λ (n : ℕ). n ∷ drop (k + 1) a) (omega arith))
+
+pub covers-lead_found : (a p : List ℕ) (k : ℕ) → k < length a → k < length p → get_or p k 0 ≢ 0 → get_or p k 0 ≤ get_or a k 0 → greater (drop k a) (lead (drop k p)) ≡ drop k a
+covers-lead_found a p k in_a in_p n le =
+    rw (drop_more a k 0 in_a, drop_more p k 0 in_p, lead_one (get_or p k 0) (drop (k + 1) p) n, greater-none (drop (k + 1) a)) (ap (λ (n : ℕ). n ∷ drop (k + 1) a) (omega arith))
+
+pub covers-lead_end : (a p : List ℕ) (k : ℕ) → length p ≤ k → greater (drop k a) (lead (drop k p)) ≡ drop k a
+covers-lead_end a p k le = rw (drop_all k p le) (greater-none (drop k a))
+
+pub ruleset covering = (covers-step, covers-end, covers-lead_zero, covers-lead_found, covers-lead_end)
+
+-- the same of a reach that is moved
+
+pub room-on : (a r : List ℕ) (k : ℕ) → HasRoom (drop k a) (drop k r) → HasRoom (drop (k + 1) a) (drop (k + 1) r)
+room-on a r k h = elim (cases_lt k (length r)) [
+  | inl in_r ↦ ((room-step a r k in_r).0 h).1
+  | inr past_r ↦ room-end a r (k + 1) (omega arith)
+]
+
+pub room-here : (a r : List ℕ) (k : ℕ) → get_or a k 0 < place_bound → HasRoom (drop k a) (drop k r) → get_or r k 0 + get_or a k 0 < place_bound
+room-here a r k small h = elim (cases_lt k (length r)) [
+  | inl in_r ↦ let both = ((room-step a r k in_r).0 h).0 in omega arith
+  | inr past_r ↦ let none = place-past r k past_r in omega arith
+]
+
+pub covers-moved_zero : (a r d : List ℕ) (k : ℕ) → k < length a → k < length d → get_or d k 0 ≡ 0 → get_or r k 0 + get_or d k 0 ≤ get_or a k 0 → greater (drop (k + 1) a) (sum (drop (k + 1) r) (lead (drop (k + 1) d))) ≡ drop (k + 1) a → greater (drop k a) (sum (drop k r) (lead (drop k d))) ≡ drop k a
+covers-moved_zero a r d k in_a in_d e le h =
+    rw (drop_more a k 0 in_a, drop_more d k 0 in_d, lead_zero (get_or d k 0) (drop (k + 1) d) e, first_of_rest r k, rest_of_rest r k, h) (ap (λ (n : ℕ). n ∷ drop (k + 1) a) (omega arith))
+
+pub covers-moved_found : (a r d : List ℕ) (k : ℕ) → k < length a → k < length d → get_or d k 0 ≢ 0 → get_or r k 0 + get_or d k 0 ≤ get_or a k 0 → greater (drop k a) (sum (drop k r) (lead (drop k d))) ≡ drop k a
+covers-moved_found a r d k in_a in_d n le =
+    rw (drop_more a k 0 in_a, drop_more d k 0 in_d, lead_one (get_or d k 0) (drop (k + 1) d) n, sum_adds (drop k r) [] (get_or d k 0) n, first_of_rest r k, greater-none (drop (k + 1) a)) (ap (λ (n : ℕ). n ∷ drop (k + 1) a) (omega arith))
+
+drop-both : (k : ℕ) (a b : List ℕ) → drop k (greater a b) ≡ greater (drop k a) (drop k b)
+drop-both zero a b = refl
+drop-both (suc k) [] b = refl
+drop-both (suc k) (x ∷ a) [] = sym (greater-none (drop k a))
+drop-both (suc k) (x ∷ a) (y ∷ b) = drop-both k a b
+
+pub covers-moved_end : (a r d : List ℕ) (k : ℕ) → length d ≤ k → greater a r ≡ a → greater (drop k a) (sum (drop k r) (lead (drop k d))) ≡ drop k a
+covers-moved_end a r d k le h = rw (drop_all k d le) (sym (drop-both k a r) ∙ ap (drop k) h)
+
+pub ruleset moving = (room-on, room-here, covers-moved_zero, covers-moved_found, covers-moved_end)
 
 pub ruleset reaches = (lead-keeps, lead-found, greater-step, greater-end, room-step, room-end)

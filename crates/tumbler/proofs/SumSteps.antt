@@ -9,7 +9,7 @@ sum_keeps : (a d : List ℕ) (x : ℕ) → x ≡ 0 → sum a (x ∷ d) ≡ get_o
 sum_keeps a d zero e = refl
 sum_keeps a d (suc x) e = absurd (omega arith)
 
-sum_adds : (a d : List ℕ) (x : ℕ) → x ≢ 0 → sum a (x ∷ d) ≡ (get_or a 0 0 + x) ∷ d
+pub sum_adds : (a d : List ℕ) (x : ℕ) → x ≢ 0 → sum a (x ∷ d) ≡ (get_or a 0 0 + x) ∷ d
 sum_adds a d zero e = absurd (e refl)
 sum_adds a d (suc x) e = refl
 

@@ -131,6 +131,59 @@ pub(crate) fn greater_of(alloc: Global, a: &[u32], b: &[u32]) -> Inline
     held
 }
 
+/// Whether no place of `b` is greater than the one of `a` at its index, and there are no more of them. Where it says
+/// no there may still be none that is greater.
+#[tactic(auto, using(crate::proofs::ReachSteps::covering))]
+pub(crate) fn covers(a: &[u32], b: &[u32]) -> bool
+    ensures { IsTrue result → greater a.now b.now ≡ a.now }
+{
+    for (k, x) in b.iter().enumerate() {
+        if k >= a.len() {
+            return false;
+        }
+        if *x > a[k] {
+            return false;
+        }
+    }
+    true
+}
+
+/// The same of the lead of places.
+#[tactic(auto, using(crate::proofs::ReachSteps::covering))]
+pub(crate) fn covers_lead(a: &[u32], places: &[u32]) -> bool
+    ensures { IsTrue result → greater a.now (lead places.now) ≡ a.now }
+{
+    for (k, x) in places.iter().enumerate() {
+        if k >= a.len() {
+            return false;
+        }
+        if *x != 0 {
+            return *x <= a[k];
+        }
+    }
+    true
+}
+
+/// The same of a reach that is moved by `d`, where there is room for it.
+#[tactic(auto, using(crate::proofs::ReachSteps::moving))]
+pub(crate) fn covers_moved(a: &[u32], reach: &[u32], d: &[u32]) -> bool
+    requires { HasRoom d.now reach.now }
+    ensures { IsTrue result → greater a.now (sum reach.now (lead d.now)) ≡ a.now }
+{
+    for (k, x) in d.iter().enumerate() {
+        if k >= a.len() {
+            return false;
+        }
+        if place_at(reach, k) + *x > a[k] {
+            return false;
+        }
+        if *x != 0 {
+            return true;
+        }
+    }
+    covers(a, reach)
+}
+
 /// Whether each place of the reach can be added to the place here.
 #[tactic(auto, using(crate::proofs::ReachSteps::reaches))]
 pub(crate) fn room_for(a: &[u32], reach: &[u32]) -> bool

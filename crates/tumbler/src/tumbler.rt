@@ -8,8 +8,8 @@ ghost use Rattle.tumbler.specs.Address.{IsAccount, IsDocument, IsDocumentOf, IsM
 
 use crate::address;
 use crate::arithmetic::{
-    Inline, difference_of, greater_of, inline, last_at, lead_len, room_for, sum_fits, sum_of,
-    trimmed_len, with_last,
+    Inline, covers, covers_lead, covers_moved, difference_of, greater_of, inline, last_at,
+    lead_len, room_for, sum_fits, sum_of, trimmed_len, with_last,
 };
 use arrayvec::ArrayVec;
 use std::alloc::Global;
@@ -246,6 +246,34 @@ impl Tumbler {
     {
         Tumbler {
             held: greater_of(*self.held.allocator(), self.places(), other.places()),
+        }
+    }
+
+    /// Index by index the greater place of both is here from now on.
+    pub fn raise(&mut self, other: &Tumbler)
+        ensures { self.new ≡ greater self.old other.now }
+    {
+        if !covers(self.places(), other.places()) {
+            *self = self.greater(other);
+        }
+    }
+
+    /// The same, with the places of another up to and with the first one that is not 0.
+    pub fn raise_by_lead(&mut self, place: &Tumbler)
+        ensures { self.new ≡ greater self.old (lead place.now) }
+    {
+        if !covers_lead(self.places(), place.places()) {
+            self.raise(&place.lead());
+        }
+    }
+
+    /// The same, with a reach that is moved by `d`.
+    pub fn raise_by_moved(&mut self, reach: &Tumbler, d: &Tumbler)
+        requires { HasRoom d.now reach.now }
+        ensures { self.new ≡ greater self.old (sum reach.now (lead d.now)) }
+    {
+        if !covers_moved(self.places(), reach.places(), d.places()) {
+            self.raise(&reach.add(&d.lead()));
         }
     }
 

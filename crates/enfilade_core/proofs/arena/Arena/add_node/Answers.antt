@@ -13,10 +13,10 @@ invariant_of-self g c = subst (IsArena g.P.Plane.plain g.P.Plane.widths) (ap (λ
 
 pub invariant_of-self-2 : goal.invariant_of-self-2
 invariant_of-self-2 g c =
-    (arena-add g.P.Plane.plain g.P.Plane.widths c.self.inside.nodes.items c.push.new.self.items c.args.self.now record { children = c.args.children; summary = c.in-Some.summary; standing = c.children_standing-standing.result }
-    c.self.view_is c.in_ok-push.ensures.ok c.self.invariant c.requires c.in-Some.ensures.some.1 c.children_standing-standing.ensures).arena
+    (arena-add g.P.Plane.plain g.P.Plane.widths c.self.inside.nodes.items c.push.new.self.items c.args.self.now record { children = c.args.children; summary = c.children_told-summary.result; standing = c.children_standing-standing.result }
+    c.self.view_is c.in_ok-push.ensures.ok c.self.invariant c.requires c.children_told-summary.ensures c.children_standing-standing.ensures).arena
 
 pub returns-clause-ok : goal.returns-clause-ok
 returns-clause-ok g c =
-    (arena-add g.P.Plane.plain g.P.Plane.widths c.self.inside.nodes.items c.push.new.self.items c.args.self.now record { children = c.args.children; summary = c.in-Some.summary; standing = c.children_standing-standing.result }
-    c.self.view_is c.in_ok-push.ensures.ok c.self.invariant c.requires c.in-Some.ensures.some.1 c.children_standing-standing.ensures).view
+    (arena-add g.P.Plane.plain g.P.Plane.widths c.self.inside.nodes.items c.push.new.self.items c.args.self.now record { children = c.args.children; summary = c.children_told-summary.result; standing = c.children_standing-standing.result }
+    c.self.view_is c.in_ok-push.ensures.ok c.self.invariant c.requires c.children_told-summary.ensures c.children_standing-standing.ensures).view
