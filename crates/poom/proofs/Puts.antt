@@ -129,3 +129,5 @@ pub tail_pieces : (part n border : ℕ) (pieces tail : List Piece) → IsTail pa
 tail_pieces part n border pieces tail h = h.each
 
 pub ruleset puts = (put_between, put_same, head_pieces, tail_pieces)
+
+pub ruleset splits = (held_by, begins, head_none, head_end, head_in, tail_none, tail_end, tail_reaches, tail_in, tail_fits, rest_fits)
