@@ -1,5 +1,5 @@
 //! The part of a row's bytes that lies in a span.
-ghost use Rattle.std.specs.Prelude.{◌≡◌, ◌≢◌, ℕ, ◌+◌, ◌<◌, ◌≤◌, ◌++◌, [], nat_lt, length, take, map, All, OnOk, OnErr};
+ghost use Rattle.std.specs.Prelude.{◌≡◌, ◌≢◌, ℕ, ◌+◌, ◌<◌, ◌≤◌, ◌++◌, [], nat_lt, length, take, map, All, IfSome, OnOk, OnErr};
 ghost use Rattle.tumbler.specs.Places.{place_bound, comes_before};
 ghost use Rattle.tumbler.specs.Span.{SpanFits};
 ghost use Rattle.enfilade_core.specs.Axes.{IsRightRow};
@@ -21,6 +21,20 @@ pub(crate) fn so_far_on(start: &Tumbler, count: usize) -> Tumbler
     start.add(&Tumbler::width(start.allocator(), long, count as u32))
 }
 
+/// The same, where the place differs from the start in the last place at most; otherwise it is not told.
+fn count_beside(start: &Tumbler, count: usize, at: &Tumbler) -> Option<usize>
+    ensures within { IfSome result (λ found. found ≤ count) }
+    ensures each { IfSome result (λ found. (k : ℕ) → k < count → comes_before (so_far_on start.now k) at.now ≡ nat_lt k found) }
+{
+    let (first, front) = start.places().split_last()?;
+    let (wanted, beside) = at.places().split_last()?;
+    if front != beside {
+        return None;
+    }
+    let distance = wanted.saturating_sub(*first) as usize;
+    Some(distance.min(count))
+}
+
 /// How many of so many addresses from a start on come before a place.
 fn count_before(start: &Tumbler, count: usize, at: &Tumbler) -> usize
     requires filled { start.now ≢ [] }
@@ -28,6 +42,9 @@ fn count_before(start: &Tumbler, count: usize, at: &Tumbler) -> usize
     ensures within { result ≤ count }
     ensures each { (k : ℕ) → k < count → comes_before (so_far_on start.now k) at.now ≡ nat_lt k result }
 {
+    if let Some(found) = count_beside(start, count, at) {
+        return found;
+    }
     let mut low = 0;
     let mut high = count;
     while low < high {
