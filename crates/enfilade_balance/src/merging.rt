@@ -51,6 +51,7 @@ fn joined_rows<P: Plane>(
     let mut made = rows;
     match more {
         Children::Bottom(more) => {
+            made.reserve(more.len())?;
             append_rows::<P>(alloc, more.as_slice(), &mut made)?;
             Ok(Children::Bottom(made))
         }
@@ -70,6 +71,7 @@ fn joined_branches<P: Plane>(
     match more {
         Children::Bottom(_) => unreachable!(),
         Children::Inner(more) => {
+            made.reserve(more.len())?;
             append_branches(more.as_slice(), &mut made)?;
             Ok(Children::Inner(made))
         }

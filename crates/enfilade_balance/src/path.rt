@@ -51,6 +51,7 @@ fn with_others(
     let (front, _) = branches.split_at(from);
     let (_, behind) = branches.split_at(to);
     let mut made = List::new(alloc);
+    made.reserve(branches.len().saturating_add(others.len()))?;
     append_branches(front, &mut made)?;
     append_branches(others, &mut made)?;
     append_branches(behind, &mut made)?;

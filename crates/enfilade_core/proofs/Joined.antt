@@ -27,7 +27,7 @@ pub joined-whole : {A : Type 0} (sum_of : A → Summary) (xs : List A) (i k : �
     → place ≡ (sum_of x).last → with_last place s ≡ kept (all_joined sum_of xs)
 joined-whole sum_of xs i k x s place le end at so_far is =
     let whole : all_joined sum_of xs ≡ summary_joined (all_joined sum_of (take k xs)) (sum_of x) =
-        ap (all_joined sum_of) (sym (take_all (k + 1) xs (omega arith)) ∙ take_next xs k x (omega arith) at) ∙ joined-more sum_of (take k xs) x in
+    ap (all_joined sum_of) (sym (take_all (k + 1) xs (omega arith)) ∙ take_next xs k x (omega arith) at) ∙ joined-more sum_of (take k xs) x in
     ap (with_last place) (so_far ∙ ap (λ (items : List _). with_last [] (kept (all_joined sum_of items))) (take_all i xs le))
     ∙ ap (λ (p : List ℕ). with_last p (kept (all_joined sum_of xs))) (is ∙ sym (ap (λ (q : Summary). q.last) whole))
 

@@ -25,5 +25,5 @@ part_moves w stay nodes right part s told p =
     let o1 = get_or (origins_table (first_axis w) nodes) part.node.0 [] in
     let o2 = get_or (origins_table (second_axis w) nodes) part.node.0 [] in
     let m = moves-there w stay nodes right part.node.0 part.first part.second s told p.branch.below
-        (All-head IsTumbler part.first (map (sum part.first) o1) p.first_origins) (All-head IsTumbler part.second (map (sum part.second) o2) p.second_origins) t.first_room t.second_room in
+    (All-head IsTumbler part.first (map (sum part.first) o1) p.first_origins) (All-head IsTumbler part.second (map (sum part.second) o2) p.second_origins) t.first_room t.second_room in
     record { first = m.first; last = m.last; first_extent = m.first_extent; first_room = t.first_room; second_extent = m.second_extent; second_room = t.second_room }

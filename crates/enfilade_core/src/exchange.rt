@@ -116,11 +116,12 @@ pub(crate) fn rows_exchanged<P: Plane>(
     Ok(made)
 }
 
-/// Copies of branches.
-fn branches_copied(alloc: Global, branches: &[Branch]) -> Result<List<Branch>, Memory>
+/// Copies of branches, in a list with room for so many in all.
+fn branches_copied(alloc: Global, branches: &[Branch], room: usize) -> Result<List<Branch>, Memory>
     ensures { IfOk result (λ made. made.items ≡ branches.now) }
 {
     let mut made = List::new(alloc);
+    made.reserve(room)?;
     for branch in branches {
         made.push(branch.copy())?;
     }
@@ -287,7 +288,7 @@ impl<P: Plane> Arena<P> {
         let at = self.chosen(branches, &gap.from);
         let (front, _) = branches.split_at(at);
         let (_, rest) = branches.split_at(at + 1);
-        let mut made = branches_copied(self.allocator(), front)?;
+        let mut made = branches_copied(self.allocator(), front, branches.len())?;
         let branch = self.branch_exchanged(&branches[at], gap, rows, out)?;
         append_branch(branch, &mut made)?;
         self.rest_exchanged(below, rest, gap, &mut made, out)?;

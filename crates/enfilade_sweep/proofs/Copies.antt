@@ -7,19 +7,19 @@ use Rattle.std.proofs.lemmas.Bool.{cases_lt}
 use Rattle.tumbler.specs.Places.{IsTumbler}
 use Rattle.enfilade_core.specs.declared.tree.Branch.{Branch}
 use Rattle.enfilade_core.specs.declared.summary.Summary.{Summary}
-use Rattle.enfilade_core.specs.Rows.{Shape, Rows, Branches, table, node_at, rows_of, rows_in}
+use Rattle.enfilade_core.specs.Rows.{Shape, Rows, Branches, table, node_at, rows_of, rows_in, branches_under}
 use Rattle.enfilade_core.specs.Axes.{Widths, InOrder, IsRightRow, first_axis, second_axis, greatest_end}
 use Rattle.enfilade_core.specs.Right.{IsRight, AreRight, HasRightBranches, IsRightBranch, NamesBelow, origins_in}
 use Rattle.enfilade_core.specs.Summary.{summary_in, no_summary, height_of}
 use Rattle.enfilade_core.proofs.Tables.{IsLocal, Agrees-take, table-said}
 use Rattle.enfilade_core.proofs.Locals.{rows_local, origins_local, summary_local}
 use Rattle.enfilade_core.proofs.Parts.{names_below}
-use Rattle.enfilade_sweep.specs.Sweep.{branches_of, renamed_branch, renamed}
+use Rattle.enfilade_sweep.specs.Sweep.{renamed_branch, renamed}
 use Rattle.enfilade_sweep.specs.Marks.{is_marked, rank, AreCopied, IsClosed, AreRanks}
 use Rattle.enfilade_sweep.proofs.Naming.{IsNatural, SaidThere, rows_natural, origins_natural, summary_natural, renamed_alike}
 use Rattle.enfilade_sweep.proofs.Ranks.{rank_yes, rank_no, rank_less}
 
-pub named_all : {L : Type 0} (n : ℕ) (node : Shape L) → NamesBelow n node → All (λ (branch : Branch). branch.node.0 < n) (branches_of node)
+pub named_all : {L : Type 0} (n : ℕ) (node : Shape L) → NamesBelow n node → All (λ (branch : Branch). branch.node.0 < n) (branches_under node)
 named_all n (Rows rows) h = λ k d lt. absurd (omega (arith, lt))
 named_all n (Branches branches) h = h
 
@@ -27,9 +27,9 @@ named_all n (Branches branches) h = h
 abbrev pub IsBeforeAndMarked : List Bool → ℕ → Branch → Type 0
 IsBeforeAndMarked marks k branch = (branch.node.0 < k) × IsTrue (is_marked marks branch.node.0)
 
-pub under_marked : {L : Type 0} (w : Widths L) (marks : List Bool) (old : List (Shape L)) (k : ℕ) → AreRight w old → IsClosed old marks → k < length old → is_marked marks k ≡ true → All (IsBeforeAndMarked marks k) (branches_of (node_at old k))
+pub under_marked : {L : Type 0} (w : Widths L) (marks : List Bool) (old : List (Shape L)) (k : ℕ) → AreRight w old → IsClosed old marks → k < length old → is_marked marks k ≡ true → All (IsBeforeAndMarked marks k) (branches_under (node_at old k))
 under_marked w marks old k right closed lt here i d within =
-    let branches = branches_of (node_at old k) in
+    let branches = branches_under (node_at old k) in
     let name : Branch → ℕ = λ branch. branch.node.0 in (
       named_all k (node_at old k) (names_below w old k right lt) i d within,
       closed k (get_or branches i d).node.0 here (i, omega (arith, within, length-map branches name), get_or-map name branches i d (get_or branches i d).node.0 within),
@@ -48,7 +48,7 @@ module _ {L : Type 0} (w : Widths L) (marks : List Bool) (old new : List (Shape 
       table-said say d local new (rank marks k) there (names_below w new (rank marks k) right_new there)
       ∙ ap (say (table say new)) (copied.same k lt here)
       ∙ natural.same (rank marks) (table say new) (table say old) (node_at old k)
-      (λ i b within. let c = all i b within in agrees say d local natural most (get_or (branches_of (node_at old k)) i b).node.0 (omega (arith, le, c.0)) (omega (arith, lt, c.0)) c.1)
+      (λ i b within. let c = all i b within in agrees say d local natural most (get_or (branches_under (node_at old k)) i b).node.0 (omega (arith, le, c.0)) (omega (arith, lt, c.0)) c.1)
       ∙ sym (table-said say d local old k (omega (arith, lt, few)) (names_below w old k right_old (omega (arith, lt, few))))
 
   pub agree : {T : Type 0} (say : List T → Shape L → T) (d : T) → IsLocal say d → IsNatural say d → (k : ℕ) → k < n → is_marked marks k ≡ true → get_or (table say new) (rank marks k) d ≡ get_or (table say old) k d
@@ -72,7 +72,7 @@ still_some : (place : ℕ → ℕ) (branches : List Branch) → branches ≢ [] 
 still_some place [] some none = some refl
 still_some place (b ∷ bs) some none = let more = ap length none in absurd (omega (arith, more))
 
-right_branches : {L : Type 0} (w : Widths L) (place : ℕ → ℕ) (before new : List (Shape L)) (node : Shape L) → HasRightBranches w before node → All (IsThere w place before new) (branches_of node) → HasRightBranches w new (renamed place node)
+right_branches : {L : Type 0} (w : Widths L) (place : ℕ → ℕ) (before new : List (Shape L)) (node : Shape L) → HasRightBranches w before node → All (IsThere w place before new) (branches_under node) → HasRightBranches w new (renamed place node)
 right_branches w place before new (Rows rows) right there = tt
 right_branches w place before new (Branches branches) right there = record {
   some = still_some place branches right.some;
@@ -84,20 +84,20 @@ right_branches w place before new (Branches branches) right there = record {
 -- the marked node k, copied behind those before it
 module _ {L : Type 0} (w : Widths L) (marks : List Bool) (old new : List (Shape L)) (k : ℕ) (right_old : AreRight w old) (right_new : AreRight w new) (closed : IsClosed old marks) (copied : AreCopied marks old new k) (lt : k < length old)
     (here : is_marked marks k ≡ true) where
-  all : All (IsBeforeAndMarked marks k) (branches_of (node_at old k))
+  all : All (IsBeforeAndMarked marks k) (branches_under (node_at old k))
   all = under_marked w marks old k right_old closed lt here
 
-  said : {T : Type 0} (say : List T → Shape L → T) (d : T) → IsLocal say d → IsNatural say d → All (SaidThere (rank marks) d (table say new) (table say (take k old))) (branches_of (node_at old k))
+  said : {T : Type 0} (say : List T → Shape L → T) (d : T) → IsLocal say d → IsNatural say d → All (SaidThere (rank marks) d (table say new) (table say (take k old))) (branches_under (node_at old k))
   said say d local natural i b within =
       let c = all i b within in
-      let m = (get_or (branches_of (node_at old k)) i b).node.0 in
+      let m = (get_or (branches_under (node_at old k)) i b).node.0 in
       agree w marks old new k right_old right_new closed copied (omega (arith, lt)) say d local natural m c.0 c.1 ∙ sym (Agrees-take say d old k (omega (arith, lt)) m c.0)
 
-  there : All (IsThere w (rank marks) (take k old) new) (branches_of (node_at old k))
+  there : All (IsThere w (rank marks) (take k old) new) (branches_under (node_at old k))
   there i b within =
       let c = all i b within in
       record {
-        inside = inside w marks old new k right_old right_new closed copied (omega (arith, lt)) (get_or (branches_of (node_at old k)) i b).node.0 c.0 c.1;
+        inside = inside w marks old new k right_old right_new closed copied (omega (arith, lt)) (get_or (branches_under (node_at old k)) i b).node.0 c.0 c.1;
         rows = said rows_in [] rows_local rows_natural i b within;
         height = ap (λ (s : Summary). s.height) (said (summary_in w) no_summary (summary_local w) (summary_natural w) i b within);
       }
@@ -122,17 +122,17 @@ module _ {L : Type 0} (w : Widths L) (marks : List Bool) (old new : List (Shape 
       }
 
   -- the places of what hangs under it, as they stand beside the nodes
-  pub places_there : (ranks : List ℕ) → AreRanks marks ranks → length marks ≡ length old → All (λ (branch : Branch). get_or ranks branch.node.0 0 < length new) (branches_of (node_at old k))
+  pub places_there : (ranks : List ℕ) → AreRanks marks ranks → length marks ≡ length old → All (λ (branch : Branch). get_or ranks branch.node.0 0 < length new) (branches_under (node_at old k))
   places_there ranks exact long i b within =
       let c = all i b within in
-      let m = (get_or (branches_of (node_at old k)) i b).node.0 in
+      let m = (get_or (branches_under (node_at old k)) i b).node.0 in
       let e = exact.1 m (omega (arith, c.0, lt, long)) in
       let t = inside w marks old new k right_old right_new closed copied (omega (arith, lt)) m c.0 c.1 in
       omega (arith, e, t)
 
   pub named_alike : (ranks : List ℕ) → AreRanks marks ranks → length marks ≡ length old → renamed (λ m. get_or ranks m 0) (node_at old k) ≡ renamed (rank marks) (node_at old k)
   named_alike ranks exact long =
-      renamed_alike (λ m. get_or ranks m 0) (rank marks) (node_at old k) (λ i b within. let c = all i b within in exact.1 (get_or (branches_of (node_at old k)) i b).node.0 (omega (arith, c.0, lt, long)))
+      renamed_alike (λ m. get_or ranks m 0) (rank marks) (node_at old k) (λ i b within. let c = all i b within in exact.1 (get_or (branches_under (node_at old k)) i b).node.0 (omega (arith, c.0, lt, long)))
 
   pub copied_next : (node : Shape L) (after : List (Shape L)) → after ≡ new ++ node ∷ [] → node ≡ renamed (rank marks) (node_at old k) → AreCopied marks old after (k + 1)
   copied_next node after is made = subst (λ (ns : List (Shape L)). AreCopied marks old ns (k + 1)) (sym is) (record {

@@ -7,11 +7,11 @@ use Rattle.std.proofs.lemmas.List.Folds.{list_any_none, list_any_at, Any-from_li
 use Rattle.std.proofs.lemmas.List.FromFn.{length-range_with_len, get_or-range_with_len}
 use Rattle.std.proofs.lemmas.Bool.{cases_lt, eqb-true, eq-eqb, or_cases, or_left, or_right, not-true, not_from_true, not_from_false, true_from_ne_false}
 use Rattle.enfilade_core.specs.declared.tree.Branch.{Branch}
-use Rattle.enfilade_core.specs.Rows.{Shape, Rows, Branches, node_at}
+use Rattle.enfilade_core.specs.Rows.{Shape, Rows, Branches, node_at, branches_under}
 use Rattle.enfilade_core.specs.Axes.{Widths}
 use Rattle.enfilade_core.specs.Right.{AreRight}
 use Rattle.enfilade_core.proofs.Parts.{names_below}
-use Rattle.enfilade_sweep.specs.Sweep.{branches_of, under, renamed, renamed_branch, Reached, is_root, hangs, AllReached, is_held, are_held, IsSwept}
+use Rattle.enfilade_sweep.specs.Sweep.{under, renamed, renamed_branch, Reached, is_root, hangs, AllReached, is_held, are_held, IsSwept}
 use Rattle.enfilade_sweep.proofs.Copies.{named_all}
 
 -- ---- numbers in lists
@@ -82,7 +82,7 @@ module _ {L : Type 0} (nodes : List (Shape L)) (roots : List ℕ) where
 
   before : {w : Widths L} → AreRight w nodes → (j k : ℕ) → j < length nodes → Contains (under (node_at nodes j)) k → k < j
   before {w} right j k lt c =
-      All-contains (λ (i : ℕ). i < j) (under (node_at nodes j)) k (All-map (λ (i : ℕ). i < j) (λ (branch : Branch). branch.node.0) (branches_of (node_at nodes j)) (named_all j (node_at nodes j) (names_below w nodes j right lt))) c
+      All-contains (λ (i : ℕ). i < j) (under (node_at nodes j)) k (All-map (λ (i : ℕ). i < j) (λ (branch : Branch). branch.node.0) (branches_under (node_at nodes j)) (named_all j (node_at nodes j) (names_below w nodes j right lt))) c
 
   held_up_to : {w : Widths L} → AreRight w nodes → are_held nodes roots ≡ true → (most k : ℕ) → length nodes ≤ k + most → k < length nodes → Reached nodes roots k
   held_up_to right held zero k le lt = absurd (omega (arith, le, lt))

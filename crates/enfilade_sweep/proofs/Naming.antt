@@ -8,20 +8,20 @@ use Rattle.tumbler.specs.Places.{sum}
 use Rattle.enfilade_core.specs.declared.tree.Row.{Row}
 use Rattle.enfilade_core.specs.declared.tree.Branch.{Branch}
 use Rattle.enfilade_core.specs.declared.summary.Summary.{Summary}
-use Rattle.enfilade_core.specs.Rows.{Shape, Rows, Branches, moved, branch_rows, rows_in}
+use Rattle.enfilade_core.specs.Rows.{Shape, Rows, Branches, moved, branch_rows, rows_in, branches_under}
 use Rattle.enfilade_core.specs.Axes.{Widths, Axis}
 use Rattle.enfilade_core.specs.Right.{branch_origins, origins_in}
 use Rattle.enfilade_core.specs.declared.standing.Standing.{Standing}
 use Rattle.enfilade_core.specs.Standing.{no_standing, standings_below, standing_in, node_debt, split_above, most_children, lone_child_debt, has_merge, root_debt, has_lone_child}
 use Rattle.enfilade_core.specs.Summary.{summary_in, branch_summary, summary_moved, summary_joined, no_summary, raised}
-use Rattle.enfilade_sweep.specs.Sweep.{branches_of, renamed_branch, renamed}
+use Rattle.enfilade_sweep.specs.Sweep.{renamed_branch, renamed}
 
 -- what was said of each branch's node is said of the one at its place
 abbrev pub SaidThere : {T : Type 0} → (ℕ → ℕ) → T → (there here : List T) → Branch → Type 0
 SaidThere place d there here branch = get_or there (place branch.node.0) d ≡ get_or here branch.node.0 d
 
 pub record IsNatural {L T : Type 0} (say : List T → Shape L → T) (d : T) : Type 0 where
-  pub same : (place : ℕ → ℕ) (there here : List T) (node : Shape L) → All (SaidThere place d there here) (branches_of node) → say there (renamed place node) ≡ say here node
+  pub same : (place : ℕ → ℕ) (there here : List T) (node : Shape L) → All (SaidThere place d there here) (branches_under node) → say there (renamed place node) ≡ say here node
 
 flat_map-renamed : {B : Type 0} (f g : Branch → List B) (place : ℕ → ℕ) (P : Branch → Type 0) → ((branch : Branch) → P branch → f (renamed_branch place branch) ≡ g branch) → (branches : List Branch) → All P branches
     → flat_map f (map (renamed_branch place) branches) ≡ flat_map g branches
@@ -40,7 +40,7 @@ map-renamed f g place P same (branch ∷ branches) h =
 pub rows_natural : {L : Type 0} → IsNatural (rows_in {L = L}) []
 rows_natural = record { same = by }
   where
-    by : {L : Type 0} (place : ℕ → ℕ) (there here : List (List (Row L))) (node : Shape L) → All (SaidThere place [] there here) (branches_of node) → rows_in there (renamed place node) ≡ rows_in here node
+    by : {L : Type 0} (place : ℕ → ℕ) (there here : List (List (Row L))) (node : Shape L) → All (SaidThere place [] there here) (branches_under node) → rows_in there (renamed place node) ≡ rows_in here node
     by place there here (Rows rows) h = refl
     by place there here (Branches branches) h =
         flat_map-renamed (branch_rows there) (branch_rows here) place (SaidThere place [] there here) (λ branch said. ap (λ (rows : List (Row _)). map (moved branch.first branch.second) rows) said) branches h
@@ -52,7 +52,7 @@ OriginStays axis = (place : ℕ → ℕ) (branch : Branch) → axis.origin (rena
 pub origins_natural : {L : Type 0} (axis : Axis L) → OriginStays axis → IsNatural (origins_in axis) []
 origins_natural axis stays = record { same = by axis stays }
   where
-    by : {L : Type 0} (axis : Axis L) → OriginStays axis → (place : ℕ → ℕ) (there here : List (List (List ℕ))) (node : Shape L) → All (SaidThere place [] there here) (branches_of node) → origins_in axis there (renamed place node) ≡ origins_in axis here node
+    by : {L : Type 0} (axis : Axis L) → OriginStays axis → (place : ℕ → ℕ) (there here : List (List (List ℕ))) (node : Shape L) → All (SaidThere place [] there here) (branches_under node) → origins_in axis there (renamed place node) ≡ origins_in axis here node
     by axis stays place there here (Rows rows) h = refl
     by axis stays place there here (Branches branches) h =
         flat_map-renamed (branch_origins axis there) (branch_origins axis here) place (SaidThere place [] there here)
@@ -61,7 +61,7 @@ origins_natural axis stays = record { same = by axis stays }
 pub summary_natural : {L : Type 0} (w : Widths L) → IsNatural (summary_in w) no_summary
 summary_natural w = record { same = by w }
   where
-    by : {L : Type 0} (w : Widths L) (place : ℕ → ℕ) (there here : List Summary) (node : Shape L) → All (SaidThere place no_summary there here) (branches_of node) → summary_in w there (renamed place node) ≡ summary_in w here node
+    by : {L : Type 0} (w : Widths L) (place : ℕ → ℕ) (there here : List Summary) (node : Shape L) → All (SaidThere place no_summary there here) (branches_under node) → summary_in w there (renamed place node) ≡ summary_in w here node
     by w place there here (Rows rows) h = refl
     by w place there here (Branches branches) h =
         ap (λ (ss : List Summary). raised (fold summary_joined no_summary ss))
@@ -86,13 +86,13 @@ debt_over children below = (children - most_children) + (if children == 1 then l
 pub standing_natural : {L : Type 0} → IsNatural (standing_in {L = L}) no_standing
 standing_natural = record { same = by }
   where
-    by : {L : Type 0} (place : ℕ → ℕ) (there here : List Standing) (node : Shape L) → All (SaidThere place no_standing there here) (branches_of node) → standing_in there (renamed place node) ≡ standing_in here node
+    by : {L : Type 0} (place : ℕ → ℕ) (there here : List Standing) (node : Shape L) → All (SaidThere place no_standing there here) (branches_under node) → standing_in there (renamed place node) ≡ standing_in here node
     by place there here (Rows rows) h = refl
     by place there here (Branches branches) h =
         ap (λ (n : ℕ). standing_over n (standings_below there (map (renamed_branch place) branches))) (length-map branches (renamed_branch place))
         ∙ ap (standing_over (length branches)) (below_natural place there here branches h)
 
-pub debt_natural : {L : Type 0} (place : ℕ → ℕ) (there here : List Standing) (node : Shape L) → All (SaidThere place no_standing there here) (branches_of node) → root_debt there (renamed place node) ≡ root_debt here node
+pub debt_natural : {L : Type 0} (place : ℕ → ℕ) (there here : List Standing) (node : Shape L) → All (SaidThere place no_standing there here) (branches_under node) → root_debt there (renamed place node) ≡ root_debt here node
 debt_natural place there here (Rows rows) h = refl
 debt_natural place there here (Branches branches) h =
     ap (λ (n : ℕ). debt_over n (standings_below there (map (renamed_branch place) branches))) (length-map branches (renamed_branch place))
@@ -103,7 +103,7 @@ lone_natural place (Rows rows) = refl
 lone_natural place (Branches branches) = ap (λ (n : ℕ). n == 1) (length-map branches (renamed_branch place))
 
 -- other numbers that agree on the branches of a node
-pub renamed_alike : {L : Type 0} (f g : ℕ → ℕ) (node : Shape L) → All (λ (branch : Branch). f branch.node.0 ≡ g branch.node.0) (branches_of node) → renamed f node ≡ renamed g node
+pub renamed_alike : {L : Type 0} (f g : ℕ → ℕ) (node : Shape L) → All (λ (branch : Branch). f branch.node.0 ≡ g branch.node.0) (branches_under node) → renamed f node ≡ renamed g node
 renamed_alike f g (Rows rows) h = refl
 renamed_alike f g (Branches branches) h = ap Branches (by branches h)
   where

@@ -6,8 +6,8 @@ use Rattle.std.proofs.lemmas.List.{get_or_past, length-replicate}
 use Rattle.std.proofs.lemmas.List.Elements.{All-contains, All-map}
 use Rattle.std.proofs.lemmas.Bool.{cases_lt}
 use Rattle.enfilade_core.specs.declared.tree.Branch.{Branch}
-use Rattle.enfilade_core.specs.Rows.{Shape, node_at}
-use Rattle.enfilade_sweep.specs.Sweep.{is_root, hangs, branches_of, under}
+use Rattle.enfilade_core.specs.Rows.{Shape, node_at, branches_under}
+use Rattle.enfilade_sweep.specs.Sweep.{is_root, hangs, under}
 use Rattle.enfilade_sweep.specs.Marks.{is_marked, MarksMore, AreMarked}
 
 none_marked : (n k : ℕ) → is_marked (replicate n false) k ≡ false
@@ -39,10 +39,10 @@ marked_first nodes roots none marks n is all same more = record {
     long : length none ≡ n
     long = ap length is ∙ length-replicate n false
 
-module _ {L : Type 0} (nodes : List (Shape L)) (roots : List ℕ) (marks new : List Bool) (n k : ℕ) (next : n ≡ k + 1) (old : AreMarked nodes roots marks n) (below : All (λ (branch : Branch). branch.node.0 < k) (branches_of (node_at nodes k)))
+module _ {L : Type 0} (nodes : List (Shape L)) (roots : List ℕ) (marks new : List Bool) (n k : ℕ) (next : n ≡ k + 1) (old : AreMarked nodes roots marks n) (below : All (λ (branch : Branch). branch.node.0 < k) (branches_under (node_at nodes k)))
     (long : length new ≡ length nodes) where
   before : (m : ℕ) → Contains (under (node_at nodes k)) m → m < k
-  before m c = All-contains (λ (i : ℕ). i < k) (under (node_at nodes k)) m (All-map (λ (i : ℕ). i < k) (λ (branch : Branch). branch.node.0) (branches_of (node_at nodes k)) below) c
+  before m c = All-contains (λ (i : ℕ). i < k) (under (node_at nodes k)) m (All-map (λ (i : ℕ). i < k) (λ (branch : Branch). branch.node.0) (branches_under (node_at nodes k)) below) c
 
   -- the node k is marked, and what hangs under it comes in
   pub marked_under : is_marked marks k ≡ true → MarksMore (under (node_at nodes k)) marks new → AreMarked nodes roots new k

@@ -7,13 +7,13 @@ use Rattle.std.proofs.lemmas.List.Elements.{All-head, All-tail, Contains-get_or}
 use Rattle.enfilade_core.specs.declared.tree.Node.{Node}
 use Rattle.enfilade_core.specs.declared.standing.Standing.{Standing}
 use Rattle.enfilade_core.specs.declared.summary.Summary.{Summary}
-use Rattle.enfilade_core.specs.Rows.{Shape, node_at, rows_of, rows_in}
+use Rattle.enfilade_core.specs.Rows.{Shape, node_at, rows_of, rows_in, branches_under}
 use Rattle.enfilade_core.specs.Axes.{Widths}
 use Rattle.enfilade_core.specs.Right.{AreRight}
 use Rattle.enfilade_core.specs.Summary.{summary_in, no_summary, depth_of}
 use Rattle.enfilade_core.specs.Standing.{no_standing, standings, standing_in, standing_of, root_debt, has_lone_child, tree_debt, tree_allows}
 use Rattle.enfilade_core.proofs.Locals.{rows_local, summary_local, standing_local}
-use Rattle.enfilade_sweep.specs.Sweep.{Reached, is_root, hangs, branches_of, numbers, IsSwept}
+use Rattle.enfilade_sweep.specs.Sweep.{Reached, is_root, hangs, numbers, IsSwept}
 use Rattle.enfilade_sweep.specs.Marks.{is_marked, rank, AreMarked, AreCopied, IsClosed, AreRanks}
 use Rattle.enfilade_sweep.proofs.Naming.{SaidThere, rows_natural, summary_natural, standing_natural, debt_natural, lone_natural}
 use Rattle.enfilade_sweep.proofs.Ranks.{marked_within, rank_once, rank_only}
@@ -77,10 +77,10 @@ module _ {L : Type 0} (w : Widths L) (old new : List (Shape L)) (roots : List �
       ap (map f) (is ∙ placed) ∙ map-map (rank marks) f roots
       ∙ map-alike (λ k. f (rank marks k)) g roots (λ i d lt. let here = roots_marked i d lt in same (get_or roots i d) (within (get_or roots i d) here) here)
 
-  stood_there : (k : ℕ) → k < length old → is_marked marks k ≡ true → All (SaidThere (rank marks) no_standing (standings new) (standings old)) (branches_of (node_at old k))
+  stood_there : (k : ℕ) → k < length old → is_marked marks k ≡ true → All (SaidThere (rank marks) no_standing (standings new) (standings old)) (branches_under (node_at old k))
   stood_there k lt here i b inside_it =
       let c = under_marked w marks old k right_old closed lt here i b inside_it in
-      let m = (get_or (branches_of (node_at old k)) i b).node.0 in
+      let m = (get_or (branches_under (node_at old k)) i b).node.0 in
       agree w marks old new (length old) right_old right_new closed copied (omega arith) standing_in no_standing standing_local standing_natural m (omega (arith, c.0, lt)) c.1
 
   pub same_debts : (new_roots : List ℕ) → new_roots ≡ map (λ k. get_or ranks k 0) roots → map (tree_debt new) new_roots ≡ map (tree_debt old) roots

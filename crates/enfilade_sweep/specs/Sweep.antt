@@ -1,21 +1,17 @@
 -- What a sweep of an arena leaves: the nodes that are reached from its roots, each once.
-use Rattle.std.specs.Prelude.{◌≡◌, ℕ, ◌<◌, ◌==◌, ◌||◌, not, Bool, List, [], length, map}
+use Rattle.std.specs.Prelude.{◌≡◌, ℕ, ◌<◌, ◌==◌, ◌||◌, not, Bool, List, length, map}
 use Rattle.std.specs.List.{Contains, list_any, range_with_len}
 use Rattle.enfilade_core.specs.declared.tree.Node.{Node}
 use Rattle.enfilade_core.specs.declared.tree.Branch.{Branch}
-use Rattle.enfilade_core.specs.Rows.{Shape, Rows, Branches, node_at}
+use Rattle.enfilade_core.specs.Rows.{Shape, Rows, Branches, node_at, branches_under}
 
 -- the nodes' numbers
 abbrev pub numbers : List Node → List ℕ
 numbers nodes = map (λ (node : Node). node.0) nodes
 
--- the branches under a node, of which rows have none, and the numbers of the nodes that hang there
-abbrev pub branches_of : {L : Type 0} → Shape L → List Branch
-branches_of (Rows rows) = []
-branches_of (Branches branches) = branches
-
+-- the numbers of the nodes that hang under a node
 abbrev pub under : {L : Type 0} → Shape L → List ℕ
-under node = map (λ (branch : Branch). branch.node.0) (branches_of node)
+under node = map (λ (branch : Branch). branch.node.0) (branches_under node)
 
 -- a node is reached where it is a root, or hangs under one that is reached
 pub data Reached {L : Type 0} (nodes : List (Shape L)) (roots : List ℕ) : ℕ → Type 0 where

@@ -1,8 +1,8 @@
 //! Nodes are copied, with the numbers that they have in the new arena.
 ghost use Rattle.std.specs.Prelude.{◌≡◌, ◌+◌, ◌<◌, [], ◌∷◌, ◌++◌, length, map, get_or, All, IfOk, OnOk, IsTrue};
-ghost use Rattle.enfilade_core.specs.Rows.{node_at};
+ghost use Rattle.enfilade_core.specs.Rows.{node_at, branches_under};
 ghost use Rattle.enfilade_core.specs.Right.{IsRight};
-ghost use Rattle.enfilade_sweep.specs.Sweep.{numbers, branches_of, renamed_branch, renamed};
+ghost use Rattle.enfilade_sweep.specs.Sweep.{numbers, renamed_branch, renamed};
 ghost use Rattle.enfilade_sweep.specs.Marks.{AreRanks, IsClosed, AreCopied};
 
 use enfilade_core::laws::nodes_are_right;
@@ -50,8 +50,8 @@ fn add_renamed<P: Plane>(
     new: &mut Arena<P>,
 ) -> Result<(), Memory>
     requires below { node.0 < length old.now }
-    requires known { All (λ branch. branch.node.0 < length ranks.now) (branches_of (node_at old.now node.0)) }
-    requires there { All (λ branch. get_or ranks.now branch.node.0 0 < length new.old) (branches_of (node_at old.now node.0)) }
+    requires known { All (λ branch. branch.node.0 < length ranks.now) (branches_under (node_at old.now node.0)) }
+    requires there { All (λ branch. get_or ranks.now branch.node.0 0 < length new.old) (branches_under (node_at old.now node.0)) }
     requires right { IsRight P.widths new.old (renamed (λ k. get_or ranks.now k 0) (node_at old.now node.0)) }
     ensures { OnOk result (new.new ≡ new.old ++ renamed (λ k. get_or ranks.now k 0) (node_at old.now node.0) ∷ []) }
 {

@@ -1,8 +1,8 @@
 //! Which nodes are reached from the roots.
 ghost use Rattle.std.specs.Prelude.{◌≡◌, ◌↔◌, ℕ, ◌+◌, ◌^◌, ◌<◌, [], ◌∷◌, length, map, get_or, All, IfOk, IsTrue, true, false};
-ghost use Rattle.enfilade_core.specs.Rows.{node_at};
+ghost use Rattle.enfilade_core.specs.Rows.{node_at, branches_under};
 ghost use Rattle.enfilade_core.specs.Plain.{shape};
-ghost use Rattle.enfilade_sweep.specs.Sweep.{numbers, branches_of, under, Reached};
+ghost use Rattle.enfilade_sweep.specs.Sweep.{numbers, under, Reached};
 ghost use Rattle.enfilade_sweep.specs.Marks.{is_marked, MarksMore, AreMarked, AreRanks};
 
 use enfilade_core::laws::nodes_are_right;
@@ -40,7 +40,7 @@ fn mark_branches<P: Plane>(branches: &[Branch], marks: &mut Vec<bool>)
 
 /// Marks what hangs under a node.
 fn mark_under<P: Plane>(children: &Children<P::Leaf>, marks: &mut Vec<bool>)
-    requires { All (λ branch. branch.node.0 < length marks.old.items) (branches_of (shape P.plain children.now)) }
+    requires { All (λ branch. branch.node.0 < length marks.old.items) (branches_under (shape P.plain children.now)) }
     ensures long { length marks.new.items ≡ length marks.old.items }
     ensures marked { MarksMore (under (shape P.plain children.now)) marks.old.items marks.new.items }
 {
@@ -57,7 +57,7 @@ fn mark_from<P: Plane>(old: &Arena<P>, number: u64, marks: &mut Vec<bool>)
     ensures long { length marks.new.items ≡ length old.now }
     ensures marked { is_marked marks.old.items number ≡ true → MarksMore (under (node_at old.now number)) marks.old.items marks.new.items }
     ensures unmarked { is_marked marks.old.items number ≡ false → marks.new.items ≡ marks.old.items }
-    ensures below { All (λ branch. branch.node.0 < number) (branches_of (node_at old.now number)) }
+    ensures below { All (λ branch. branch.node.0 < number) (branches_under (node_at old.now number)) }
 {
     nodes_are_right(old);
     if !marks[number as usize] {

@@ -1,15 +1,15 @@
 use Rattle.std.proofs.Common.{◌∙◌, ◌<◌, ℕ, length, get_or, ap, sym, subst}
 use Rattle.std.specs.Prelude.{All}
 use Rattle.enfilade_core.specs.declared.tree.Branch.{Branch}
-use Rattle.enfilade_core.specs.Rows.{Shape, node_at}
+use Rattle.enfilade_core.specs.Rows.{Shape, node_at, branches_under}
 use Rattle.enfilade_core.specs.Right.{IsRight}
-use Rattle.enfilade_sweep.specs.Sweep.{branches_of, renamed}
+use Rattle.enfilade_sweep.specs.Sweep.{renamed}
 use Rattle.enfilade_sweep.proofs.Copies.{places_there, right_there, named_alike, copied_next}
 use Rattle.enfilade_sweep.proofs.copying.copy_node.Goals as goal
 
 pub add_renamed-requires-clause-there : goal.add_renamed-requires-clause-there
 add_renamed-requires-clause-there g c =
-    subst (λ (node : Shape _). All (λ (branch : Branch). get_or c.args.ranks.now branch.node.0 0 < length c.args.new.now) (branches_of node)) (sym (ap (node_at c.args.old.now) c.in-Some.ensures.found.0))
+    subst (λ (node : Shape _). All (λ (branch : Branch). get_or c.args.ranks.now branch.node.0 0 < length c.args.new.now) (branches_under node)) (sym (ap (node_at c.args.old.now) c.in-Some.ensures.found.0))
     (places_there g.P.Plane.widths c.args.marks.now c.args.old.now c.args.new.now c.args.number c.nodes_are_right.ensures c.nodes_are_right-2.ensures c.requires.closed c.requires.copied c.requires.there c.if-not-marks-number.false
     c.args.ranks.now c.requires.ranks c.requires.long)
 
