@@ -1,10 +1,10 @@
 -- The pieces between two positions, from the rows that overlap what is between.
 use Rattle.std.proofs.Common.{◌≡◌, ◌≢◌, ℕ, zero, suc, ◌+◌, ◌-◌, ◌^◌, ◌<◌, ◌≤◌, ◌&&◌, Bool, true, false, List, [], ◌∷◌, ◌++◌, length, take, drop, map, min, get_or, eqb, refl, arith, ap, sym, subst, ◌∙◌, inl, inr, append-nil}
 use Rattle.std.specs.Prelude.{◌⊎◌, if◌then◌else◌}
-use Rattle.std.specs.List.{All, filter, flat_map}
-use Rattle.std.proofs.lemmas.Bool.{and_from, and_left, and_right, both_ways, true≢false}
+use Rattle.std.specs.List.{All, filter}
+use Rattle.std.proofs.lemmas.Bool.{and_from, and_left, and_right, both_ways}
 use Rattle.std.proofs.lemmas.Bool.Decides.{nat_tests}
-use Rattle.std.proofs.lemmas.List.{take_more, take_all, length-append}
+use Rattle.std.proofs.lemmas.List.{take_more, take_all}
 use Rattle.std.proofs.lemmas.List.Elements.{All-nil, All-cons, All-head, All-tail, All-append, All-get_or, filter-append}
 use Rattle.std.proofs.lemmas.Grind.{flat_map-append}
 use Rattle.tumbler.specs.Places.{place, comes_before, sum, width_at, Fits}
@@ -17,12 +17,12 @@ use Rattle.enfilade_core.specs.Rows.{Shape, rows_of}
 use Rattle.enfilade_core.specs.Axes.{first_axis, later}
 use Rattle.enfilade_core.specs.Plain.{plain_row}
 use Rattle.enfilade_core.specs.Planes.{text_widths}
-use Rattle.enfilade_search.specs.Meeting.{touches, meets}
+use Rattle.enfilade_search.specs.Meeting.{meets}
 use Rattle.enfilade_search.proofs.Touching.{touches-some}
 use Rattle.poom.specs.declared.piece.Piece.{Piece}
 use Rattle.poom.specs.declared.part.Part.{Part}
 use Rattle.poom.specs.declared.part.Part.TheVariants.{Text, Links}
-use Rattle.poom.specs.Pieces.{IsPiece, address_in, addresses_from, piece_addresses, laid, total, piece_row, row_piece, rows_from, pieces_in}
+use Rattle.poom.specs.Pieces.{IsPiece, addresses_from, piece_addresses, laid, total, piece_row, row_piece, rows_from, pieces_in}
 use Rattle.poom.specs.Laid.{part_number, standing_in, IsOneDocument, IsRoot}
 use Rattle.poom.specs.Cuts.{AreApart}
 use Rattle.poom.specs.Positions.{StandsBetween, clip, laid_between}
@@ -30,7 +30,7 @@ use Rattle.poom.proofs.Places.{if_true, if_false, before_there, past_there}
 use Rattle.poom.proofs.RowsFrom.{each_row, keeps_none}
 use Rattle.poom.proofs.RightRows.{sum-place}
 use Rattle.poom.proofs.Back.{same_piece, length-addresses, text_pieces, link_pieces}
-use Rattle.poom.proofs.Documents.{IsMadeOf, made_of}
+use Rattle.poom.proofs.Documents.{made_of}
 use Rattle.poom.proofs.Looks.{fits_in}
 use Rattle.poom.proofs.Cutting.{take-addresses, drop-addresses}
 use Rattle.poom.proofs.Showing.{plain_rows}

@@ -1,5 +1,5 @@
 -- Which positions of a row show addresses of a span.
-use Rattle.std.proofs.Common.{◌≡◌, ◌≢◌, ℕ, zero, suc, ◌+◌, ◌-◌, ◌^◌, ◌<◌, ◌≤◌, ◌==◌, ◌&&◌, not, true, false, List, [], ◌∷◌, ◌++◌, length, take, refl, arith, ap, sym, subst, ◌∙◌, inl, inr, append_assoc}
+use Rattle.std.proofs.Common.{◌≡◌, ◌≢◌, ℕ, zero, suc, ◌+◌, ◌-◌, ◌^◌, ◌<◌, ◌≤◌, ◌==◌, not, true, false, List, [], ◌∷◌, ◌++◌, length, take, refl, arith, ap, sym, subst, ◌∙◌, inl, inr, append_assoc}
 use Rattle.std.specs.Prelude.{◌⊎◌, nat_lt}
 use Rattle.std.proofs.lemmas.Bool.{and_from, and_left, and_right, not_from_true, not_from_false}
 use Rattle.std.proofs.lemmas.Bool.Decides.{nat_tests}
@@ -10,7 +10,7 @@ use Rattle.tumbler.specs.declared.span.Span.{Span}
 use Rattle.enfilade_core.specs.declared.tree.Row.{Row}
 use Rattle.poom.specs.declared.piece.Piece.{Piece}
 use Rattle.poom.specs.declared.shown.Interval.{Interval}
-use Rattle.poom.specs.Pieces.{IsPiece, address_in, addresses_from, piece_addresses, piece_row, row_piece, stands_in}
+use Rattle.poom.specs.Pieces.{address_in, addresses_from, piece_addresses, piece_row, row_piece}
 use Rattle.poom.specs.Picked.{is_picked}
 use Rattle.poom.specs.Runs.{number_of}
 use Rattle.poom.specs.Shown.{positions_in}

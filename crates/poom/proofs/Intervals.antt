@@ -1,5 +1,5 @@
 -- Intervals that are put together one after another.
-use Rattle.std.proofs.Common.{◌≡◌, ◌≢◌, ℕ, zero, suc, ◌+◌, ◌-◌, ◌^◌, ◌<◌, ◌≤◌, ◌==◌, true, false, List, [], ◌∷◌, ◌++◌, length, take, map, get_or, refl, arith, ap, sym, subst, ◌∙◌, append_assoc, append-nil}
+use Rattle.std.proofs.Common.{◌≡◌, ◌≢◌, ℕ, zero, suc, ◌+◌, ◌-◌, ◌^◌, ◌<◌, ◌≤◌, true, false, List, [], ◌∷◌, ◌++◌, length, take, map, get_or, refl, arith, ap, sym, subst, ◌∙◌, append_assoc, append-nil}
 use Rattle.std.specs.List.{All}
 use Rattle.std.proofs.lemmas.Bool.Decides.{nat_tests}
 use Rattle.std.proofs.lemmas.List.{take_more, take_all}
@@ -9,7 +9,7 @@ use Rattle.tumbler.specs.Places.{width_at}
 use Rattle.tumbler.specs.declared.span.Span.{Span}
 use Rattle.enfilade_core.specs.declared.tree.Row.{Row}
 use Rattle.poom.specs.declared.shown.Interval.{Interval}
-use Rattle.poom.specs.Runs.{Stretch, stretches, is_next, interval, intervals}
+use Rattle.poom.specs.Runs.{is_next, interval, intervals}
 use Rattle.poom.specs.Positions.{positions_from, positions_of, IsInterval, shown_by, shown_by_all, IsPieceRow, StandFor}
 use Rattle.poom.proofs.Stretched.{IsChain, IsBreak, one_stretch}
 

@@ -1,5 +1,5 @@
 -- Pieces of which none goes on where the one in front of it ends are the maximal stretches of their addresses.
-use Rattle.std.proofs.Common.{◌≡◌, ◌≢◌, ℕ, zero, suc, ◌+◌, ◌-◌, ◌<◌, ◌≤◌, ◌==◌, ◌&&◌, Bool, true, false, List, [], ◌∷◌, ◌++◌, length, map, refl, arith, ap, sym, subst, ◌∙◌}
+use Rattle.std.proofs.Common.{◌≡◌, ℕ, zero, suc, ◌+◌, ◌-◌, ◌≤◌, ◌==◌, ◌&&◌, true, false, List, [], ◌∷◌, ◌++◌, map, refl, arith, ap, sym, subst, ◌∙◌}
 use Rattle.std.specs.Prelude.{nat_eq}
 use Rattle.std.specs.List.{All}
 use Rattle.std.specs.Cmp.Lexicographic.{pointwise, bytes_decides}
@@ -8,8 +8,8 @@ use Rattle.std.proofs.lemmas.Bool.Decides.{nat_tests}
 use Rattle.std.proofs.lemmas.List.Elements.{All-head, All-tail}
 use Rattle.febe_data.specs.declared.run.Run.{Run}
 use Rattle.poom.specs.declared.piece.Piece.{Piece}
-use Rattle.poom.specs.Pieces.{IsPiece, address_in, addresses_from, piece_addresses, laid}
-use Rattle.poom.specs.Cuts.{Continues, AreApart}
+use Rattle.poom.specs.Pieces.{IsPiece, address_in, addresses_from, laid}
+use Rattle.poom.specs.Cuts.{AreApart}
 use Rattle.poom.specs.Edited.{piece_run}
 use Rattle.poom.specs.Runs.{Stretch, stretches, content_of, number_of, is_next_byte, run_of, as_runs}
 use Rattle.poom.proofs.Back.{same_piece, length-addresses}

@@ -1,9 +1,9 @@
 -- The rows that meet a span show what the document shows of it.
-use Rattle.std.proofs.Common.{◌≡◌, ◌≢◌, ℕ, zero, suc, ◌+◌, ◌-◌, ◌^◌, ◌<◌, ◌≤◌, ◌&&◌, not, Bool, true, false, List, [], ◌∷◌, ◌++◌, length, map, refl, arith, ap, sym, subst, ◌∙◌, inl, inr, append-nil}
+use Rattle.std.proofs.Common.{◌≡◌, ◌≢◌, ℕ, zero, suc, ◌+◌, ◌^◌, ◌<◌, ◌≤◌, not, Bool, true, false, List, [], ◌∷◌, ◌++◌, length, map, refl, arith, ap, sym, subst, ◌∙◌, inl, inr, append-nil}
 use Rattle.std.specs.Prelude.{◌⊎◌, if◌then◌else◌}
 use Rattle.std.specs.List.{All, filter, flat_map}
 use Rattle.std.proofs.lemmas.Bool.{and_parts, not-true, both_ways, false_from_ne_true}
-use Rattle.std.proofs.lemmas.List.Elements.{All-nil, All-cons, All-head, All-tail, All-append, All-filter, All-weaker}
+use Rattle.std.proofs.lemmas.List.Elements.{All-head, All-tail, All-append, All-filter, All-weaker}
 use Rattle.std.proofs.lemmas.Grind.{flat_map-append}
 use Rattle.tumbler.specs.Places.{IsTumbler, IsBefore, IsUpTo, place, comes_before, sum, width_at}
 use Rattle.tumbler.specs.Span.{Share, end_of}
@@ -22,7 +22,7 @@ use Rattle.poom.specs.declared.part.Part.{Part}
 use Rattle.poom.specs.declared.part.Part.TheVariants.{Text, Links}
 use Rattle.poom.specs.declared.piece.Piece.{Piece}
 use Rattle.poom.specs.Pieces.{IsPiece, address_in, addresses_from, piece_addresses, laid, total, piece_row, rows_from, pieces_in}
-use Rattle.poom.specs.Laid.{part_number, standing_in, texts, links, most_in, IsOneDocument, IsRoot}
+use Rattle.poom.specs.Laid.{part_number, standing_in, texts, IsOneDocument, IsRoot}
 use Rattle.poom.specs.Picked.{is_picked}
 use Rattle.poom.specs.Runs.{intervals}
 use Rattle.poom.specs.Shown.{positions_in, intervals_in}
@@ -31,7 +31,7 @@ use Rattle.poom.proofs.Places.{if_true, if_false}
 use Rattle.poom.proofs.RowsFrom.{each_row}
 use Rattle.poom.proofs.RightRows.{address-is_tumbler, sum-address, short_document, right_row}
 use Rattle.poom.proofs.Back.{length-addresses}
-use Rattle.poom.proofs.Documents.{IsMadeOf, made_of}
+use Rattle.poom.proofs.Documents.{made_of}
 use Rattle.poom.proofs.Counting.{last_up_to, last_earlier}
 use Rattle.poom.proofs.Clips.{in_front, shown-own, shown-other}
 

@@ -1,6 +1,6 @@
 -- Elements that follow each other make one stretch.
 use Rattle.std.proofs.Common.{◌≡◌, ℕ, ◌+◌, Bool, true, false, List, [], ◌∷◌, ◌++◌, length, refl, arith, ap, ◌∙◌}
-use Rattle.poom.specs.Runs.{Stretch, stretches_on, stretches}
+use Rattle.poom.specs.Runs.{stretches_on, stretches}
 
 -- each of the elements follows the one in front of it, where x is in front of the first, and the last of all is `last`
 abbrev pub IsChain : {X : Type 0} → (X → X → Bool) → X → List X → X → Type 0

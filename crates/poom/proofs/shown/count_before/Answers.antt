@@ -1,5 +1,5 @@
 use Rattle.std.proofs.Common.{arith}
-use Rattle.poom.proofs.Counting.{read_other, read_reaches, read_far, read_there, read_behind}
+use Rattle.poom.proofs.Counting.{read_other, read_reaches, read_there, read_behind}
 use Rattle.poom.proofs.shown.count_before.Goals as goal
 
 pub returns-then-ne-clause-each : goal.returns-then-ne-clause-each

@@ -1,5 +1,3 @@
-use Rattle.poom.specs.Laid.{part_number, standing_in}
-use Rattle.enfilade_core.specs.Rows.{rows_of}
 use Rattle.poom.proofs.Betweens.{found_in, found_laid}
 use Rattle.poom.proofs.poom.Poom.pieces_between.Goals as goal
 
