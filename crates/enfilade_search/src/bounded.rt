@@ -104,10 +104,10 @@ fn gather_child_up_to<P: Plane>(
     if sought.is_past(&first) {
         return Ok(false);
     }
-    let second = second.add(&child.second);
-    if !sought.can_be_below(child, &first, &second) {
+    if !sought.can_be_below(child, &first, second) {
         return Ok(true);
     }
+    let second = second.add(&child.second);
     gather_up_to(arena, child.node, &first, &second, sought, limit, out)?;
     Ok(true)
 }

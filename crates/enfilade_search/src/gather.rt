@@ -121,10 +121,10 @@ fn gather_child<P: Plane>(
     if sought.is_past(&first) {
         return Ok(false);
     }
-    let second = second.add(&child.second);
-    if !sought.can_be_below(child, &first, &second) {
+    if !sought.can_be_below(child, &first, second) {
         return Ok(true);
     }
+    let second = second.add(&child.second);
     gather(arena, child.node, &first, &second, sought, out)?;
     Ok(true)
 }

@@ -1,6 +1,6 @@
 //! What a search looks for.
 ghost use Rattle.std.specs.Prelude.{◌≡◌};
-ghost use Rattle.tumbler.specs.Places.{Fits};
+ghost use Rattle.tumbler.specs.Places.{Fits, sum};
 ghost use Rattle.enfilade_core.specs.Plain.{plain_row};
 ghost use Rattle.enfilade_search.specs.Meeting.{touches};
 ghost use Rattle.enfilade_search.specs.Sought.{side_by, width_by, past_by, is_past, can_hold};
@@ -73,15 +73,17 @@ impl Sought {
         }
     }
 
-    /// Whether a row below the child can be sought, where the child's origin is at these places.
+    /// Whether a row below the child can be sought, where the child's origin is at `first` on the first axis, and its
+    /// node is seen from `second` on the second one.
     pub(crate) fn can_be_below(&self, child: &Branch, first: &Tumbler, second: &Tumbler) -> bool
         requires first_fits { Fits first.now child.now.first_extent }
-        requires second_fits { Fits second.now child.now.second_extent }
-        ensures { result ≡ can_hold self.now (side_by self.now.by first.now second.now) (side_by self.now.by child.now.first_extent child.now.second_extent) }
+        requires second_origin { Fits second.now child.now.second }
+        requires second_fits { Fits (sum second.now child.now.second) child.now.second_extent }
+        ensures { result ≡ can_hold self.now (side_by self.now.by first.now (sum second.now child.now.second)) (side_by self.now.by child.now.first_extent child.now.second_extent) }
     {
         match self.by {
             By::Place | By::First => self.can_hold(first, &child.first_extent),
-            By::Second => self.can_hold(second, &child.second_extent),
+            By::Second => self.can_hold(&second.add(&child.second), &child.second_extent),
         }
     }
 

@@ -29,9 +29,9 @@ fn clip(part: Part, row: &Row<u32>, from: u32, to: u32) -> Piece
     let before = from.saturating_sub(start);
     let piece = piece_of(&row.second, row.leaf);
     Piece {
-        document: piece.document.copy(),
         first: piece.first + before,
         count: piece.count.min(to - start) - before,
+        document: piece.document,
     }
 }
 

@@ -1,4 +1,4 @@
-use Rattle.std.proofs.Common.{◌++◌, map, rules, sym, subst}
+use Rattle.std.proofs.Common.{refl, ◌++◌, map, rules, sym, subst}
 use Rattle.std.specs.Prelude.{OnOk}
 use Rattle.std.specs.List.{filter}
 use Rattle.tumbler.specs.Places.{sum}
@@ -94,17 +94,17 @@ gather_child_up_to-add-second-requires g t c = fits_if_tumbler c.args.second.now
 
 pub gather_child_up_to-can_be_below-requires-clause-first_fits : goal.gather_child_up_to-can_be_below-requires-clause-first_fits
 gather_child_up_to-can_be_below-requires-clause-first_fits g t c =
-    child_extent_fits g.P.Plane.widths g.met.P.Plane.widths_stay c.args.arena.now c.allocator-alloc.ensures.right First c.args.child.now c.args.first.now c.args.second.now c.add-first.result c.add-second.result c.requires c.add-first.ensures c.add-second.ensures
+    child_extent_fits g.P.Plane.widths g.met.P.Plane.widths_stay c.args.arena.now c.allocator-alloc.ensures.right First c.args.child.now c.args.first.now c.args.second.now c.add-first.result (sum c.args.second.now c.args.child.now.second) c.requires c.add-first.ensures refl
 
 pub gather_child_up_to-can_be_below-requires-clause-second_fits : goal.gather_child_up_to-can_be_below-requires-clause-second_fits
 gather_child_up_to-can_be_below-requires-clause-second_fits g t c =
-    child_extent_fits g.P.Plane.widths g.met.P.Plane.widths_stay c.args.arena.now c.allocator-alloc.ensures.right Second c.args.child.now c.args.first.now c.args.second.now c.add-first.result c.add-second.result c.requires c.add-first.ensures c.add-second.ensures
+    child_extent_fits g.P.Plane.widths g.met.P.Plane.widths_stay c.args.arena.now c.allocator-alloc.ensures.right Second c.args.child.now c.args.first.now c.args.second.now c.add-first.result (sum c.args.second.now c.args.child.now.second) c.requires c.add-first.ensures refl
 
 pub gather_child_up_to-returns-then-not-can_be_below-clause-gathered : goal.gather_child_up_to-returns-then-not-can_be_below-clause-gathered
 gather_child_up_to-returns-then-not-can_be_below-clause-gathered g t c =
     all_held c.args.limit _ (map (plain_row g.P.Plane.plain) c.args.out.now.items)
-    (child_skipped g.P.Plane.widths g.met.P.Plane.widths_stay c.args.arena.now c.allocator-alloc.ensures.right c.args.sought.now c.args.child.now c.args.first.now c.args.second.now c.add-first.result c.add-second.result c.can_be_below.result
-    (map (plain_row g.P.Plane.plain) c.args.out.now.items) c.requires c.add-first.ensures c.add-second.ensures c.can_be_below.ensures c.if-not-can_be_below.true)
+    (child_skipped g.P.Plane.widths g.met.P.Plane.widths_stay c.args.arena.now c.allocator-alloc.ensures.right c.args.sought.now c.args.child.now c.args.first.now c.args.second.now c.add-first.result (sum c.args.second.now c.args.child.now.second) c.can_be_below.result
+    (map (plain_row g.P.Plane.plain) c.args.out.now.items) c.requires c.add-first.ensures refl c.can_be_below.ensures c.if-not-can_be_below.true)
 
 pub gather_child_up_to-returns-then-not-can_be_below-clause-goes_on : goal.gather_child_up_to-returns-then-not-can_be_below-clause-goes_on
 gather_child_up_to-returns-then-not-can_be_below-clause-goes_on g t c = goes_on c.args.sought.now c.add-first.result (sum c.args.first.now c.args.child.now.first) c.is_past.result c.add-first.ensures c.is_past.ensures c.if-is_past.false
@@ -120,3 +120,6 @@ gather_child_up_to-returns-then-is_past-clause-gathered g t c =
 
 pub gather_child_up_to-returns-then-is_past-clause-goes_on : goal.gather_child_up_to-returns-then-is_past-clause-goes_on
 gather_child_up_to-returns-then-is_past-clause-goes_on g t c = stops c.args.sought.now c.add-first.result (sum c.args.first.now c.args.child.now.first) c.is_past.result c.add-first.ensures c.is_past.ensures c.if-is_past.true
+
+pub gather_child_up_to-can_be_below-requires-clause-second_origin : goal.gather_child_up_to-can_be_below-requires-clause-second_origin
+gather_child_up_to-can_be_below-requires-clause-second_origin g t c = fits_if_tumbler c.args.second.now c.args.child.now.second c.requires.second_origin

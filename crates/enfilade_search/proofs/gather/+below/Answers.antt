@@ -1,4 +1,4 @@
-use Rattle.std.proofs.Common.{◌≡◌, ◌++◌, map, rules, sym, subst}
+use Rattle.std.proofs.Common.{refl, ◌≡◌, ◌++◌, map, rules, sym, subst}
 use Rattle.std.specs.Prelude.{OnOk}
 use Rattle.std.specs.List.{filter}
 use Rattle.tumbler.specs.Places.{sum}
@@ -63,16 +63,16 @@ gather_child-add-second-requires g t c = fits_if_tumbler c.args.second.now c.arg
 
 pub gather_child-can_be_below-requires-clause-first_fits : goal.gather_child-can_be_below-requires-clause-first_fits
 gather_child-can_be_below-requires-clause-first_fits g t c =
-    child_extent_fits g.P.Plane.widths g.met.P.Plane.widths_stay c.args.arena.now c.allocator-alloc.ensures.right First c.args.child.now c.args.first.now c.args.second.now c.add-first.result c.add-second.result c.requires c.add-first.ensures c.add-second.ensures
+    child_extent_fits g.P.Plane.widths g.met.P.Plane.widths_stay c.args.arena.now c.allocator-alloc.ensures.right First c.args.child.now c.args.first.now c.args.second.now c.add-first.result (sum c.args.second.now c.args.child.now.second) c.requires c.add-first.ensures refl
 
 pub gather_child-can_be_below-requires-clause-second_fits : goal.gather_child-can_be_below-requires-clause-second_fits
 gather_child-can_be_below-requires-clause-second_fits g t c =
-    child_extent_fits g.P.Plane.widths g.met.P.Plane.widths_stay c.args.arena.now c.allocator-alloc.ensures.right Second c.args.child.now c.args.first.now c.args.second.now c.add-first.result c.add-second.result c.requires c.add-first.ensures c.add-second.ensures
+    child_extent_fits g.P.Plane.widths g.met.P.Plane.widths_stay c.args.arena.now c.allocator-alloc.ensures.right Second c.args.child.now c.args.first.now c.args.second.now c.add-first.result (sum c.args.second.now c.args.child.now.second) c.requires c.add-first.ensures refl
 
 pub gather_child-returns-then-not-can_be_below-clause-gathered : goal.gather_child-returns-then-not-can_be_below-clause-gathered
 gather_child-returns-then-not-can_be_below-clause-gathered g t c =
-    child_skipped g.P.Plane.widths g.met.P.Plane.widths_stay c.args.arena.now c.allocator-alloc.ensures.right c.args.sought.now c.args.child.now c.args.first.now c.args.second.now c.add-first.result c.add-second.result c.can_be_below.result
-    (map (plain_row g.P.Plane.plain) c.args.out.now.items) c.requires c.add-first.ensures c.add-second.ensures c.can_be_below.ensures c.if-not-can_be_below.true
+    child_skipped g.P.Plane.widths g.met.P.Plane.widths_stay c.args.arena.now c.allocator-alloc.ensures.right c.args.sought.now c.args.child.now c.args.first.now c.args.second.now c.add-first.result (sum c.args.second.now c.args.child.now.second) c.can_be_below.result
+    (map (plain_row g.P.Plane.plain) c.args.out.now.items) c.requires c.add-first.ensures refl c.can_be_below.ensures c.if-not-can_be_below.true
 
 pub gather_child-returns-then-not-can_be_below-clause-goes_on : goal.gather_child-returns-then-not-can_be_below-clause-goes_on
 gather_child-returns-then-not-can_be_below-clause-goes_on g t c = goes_on c.args.sought.now c.add-first.result (sum c.args.first.now c.args.child.now.first) c.is_past.result c.add-first.ensures c.is_past.ensures c.if-is_past.false
@@ -102,3 +102,6 @@ gather-returns-then-not-branch g t c =
     (rows_of_branches g.P.Plane.widths nodes c.args.node.0 c.args.first.now c.args.second.now slice c.allocator-alloc.ensures.right c.requires.there is) it.fits.branch c.loop-child-test.true c.child-item.is c.in_ok-gather_child-in-Inner.ensures.goes_on
     c.if-not-branch.true
     (gathered_more test rows slice c.loop-child.child-index c.child-item.result held (map (plain_row g.P.Plane.plain) c.loop-child.out.items) now c.loop-child-test.true c.child-item.is c.loop-child.invariant c.in_ok-gather_child-in-Inner.ensures.gathered)
+
+pub gather_child-can_be_below-requires-clause-second_origin : goal.gather_child-can_be_below-requires-clause-second_origin
+gather_child-can_be_below-requires-clause-second_origin g t c = fits_if_tumbler c.args.second.now c.args.child.now.second c.requires.second_origin
