@@ -1,8 +1,8 @@
 -- A displacement that has room for a reach can be added to it.
-use Rattle.std.proofs.Common.{◌≡◌, ℕ, List}
+use Rattle.std.proofs.Common.{◌≡◌, ℕ, List, [], ap}
 use Rattle.tumbler.specs.Places.{IsTumbler, sum, Fits}
 use Rattle.tumbler.specs.Reach.{lead, greater, HasRoom}
-use Rattle.tumbler.proofs.Reaches.{lead_fits_if_room, greater_assoc}
+use Rattle.tumbler.proofs.Reaches.{lead_fits_if_room, greater_assoc, greater_itself}
 use Rattle.tumbler.proofs.Tumblers.{sum-is_tumbler}
 use Rattle.tumbler.proofs.SumOrder.{fits_if_tumbler as fits_back}
 
@@ -23,3 +23,8 @@ pub greater_in_turn : (a b c : List ℕ) → greater (greater a b) c ≡ greater
 greater_in_turn a b c = greater_assoc a b c
 
 pub ruleset row_reaches = (tumbler_if_fits, fits_if_tumbler, greater_in_turn)
+
+pub point_reach : (r p : List ℕ) → greater r (greater (lead p) (lead (sum p []))) ≡ greater r (lead p)
+point_reach r p = ap (greater r) (greater_itself (lead p))
+
+pub ruleset points = (point_reach)

@@ -1,7 +1,6 @@
 -- Which children may stand behind others, and where rows begin and end. Only private functions cite this.
 use Rattle.std.specs.Prelude.{◌≡◌, ◌⊎◌, ℕ, List, [], ◌∷◌}
 use Rattle.tumbler.specs.Places.{IsUpTo}
-use Rattle.enfilade_core.specs.Summary.{along_row}
 use Rattle.enfilade_core.specs.declared.tree.Row.{Row}
 use Rattle.enfilade_core.specs.declared.summary.Summary.{Summary}
 
@@ -18,17 +17,6 @@ abbrev pub last_place : {L : Type 0} → List (Row L) → List ℕ
 last_place [] = []
 last_place (row ∷ []) = row.first
 last_place (row ∷ next ∷ rows) = last_place (next ∷ rows)
-
--- what is told of a row that stands at these places and is this wide
-abbrev pub placed_summary : List ℕ → List ℕ → List ℕ → List ℕ → Summary
-placed_summary first first_width second second_width = record {
-  height = 0;
-  leaves = 1;
-  first = first;
-  last = first;
-  along_first = along_row first first_width;
-  along_second = along_row second second_width;
-}
 
 -- a summary with another place for its last row
 abbrev pub with_last : List ℕ → Summary → Summary

@@ -34,15 +34,19 @@ along_joined a b = record { extent = later a.extent b.extent; reach = greater a.
 abbrev pub no_summary : Summary
 no_summary = record { height = 0; leaves = 0; first = []; last = []; along_first = no_along; along_second = no_along }
 
-abbrev pub row_summary : {L : Type 0} → Widths L → Row L → Summary
-row_summary w row = record {
+-- of a row that stands at these places and is this wide
+abbrev pub placed_summary : List ℕ → List ℕ → List ℕ → List ℕ → Summary
+placed_summary first first_width second second_width = record {
   height = 0;
   leaves = 1;
-  first = row.first;
-  last = row.first;
-  along_first = along_row row.first (w.first row);
-  along_second = along_row row.second (w.second row);
+  first = first;
+  last = first;
+  along_first = along_row first first_width;
+  along_second = along_row second second_width;
 }
+
+abbrev pub row_summary : {L : Type 0} → Widths L → Row L → Summary
+row_summary w row = placed_summary row.first (w.first row) row.second (w.second row)
 
 -- a summary, where all is moved by a on the first axis and by b on the second
 abbrev pub summary_moved : List ℕ → List ℕ → Summary → Summary

@@ -80,12 +80,27 @@ impl Along {
         }
     }
 
+    /// A row of no width joins these rows.
+    #[tactic(auto, using(crate::proofs::Rooms::points))]
+    fn join_point(&mut self, place: &Tumbler)
+        ensures { self.new ≡ along_joined self.old (along_row place.now []) }
+    {
+        self.reach.raise_by_lead(place);
+        if self.extent.is_before(place) {
+            self.extent = place.copy();
+        }
+    }
+
     /// A row joins these rows.
     #[tactic(auto, using(crate::proofs::Rooms::row_reaches))]
     fn join_row(&mut self, place: &Tumbler, width: &Tumbler)
         requires { IsTumbler (sum place.now width.now) }
         ensures { self.new ≡ along_joined self.old (along_row place.now width.now) }
     {
+        if width.places().is_empty() {
+            self.join_point(place);
+            return;
+        }
         let extent = place.add(width);
         self.reach.raise_by_lead(place);
         self.reach.raise_by_lead(&extent);
@@ -119,8 +134,8 @@ impl Along {
 }
 
 impl Summary {
-    ghost use Rattle.enfilade_core.specs.Summary.{no_summary, summary_moved, summary_joined, raised, kept};
-    ghost use Rattle.enfilade_core.specs.Following.{Follows, placed_summary, with_last};
+    ghost use Rattle.enfilade_core.specs.Summary.{no_summary, placed_summary, summary_moved, summary_joined, raised, kept};
+    ghost use Rattle.enfilade_core.specs.Following.{Follows, with_last};
 
     /// Of no rows.
     pub(crate) fn none(alloc: Global) -> Summary

@@ -21,7 +21,8 @@ pub(crate) fn so_far_on(start: &Tumbler, count: usize) -> Tumbler
     start.add(&Tumbler::width(start.allocator(), long, count as u32))
 }
 
-/// The same, where the place differs from the start in the last place at most; otherwise it is not told.
+/// How many of so many addresses from a start on come before a place, where that differs from the start in the last
+/// place at most; otherwise it is not told.
 fn count_beside(start: &Tumbler, count: usize, at: &Tumbler) -> Option<usize>
     ensures within { IfSome result (λ found. found ≤ count) }
     ensures each { IfSome result (λ found. (k : ℕ) → k < count → comes_before (so_far_on start.now k) at.now ≡ nat_lt k found) }
