@@ -15,3 +15,5 @@ pub mod ReachSteps
 pub mod JustBefore
 pub mod Widths
 pub mod Alls
+pub mod PaddedSteps
+pub mod RaiseSteps

@@ -4,3 +4,4 @@ pub mod Reach
 pub mod Span
 pub mod Address
 pub mod Laws
+pub mod Padded

@@ -6,6 +6,7 @@ mod arithmetic;
 pub mod laws;
 mod list;
 mod memory;
+mod places;
 mod span;
 #[cfg(test)]
 mod tests;

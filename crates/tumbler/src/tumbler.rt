@@ -7,11 +7,8 @@ ghost use Rattle.tumbler.specs.Reach.{lead, greater, HasRoom};
 ghost use Rattle.tumbler.specs.Address.{IsAccount, IsDocument, IsDocumentOf, IsMadeIn};
 
 use crate::address;
-use crate::arithmetic::{
-    Inline, covers, covers_lead, covers_moved, difference_of, greater_of, inline, last_at,
-    lead_len, room_for, sum_fits, sum_of, trimmed_len, with_last,
-};
-use arrayvec::ArrayVec;
+use crate::arithmetic::{last_at, lead_len, room_for, sum_fits, trimmed_len, with_last};
+use crate::places::Places;
 use std::alloc::Global;
 use std::cmp::Ordering;
 use std::error::Error;
@@ -27,7 +24,7 @@ pub const MOST_PLACES: usize = 24;
 /// itself, so nothing here takes memory.
 #[derive(Debug, PartialEq, Eq)]
 pub struct Tumbler {
-    held: Inline,
+    held: Places,
 }
 
 impl Model for Tumbler {
@@ -39,11 +36,11 @@ impl Model for Tumbler {
 
     ghost coded = { coded_list coded_ℕ };
 
-    ghost view = { λ t. t.held.items };
+    ghost view = { λ t. t.held };
 
-    ghost invariant = { λ t. IsTumbler t.held.items };
+    ghost invariant = { λ t. IsTumbler t.held };
 
-    ghost inverse = { λ places. record { held = record { items = places } } };
+    ghost inverse = { λ places. record { held = places } };
 }
 
 /// The list of places is no tumbler: it has over 24 places, or its last place is 0.
@@ -64,7 +61,7 @@ impl Tumbler {
         ensures { result ≡ [] }
     {
         Tumbler {
-            held: ArrayVec::new_in(alloc),
+            held: Places::none(alloc),
         }
     }
 
@@ -80,7 +77,7 @@ impl Tumbler {
             return Err(BadTumbler);
         }
         Ok(Tumbler {
-            held: inline(alloc, places),
+            held: Places::from_slice(alloc, places),
         })
     }
 
@@ -88,9 +85,7 @@ impl Tumbler {
     pub fn copy(&self) -> Tumbler
         ensures { result ≡ self.now }
     {
-        Tumbler {
-            held: inline(*self.held.allocator(), self.places()),
-        }
+        Tumbler { held: self.held }
     }
 
     /// Zeros, and `n` at the last of `long` places: the width of `n` places in a row that differ there.
@@ -132,7 +127,7 @@ impl Tumbler {
         ensures { result ≡ sum self.now d.now }
     {
         Tumbler {
-            held: sum_of(*self.held.allocator(), self.places(), d.places()),
+            held: self.held.plus(&d.held),
         }
     }
 
@@ -142,7 +137,7 @@ impl Tumbler {
         ensures { result ≡ difference self.now a.now }
     {
         Tumbler {
-            held: difference_of(*self.held.allocator(), self.places(), a.places()),
+            held: self.held.minus(&a.held),
         }
     }
 
@@ -166,8 +161,8 @@ impl Tumbler {
         if tail.len() > MOST_PLACES - self.places().len() {
             return Err(BadTumbler);
         }
-        let mut held = inline(*self.held.allocator(), self.places());
-        held.try_extend_from_slice(tail).unwrap();
+        let mut held = self.held;
+        held.extend(tail);
         if let Some(0) = held.as_slice().last() {
             return Err(BadTumbler);
         }
@@ -218,7 +213,7 @@ impl Tumbler {
         ensures { result ≡ take n self.now }
     {
         Tumbler {
-            held: inline(*self.held.allocator(), self.places().split_at(n).0),
+            held: Places::from_slice(*self.held.allocator(), self.places().split_at(n).0),
         }
     }
 }
@@ -230,7 +225,7 @@ impl Tumbler {
         ensures before { IsTrue result ↔ IsBefore self.now other.now }
         ensures tumbler { IsTumbler self.now }
     {
-        self.held.as_slice().cmp(&other.held.as_slice()).is_lt()
+        self.held.is_before(&other.held)
     }
 
     /// The places up to and with the first one that is not 0.
@@ -244,27 +239,23 @@ impl Tumbler {
     pub fn greater(&self, other: &Tumbler) -> Tumbler
         ensures { result ≡ greater self.now other.now }
     {
-        Tumbler {
-            held: greater_of(*self.held.allocator(), self.places(), other.places()),
-        }
+        let mut held = self.held;
+        held.raise(&other.held);
+        Tumbler { held }
     }
 
     /// Index by index the greater place of both is here from now on.
     pub fn raise(&mut self, other: &Tumbler)
         ensures { self.new ≡ greater self.old other.now }
     {
-        if !covers(self.places(), other.places()) {
-            *self = self.greater(other);
-        }
+        self.held.raise(&other.held);
     }
 
     /// The same, with the places of another up to and with the first one that is not 0.
     pub fn raise_by_lead(&mut self, place: &Tumbler)
         ensures { self.new ≡ greater self.old (lead place.now) }
     {
-        if !covers_lead(self.places(), place.places()) {
-            self.raise(&place.lead());
-        }
+        self.held.raise_by_lead(&place.held);
     }
 
     /// The same, with a reach that is moved by `d`.
@@ -272,9 +263,7 @@ impl Tumbler {
         requires { HasRoom d.now reach.now }
         ensures { self.new ≡ greater self.old (sum reach.now (lead d.now)) }
     {
-        if !covers_moved(self.places(), reach.places(), d.places()) {
-            self.raise(&reach.add(&d.lead()));
-        }
+        self.held.raise_by_moved(&reach.held, &d.held);
     }
 
     /// Whether places that add up to the reach, each at its own index, can all be moved by this one.

@@ -18,11 +18,11 @@ returns-then-last-lt2 c =
 
 pub invariant_of-result : goal.invariant_of-result
 invariant_of-result c =
-    let value = lessens_last c.args.self.now c.places-places.result.now c.split_at-2.result.0.now c.with_last.result.items c.in-Some.last.now c.places-places.ensures.value
+    let value = lessens_last c.args.self.now c.places-places.result.now c.split_at-2.result.0.now c.with_last.result c.in-Some.last.now c.places-places.ensures.value
     c.in-Some.ensures.item.3.0 c.split_at-2.ensures.front (c.in-Some.ensures.item.3.1 0) c.if-last-lt2.false c.with_last.ensures in
     rw value (just_before-is_tumbler c.args.self.now c.places-places.ensures.tumbler)
 
 pub returns : goal.returns
 returns c =
-    lessens_last c.args.self.now c.places-places.result.now c.split_at-2.result.0.now c.with_last.result.items c.in-Some.last.now c.places-places.ensures.value
+    lessens_last c.args.self.now c.places-places.result.now c.split_at-2.result.0.now c.with_last.result c.in-Some.last.now c.places-places.ensures.value
     c.in-Some.ensures.item.3.0 c.split_at-2.ensures.front (c.in-Some.ensures.item.3.1 0) c.if-last-lt2.false c.with_last.ensures
