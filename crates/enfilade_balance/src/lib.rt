@@ -11,8 +11,6 @@ mod merging;
 mod opening;
 mod path;
 mod roots;
-#[cfg(test)]
-mod tests;
 
 pub use balance::{Balance, balance_step};
 pub use debts::{allows, debt};

@@ -19,8 +19,6 @@ mod planes;
 mod right;
 mod standing;
 mod summary;
-#[cfg(test)]
-mod tests;
 mod tree;
 mod walk;
 

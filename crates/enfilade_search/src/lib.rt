@@ -6,8 +6,6 @@ mod calls;
 mod gather;
 pub mod laws;
 mod sought;
-#[cfg(test)]
-mod tests;
 
 pub use bounded::overlapping_up_to;
 pub use calls::{in_range, meeting, overlapping};

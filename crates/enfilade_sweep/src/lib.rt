@@ -5,7 +5,5 @@ mod copying;
 pub mod laws;
 mod marks;
 mod swept;
-#[cfg(test)]
-mod tests;
 
 pub use swept::sweep;

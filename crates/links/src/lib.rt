@@ -10,8 +10,6 @@ mod row;
 mod runs;
 mod spans;
 mod table;
-#[cfg(test)]
-mod tests;
 mod wanted;
 
 pub use links::Links;

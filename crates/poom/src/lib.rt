@@ -14,8 +14,6 @@ mod poom;
 mod put;
 mod shown;
 mod swap;
-#[cfg(test)]
-mod tests;
 
 pub use look::Found;
 pub use poom::Poom;

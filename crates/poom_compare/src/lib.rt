@@ -11,8 +11,6 @@ mod positions;
 mod segment;
 mod starts;
 mod stretch;
-#[cfg(test)]
-mod tests;
 
 pub use compared::{Compared, diagonals};
 pub use laws::{diagonals_are_valid, relation_of_world};

@@ -6,8 +6,6 @@ mod joining;
 mod keys;
 mod lengthening;
 mod spanfilade;
-#[cfg(test)]
-mod tests;
 
 pub use joining::joined;
 pub use spanfilade::Spanfilade;

@@ -27,8 +27,6 @@ mod run_spans;
 mod sessions;
 mod sweeping;
 mod tending;
-#[cfg(test)]
-mod tests;
 mod undoing;
 mod world;
 

@@ -1,6 +1,0 @@
-use Rattle.std.specs.List.{All}
-use Rattle.tumbler.specs.Span.{SpanFits}
-use Rattle.links.proofs.tests.homes.Given as goal
-
-abbrev pub invariant-loop-number : goal.invariant-loop-number
-invariant-loop-number g l = All SpanFits l.made.items

@@ -1,6 +1,0 @@
-use Rattle.std.specs.List.{All}
-use Rattle.tumbler.specs.Span.{SpanFits}
-use Rattle.links.proofs.tests.random.spans.Given as goal
-
-abbrev pub invariant-loop-part : goal.invariant-loop-part
-invariant-loop-part g l = All SpanFits l.made.items

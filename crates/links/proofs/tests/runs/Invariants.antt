@@ -1,6 +1,0 @@
-use Rattle.std.specs.List.{All}
-use Rattle.links.specs.LinkLists.{IsRun}
-use Rattle.links.proofs.tests.runs.Given as goal
-
-abbrev pub invariant-loop-bytes : goal.invariant-loop-bytes
-invariant-loop-bytes g l = All IsRun l.made.items

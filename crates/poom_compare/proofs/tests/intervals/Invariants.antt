@@ -1,6 +1,0 @@
-use Rattle.std.specs.List.{All}
-use Rattle.poom_compare.specs.Placed.{IsInterval}
-use Rattle.poom_compare.proofs.tests.intervals.Given as goal
-
-abbrev pub invariant-loop-one : goal.invariant-loop-one
-invariant-loop-one g l = All (IsInterval 9) l.made.items

@@ -1,6 +1,0 @@
-use Rattle.std.specs.List.{All}
-use Rattle.tumbler.specs.Span.{SpanFits}
-use Rattle.poom_compare.proofs.tests.spans.Given as goal
-
-abbrev pub invariant-loop-one : goal.invariant-loop-one
-invariant-loop-one g l = All SpanFits l.made.items
