@@ -165,6 +165,17 @@ last_joined items now n last one span long some at is joined row =
     ∙ or_last (list_any f front) (f last) (f span)
     ∙ ap (λ (b : Bool). b || f span) (ap (λ (s : Span). list_any f front || f s) at ∙ sym (list_any_more f items (n - 1) last (omega arith)) ∙ ap (list_any f) whole)
 
+or_one : (a b : Bool) → (a || (b || false)) ≡ (a || b)
+or_one true b = refl
+or_one false true = refl
+or_one false false = refl
+
+-- a span comes behind the others
+pub met_behind : (items now : List Span) (one span : Span) → now ≡ items ++ one ∷ [] → one ≡ span → (row : Row (List ℕ)) → is_met_by now row ≡ (is_met_by items row || is_met span row)
+met_behind items now one span is same row =
+    let f : Span → Bool = λ s. is_met s row in
+    ap (list_any f) is ∙ list_any-append f items (one ∷ []) ∙ or_one (list_any f items) (f one) ∙ ap (λ (s : Span). list_any f items || f s) same
+
 pub met_more : (items old now : List Span) (i : ℕ) (span : Span) → i < length items → span ≡ get_or items i span → ((row : Row (List ℕ)) → is_met_by old row ≡ is_met_by (take i items) row) → ((row : Row (List ℕ)) → is_met_by now row ≡ (is_met_by old row || is_met span row))
     → (row : Row (List ℕ)) → is_met_by now row ≡ is_met_by (take (i + 1) items) row
 met_more items old now i span lt at before joined row =

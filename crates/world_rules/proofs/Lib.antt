@@ -1,5 +1,6 @@
 pub mod Specs
 pub mod Later
+pub mod Makers
 pub mod Diagonals
 pub mod RelationLaws
 pub mod RelationOrder

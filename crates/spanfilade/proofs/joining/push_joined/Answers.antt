@@ -1,7 +1,7 @@
 use Rattle.std.proofs.Common.{◌∷◌, [], ◌++◌, ◌<◌, List, length, rules, ap, ◌∙◌, sym, subst}
 use Rattle.std.proofs.lemmas.Result.{on_ok_weaker}
 use Rattle.tumbler.specs.declared.span.Span.{Span}
-use Rattle.spanfilade.proofs.AsOne.{last_joined}
+use Rattle.spanfilade.proofs.AsOne.{last_joined, met_behind}
 use Rattle.spanfilade.proofs.ApartSpans.{met_without, first_pushed, behind_pushed, last_longer, last_starts}
 use Rattle.spanfilade.specs.Apart.{IsJoined}
 use Rattle.std.proofs.Common.{refl}
@@ -28,6 +28,12 @@ returns-in_default-clause-joined c =
     (λ is. subst (IsJoined c.args.span.now.start) (sym (is ∙ ap (λ (s : Span). c.args.made.now.items ++ s ∷ []) c.copy-in_default.ensures))
     (behind_pushed c.args.span.now.start c.args.made.now.items c.args.span.now c.index-as_slice-count.result c.len-count.result c.has_places.result c.requires.made c.requires.span c.has_places.ensures c.if-not-has_places.false refl c.len-count.ensures
     (c.index-as_slice-count.is ∙ cc) c.in_default.ensures.apart))
+    c.push-in_default.ensures.ok
+
+pub returns-in_default-clause-met : goal.returns-in_default-clause-met
+returns-in_default-clause-met c =
+    on_ok_weaker c.push-in_default.result
+    (λ is. met_behind c.args.made.now.items c.push-in_default.new.self.items c.copy-in_default.result c.args.span.now is c.copy-in_default.ensures)
     c.push-in_default.ensures.ok
 
 pub returns-clause-joined : goal.returns-clause-joined
