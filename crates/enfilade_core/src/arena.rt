@@ -74,6 +74,13 @@ impl<P: Plane> Arena<P> {
         self.nodes.truncate(mark as usize);
     }
 
+    /// Makes room for so many more nodes, so that adding them moves none.
+    pub fn reserve(&mut self, nodes: u64) -> Result<(), Memory>
+        ensures { self.new ≡ self.old }
+    {
+        self.nodes.reserve(nodes as usize)
+    }
+
     /// What hangs under a node. It takes no memory.
     pub fn node(&self, node: Node) -> &Children<P::Leaf>
         requires { node.0 < length self.now }

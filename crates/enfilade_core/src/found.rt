@@ -1,12 +1,14 @@
 //! The last row of a tree that comes before a place.
-ghost use Rattle.std.specs.Prelude.{◌≡◌, ◌+◌, ◌<◌, map, min, length, All, Contains, IfSome, IfNone, Some, None};
+ghost use Rattle.std.specs.Prelude.{◌≡◌, ◌⊎◌, ◌+◌, ◌<◌, map, min, drop, length, All, Contains, IfSome, IfNone, Some, None, true};
+ghost use Rattle.tumbler.specs.Places.{comes_before};
 ghost use Rattle.enfilade_core.specs.Rows.{Branches, moved, branch_rows, rows_in, rows_table, rows_of};
 ghost use Rattle.enfilade_core.specs.Axes.{IsRightRow, IsRightRows};
 ghost use Rattle.enfilade_core.specs.Right.{IsRight, IsRightPart};
 ghost use Rattle.enfilade_core.specs.Summary.{height_of, depth_of};
 ghost use Rattle.enfilade_core.specs.Plain.{plain_row, found_row};
 ghost use Rattle.enfilade_core.specs.Edits.{last_before};
-ghost use Rattle.enfilade_core.specs.Exchange.{IsRightAt, branch_at};
+ghost use Rattle.enfilade_core.specs.Following.{first_place};
+ghost use Rattle.enfilade_core.specs.Exchange.{IsRightAt, branch_at, IsChosen};
 
 use crate::arena::Arena;
 use crate::around::seen_from;
@@ -57,6 +59,19 @@ fn last_row<'a, P: Plane>(
 }
 
 impl<P: Plane> Arena<P> {
+    /// The branch that `chosen` finds. The last one is looked at first, since often the end is asked for.
+    fn chosen_from_end(&self, branches: &[Branch], at: &Tumbler) -> usize
+        requires right { IsRight P.widths self.now (Branches branches.now) }
+        ensures is { IsChosen self.now branches.now at.now result }
+        ensures here { (result ≡ 0) ⊎ (comes_before (first_place (rows_in (rows_table self.now) (Branches (drop result branches.now)))) at.now ≡ true) }
+    {
+        let last = branches.len() - 1;
+        if self.starts_before(&branches[last], at) {
+            return last;
+        }
+        self.chosen(branches, at)
+    }
+
     /// The last of some branches, seen from a base, that has a row before a place. Only that one is moved.
     fn last_branch(
         &self,
@@ -72,7 +87,7 @@ impl<P: Plane> Arena<P> {
         ensures none { IfNone result (last_before at.now (rows_in (rows_table self.now) (Branches (map (branch_at first.now second.now) branches.now))) ≡ None) }
     {
         let seen = seen_from(at, first);
-        let k = self.chosen(branches, &seen);
+        let k = self.chosen_from_end(branches, &seen);
         let branch = &branches[k];
         if !self.starts_before(branch, &seen) {
             return None;

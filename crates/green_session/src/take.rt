@@ -49,11 +49,11 @@ impl Turns {
 pub enum Taken {
     Greeting,
     Request(Request),
-    /// The input answer_at_end before its first byte or between requests.
+    /// The input ends before its first byte or between requests.
     End,
     /// The byte at this offset can't stand there.
     Malformed { at: u64 },
-    /// The input answer_at_end within the greeting or a request, after so many bytes.
+    /// The input ends within the greeting or a request, after so many bytes.
     Truncated { at: u64 },
     /// The source failed.
     ReadFault,
@@ -97,7 +97,7 @@ pub fn take_request<S: Source>(
     }
 }
 
-/// What came where the input has answer_at_end.
+/// What came where the input has ended.
 fn answer_at_end(feed: &Feed) -> Taken
     ensures { result ≡ answer_at_end feed.now }
 {

@@ -12,32 +12,32 @@ use Rattle.enfilade_core.proofs.arena.Arena.last_branch.Goals as goal
 
 pub starts_before-requires : goal.starts_before-requires
 starts_before-requires g c =
-    record { part = item-right (IsRightPart g.P.Plane.widths c.args.self.now) c.args.branches.now c.chosen-k.result c.index-branches-k.result c.chosen-k.ensures.is.there c.index-branches-k.is (node-parts g.P.Plane.widths c.args.self.now c.args.branches.now c.requires.right) }
+    record { part = item-right (IsRightPart g.P.Plane.widths c.args.self.now) c.args.branches.now c.chosen_from_end-k.result c.index-branches-k.result c.chosen_from_end-k.ensures.is.there c.index-branches-k.is (node-parts g.P.Plane.widths c.args.self.now c.args.branches.now c.requires.right) }
 
 pub branch_moved-requires-clause-first_fits : goal.branch_moved-requires-clause-first_fits
 branch_moved-requires-clause-first_fits g c =
     fits_if_tumbler c.args.first.now c.index-branches-k.result.first
-    (moved-fits g.P.Plane.widths c.args.self.now c.args.first.now c.args.second.now c.args.branches.now c.chosen-k.result c.index-branches-k.result c.chosen-k.ensures.is.there c.index-branches-k.is c.requires.parts).0
+    (moved-fits g.P.Plane.widths c.args.self.now c.args.first.now c.args.second.now c.args.branches.now c.chosen_from_end-k.result c.index-branches-k.result c.chosen_from_end-k.ensures.is.there c.index-branches-k.is c.requires.parts).0
 
 pub branch_moved-requires-clause-second_fits : goal.branch_moved-requires-clause-second_fits
 branch_moved-requires-clause-second_fits g c =
     fits_if_tumbler c.args.second.now c.index-branches-k.result.second
-    (moved-fits g.P.Plane.widths c.args.self.now c.args.first.now c.args.second.now c.args.branches.now c.chosen-k.result c.index-branches-k.result c.chosen-k.ensures.is.there c.index-branches-k.is c.requires.parts).1
+    (moved-fits g.P.Plane.widths c.args.self.now c.args.first.now c.args.second.now c.args.branches.now c.chosen_from_end-k.result c.index-branches-k.result c.chosen_from_end-k.ensures.is.there c.index-branches-k.is c.requires.parts).1
 
 pub returns-then-not-starts_before-clause-none : goal.returns-then-not-starts_before-clause-none
 returns-then-not-starts_before-clause-none g c =
-    no-branch g.P.Plane.widths c.args.self.now c.args.at.now c.args.first.now c.args.second.now c.seen_from-seen.result c.args.branches.now c.chosen-k.result c.index-branches-k.result c.seen_from-seen.ensures
-    record { right = c.requires.right; chosen = c.chosen-k.ensures.is; here = c.chosen-k.ensures.here; item = c.index-branches-k.is; some = c.starts_before.ensures.some } (sym c.starts_before.ensures.value ∙ c.if-not-starts_before.true)
+    no-branch g.P.Plane.widths c.args.self.now c.args.at.now c.args.first.now c.args.second.now c.seen_from-seen.result c.args.branches.now c.chosen_from_end-k.result c.index-branches-k.result c.seen_from-seen.ensures
+    record { right = c.requires.right; chosen = c.chosen_from_end-k.ensures.is; here = c.chosen_from_end-k.ensures.here; item = c.index-branches-k.is; some = c.starts_before.ensures.some } (sym c.starts_before.ensures.value ∙ c.if-not-starts_before.true)
 
 pub returns-clause-found : goal.returns-clause-found
 returns-clause-found g c =
     let told = rows_table c.args.self.now in
     let there = map (branch_at c.args.first.now c.args.second.now) c.args.branches.now in
     subst (λ branch. last_before c.args.at.now (flat_rows c.args.self.now there) ≡ last_before c.args.at.now (branch_rows told branch)) (sym c.branch_moved.ensures)
-    (branch-found g.P.Plane.widths c.args.self.now c.args.at.now c.args.first.now c.args.second.now c.seen_from-seen.result c.args.branches.now c.chosen-k.result c.index-branches-k.result c.seen_from-seen.ensures
-    record { right = c.requires.right; chosen = c.chosen-k.ensures.is; here = c.chosen-k.ensures.here; item = c.index-branches-k.is; some = c.starts_before.ensures.some } (sym c.starts_before.ensures.value ∙ c.if-not-starts_before.false))
+    (branch-found g.P.Plane.widths c.args.self.now c.args.at.now c.args.first.now c.args.second.now c.seen_from-seen.result c.args.branches.now c.chosen_from_end-k.result c.index-branches-k.result c.seen_from-seen.ensures
+    record { right = c.requires.right; chosen = c.chosen_from_end-k.ensures.is; here = c.chosen_from_end-k.ensures.here; item = c.index-branches-k.is; some = c.starts_before.ensures.some } (sym c.starts_before.ensures.value ∙ c.if-not-starts_before.false))
 
 pub returns-clause-one : goal.returns-clause-one
 returns-clause-one g c =
     subst (Contains (map (branch_at c.args.first.now c.args.second.now) c.args.branches.now)) (sym c.branch_moved.ensures)
-    (one-moved c.args.first.now c.args.second.now c.args.branches.now c.chosen-k.result c.index-branches-k.result c.chosen-k.ensures.is.there c.index-branches-k.is)
+    (one-moved c.args.first.now c.args.second.now c.args.branches.now c.chosen_from_end-k.result c.index-branches-k.result c.chosen_from_end-k.ensures.is.there c.index-branches-k.is)
