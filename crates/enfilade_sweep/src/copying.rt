@@ -106,7 +106,7 @@ pub(crate) fn copied<P: Plane>(
     ensures { IfOk result (λ new. AreCopied marks.now old.now new (length old.now)) }
 {
     let mut new = Arena::new(old.allocator());
-    // Until the next sweep it comes to hold about as many nodes as the old one. Without the room it only grows slower.
+    // Mostly the next sweep comes once there are about as many again. Without the room adding nodes is only slower.
     let _ = new.reserve(old.count());
     for number in 0..old.count() {
         copy_node(old, marks, ranks, number, &mut new)?;

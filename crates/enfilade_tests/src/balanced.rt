@@ -89,6 +89,15 @@ fn are_alike(rt: &impl Abort, arena: &Arena<TextPlane>, root: Node, other: Node)
     }
 }
 
+/// How many children the child of this number has under an inner root.
+fn below(rt: &impl Abort, arena: &Arena<TextPlane>, root: Node, k: usize) -> u64 {
+    let Children::Inner(branches) = arena.node(held(rt, arena, root)) else {
+        panic!(rt; "not an inner root");
+    };
+    let branch = branches.get(k).expect(rt, "a child");
+    arena.standing(held(rt, arena, branch.node)).children
+}
+
 // ---- the steps
 
 #[test]
@@ -104,6 +113,8 @@ fn seventeen_runs_are_split(rt: HostRuntime) -> Result<(), Fail> {
     assert!(rt; debt_of(&rt, &arena, made) == 0);
     assert!(rt; !is_allowed(&rt, &arena, made));
     assert!(rt; arena.depth(held(&rt, &arena, made)) == 2);
+    assert!(rt; below(&rt, &arena, made, 0) == 8);
+    assert!(rt; below(&rt, &arena, made, 1) == 9);
     are_alike(&rt, &arena, root, made);
     assert!(rt; debt_of(&rt, &arena, root) == 5);
     assert!(rt; step(&rt, &mut arena, made) == Balance::Idle);
@@ -120,6 +131,8 @@ fn three_and_three_are_merged(rt: HostRuntime) -> Result<(), Fail> {
         panic!(rt; "not a merge");
     };
     assert!(rt; debt_of(&rt, &arena, made) == 0);
+    assert!(rt; below(&rt, &arena, made, 0) == 6);
+    assert!(rt; below(&rt, &arena, made, 1) == 10);
     are_alike(&rt, &arena, root, made);
     assert!(rt; step(&rt, &mut arena, made) == Balance::Idle);
     Ok(())

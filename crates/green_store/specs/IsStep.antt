@@ -83,7 +83,8 @@ pub record HasEnded (before : StoreView) (session : ℕ) (after : StoreView) : T
 abbrev pub MayBalance : StoreView → Type 0
 MayBalance before = before.trees.allows ≡ true
 
--- and then: none does, and the arenas hold over twice as many nodes as after the last sweep, and 1,024 more
+-- and then: none does, and the arenas hold over twice as many nodes as after the last sweep or at opening,
+-- and 1,024 more
 pub record MaySweep (before : StoreView) : Type 0 where
   pub balanced : before.trees.allows ≡ false
   pub many : 2 * before.base + 1024 < before.trees.nodes

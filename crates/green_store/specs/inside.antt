@@ -66,7 +66,7 @@ KeepsEdit before pending entry after reply disk =
     Keeps disk after None
     ⊎ StaysPending before after disk (λ other. IsThat pending other ⊎ ((other ≡ entry) × (reply ≡ refused Disk)))
 
--- One small step has put this right in the trees, which are in one condition before it and in the other after it; and so many
+-- One step has put this right in the trees, which are in one condition before it and in the other after it; and so many
 -- nodes they had after the last sweep, before the step and after it.
 abbrev pub IsTended : Condition → ℕ → Tended → Condition → ℕ → Type 0
 IsTended old base tended.Balanced new after = (old.allows ≡ true) × (new.debt + 1 ≤ old.debt) × (after ≡ base)

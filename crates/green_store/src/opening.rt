@@ -87,7 +87,7 @@ fn gate_behind(alloc: Global, entries: &[Entry]) -> Result<u64, Memory>
 }
 
 /// Builds the world of the entries, each of which is tested to fit after those before it. It gives the number of entries in
-/// front of the first that does not, where one does not. The trees are put right by one small step behind each entry.
+/// front of the first that does not, where one does not. The trees are put right by one step behind each entry.
 fn replay<W: Tends>(
     alloc: Global,
     world: &mut W,
@@ -202,8 +202,8 @@ impl StoreOver<TreeWorld> {
     /// Opens the store over a disk: reads the log, builds the world of its entries in one pass, each tested to fit after those
     /// before it, and restarts. No session is live then.
     ///
-    /// A log of n bytes is read once, and behind each entry the trees are put right by one small step, so that they are in good
-    /// shape however many edits there are. Home and journal are left alone. Where the log is damaged its place is that of the first
+    /// A log of n bytes is read once, and behind each entry the trees are put right by one step, so that they are in the shape
+    /// that a run leaves which makes one behind each edit. Home and journal are left alone. Where the log is damaged its place is that of the first
     /// gate with no entry behind it, or one too many, anywhere; and only where there is none, of the first whose entry does not
     /// fit. Limits that are below what the log has do not matter here: edits are then refused as full.
     pub fn open<D: Disk>(alloc: Global, disk: &mut D, limits: Limits) -> Result<Store, OpenFault>

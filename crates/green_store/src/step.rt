@@ -11,8 +11,8 @@ pub enum Step {
     Ask { session: u64, request: Request },
     /// A session ends without a quit.
     End { session: u64 },
-    /// The trees are put right, by one small step: a node is split, merged or dropped where some tree allows it; else nodes that
-    /// no tree reaches are let go, once they are many.
+    /// The trees are put right, by one step: a node is split, merged or dropped where some tree allows it; else nodes that no
+    /// tree reaches are let go, once they are many, in a sweep over all nodes.
     Background,
 }
 

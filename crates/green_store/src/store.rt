@@ -64,8 +64,8 @@ impl<W: Undoes + Drop> StoreOver<W> {
     /// stands. What was appended is never refused. Steps that make no kept change leave the disk alone.
     ///
     /// A background step makes one step of the balancer where a tree allows one. Only where none does, and the arenas hold over
-    /// twice as many nodes as after the last sweep, and 1,024 more, it lets go of those that no tree reaches. Where nothing is
-    /// to be put right it takes no memory.
+    /// twice as many nodes as after the last sweep or at opening, and 1,024 more, it lets go of those that no tree reaches. Where
+    /// nothing is to be put right it takes no memory.
     pub fn step<D: Disk>(&mut self, alloc: Global, disk: &mut D, step: Step) -> StepAnswer
         ensures step { IsStep self.old step self.new result (has_risen (D.fault_count disk.old) (D.fault_count disk.new)) }
         ensures limits { self.new.limits ≡ self.old.limits }

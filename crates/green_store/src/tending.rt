@@ -1,4 +1,4 @@
-//! Trees are put right by small steps, in a store and while one is built.
+//! Trees are put right step by step, in a store and while one is built.
 ghost use Rattle.std.specs.Prelude.{IfOk, OnErr};
 ghost use Rattle.world_rules.specs.FlatView.{FlatView};
 ghost use Rattle.green_store.specs.inside.{IsTended, IsPutOffFor};
@@ -7,7 +7,7 @@ use febe_data::Memory;
 use std::alloc::Global;
 use tree_world::Tends;
 
-/// What one small step has put right.
+/// What one step has put right.
 #[derive(Clone, Copy)]
 pub(crate) enum Tended {
     /// A tree, by one step of the balancer.
@@ -19,7 +19,7 @@ pub(crate) enum Tended {
 }
 
 /// Makes one step of the balancer where some tree allows one. Where none does, it lets go of the nodes that no tree reaches,
-/// if the trees have over twice as many nodes as they had after the last sweep, and 1,024 more.
+/// if the trees have over twice as many nodes as they had after the last sweep or at first, and 1,024 more.
 pub(crate) fn tend<W: Tends>(alloc: Global, world: &mut W, base: &mut u64) -> Result<Tended, Memory>
     ensures stands { (view : FlatView) → W.stands world.old view → W.stands world.new view }
     ensures tended { IfOk result (λ done. IsTended (W.condition world.old) base.old done (W.condition world.new) base.new) }

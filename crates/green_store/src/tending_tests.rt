@@ -154,6 +154,23 @@ fn count_sweeps(rt: &impl Abort, alloc: Global, opened: &mut Opened) -> Result<u
 }
 
 #[test]
+fn a_text_stays_through_sweeps(rt: HostRuntime) -> Result<(), Fail> {
+    let alloc = rt.alloc();
+    let mut opened = with_document(&rt, alloc)?;
+    let mut sweeps: u64 = 0;
+    for made in 1..5_001u32 {
+        let entries = u64::from(made) + 4;
+        inserts(&rt, alloc, &mut opened, entries)?;
+        if let StepAnswer::Swept = tends(&rt, alloc, &mut opened) {
+            sweeps = sweeps.saturating_add(1);
+            check_text(&rt, alloc, &mut opened, &DOCUMENT, made, entries)?;
+        }
+    }
+    assert!(rt; sweeps > 0);
+    check_text(&rt, alloc, &mut opened, &DOCUMENT, 5_000, 5_004)
+}
+
+#[test]
 fn what_no_tree_reaches_is_swept(rt: HostRuntime) -> Result<(), Fail> {
     let alloc = rt.alloc();
     let mut opened = with_version(&rt, alloc)?;

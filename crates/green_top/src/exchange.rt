@@ -77,7 +77,7 @@ fn answer_one<K: Sink, D: Disk>(
     put_reply(alloc, sink, &reply)
 }
 
-/// Puts the store's trees right by one small step, and tells whether something was done. Whatever comes of it, the session goes
+/// Puts the store's trees right by one step, and tells whether something was done. Whatever comes of it, the session goes
 /// on as if it had not been made.
 pub(crate) fn tend<D: Disk>(alloc: Global, store: &mut Store, disk: &mut D) -> bool
     ensures history { store.new.history ≡ store.old.history }
@@ -90,7 +90,7 @@ pub(crate) fn tend<D: Disk>(alloc: Global, store: &mut Store, disk: &mut D) -> b
 }
 
 /// Takes one request of the session, answers it and writes its reply, or tells what ends the session. Once a reply is written
-/// the store's trees are put right by one small step.
+/// the store's trees are put right by one step.
 pub(crate) fn answer_next<S: Source, K: Sink, D: Disk>(
     alloc: Global,
     store: &mut Store,

@@ -84,7 +84,7 @@ fn serve_input<D: Disk>(
     outcome_of(end)
 }
 
-/// Puts the store's trees right, one small step after another, until there is nothing to be done.
+/// Puts the store's trees right, one step after another, until there is nothing to be done.
 fn settle<D: Disk>(alloc: Global, store: &mut Store, disk: &mut D)
     ensures history { store.new.history ≡ store.old.history }
     ensures untouched { disk.new ≡ disk.old }
