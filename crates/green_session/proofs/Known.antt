@@ -1,7 +1,7 @@
 -- Known bytes, one piece after the other.
-use Rattle.std.proofs.Common.{◌≡◌, ℕ, ◌+◌, List, [], ◌++◌, Option, Some, None, take, drop, ap, ◌∙◌, sym, append_assoc, refl}
+use Rattle.std.proofs.Common.{◌≡◌, ◌≢◌, ℕ, ◌+◌, ◌<◌, List, [], ◌++◌, Option, Some, None, length, take, drop, ap, ◌∙◌, sym, append_assoc, refl, arith}
 use Rattle.std.proofs.Math.Seq.{take-add}
-use Rattle.std.proofs.lemmas.List.{append-nil}
+use Rattle.std.proofs.lemmas.List.{append-nil, length-take-le}
 use Rattle.std.specs.Io.KnownBytes.{Appends, Consumes, Keeps}
 
 -- bytes were appended, and then more
@@ -13,7 +13,11 @@ appends_more (Some xs) (Some ys) (Some zs) m n bytes rest e p q =
     q ∙ ap (λ (r : List ℕ). r ++ take n rest) p ∙ append_assoc xs (take m bytes) (take n rest)
     ∙ ap (λ (r : List ℕ). xs ++ (take m bytes ++ take n r)) e ∙ ap (λ (r : List ℕ). xs ++ r) (sym (take-add m n bytes))
 
-pub ruleset known = (appends_more)
+-- fewer of some bytes are not all of them
+pub fewer_bytes : (n : ℕ) (bytes : List ℕ) → n < length bytes → take n bytes ≢ bytes
+fewer_bytes n bytes lt all = absurd (omega (arith, lt, length-take-le n bytes (omega (arith, lt)), ap length all))
+
+pub ruleset known = (appends_more, fewer_bytes)
 
 -- bytes were consumed, and then more
 pub consumes_more : (a b c : Option (List ℕ)) (xs ys : List ℕ) → Consumes a b xs → Consumes b c ys → Consumes a c (xs ++ ys)

@@ -1,14 +1,14 @@
 -- What writing bytes to a sink comes to.
-use Rattle.std.specs.Prelude.{◌≡◌, ℕ, ◌≤◌, List, [], ◌++◌, Option}
+use Rattle.std.specs.Prelude.{◌≡◌, ◌≢◌, ℕ, ◌≤◌, List, [], ◌++◌, Option}
 use Rattle.std.specs.Io.KnownBytes.{Appends}
 use Rattle.green_io.specs.Outside.{HasRisen}
 use Rattle.green_session.specs.declared.put.Put.{Put}
 use Rattle.green_session.specs.declared.put.Put.TheVariants.{Done, WriteFault, Memory}
 
--- all was written; or a prefix of it, and the count of faults rose; or nothing, for want of memory
+-- all was written; or a prefix of it but not all, and the count of faults rose; or nothing, for want of memory
 abbrev pub PutIs : Put → List ℕ → List ℕ → ℕ → ℕ → Type 0
 PutIs Done written bytes before after = written ≡ bytes
-PutIs WriteFault written bytes before after = HasRisen before after
+PutIs WriteFault written bytes before after = HasRisen before after × (written ≢ bytes)
 PutIs Memory written bytes before after = written ≡ []
 
 -- these bytes were written, and are a prefix of what was to be written

@@ -15,7 +15,7 @@ use std::alloc::Global;
 #[derive(Clone, Copy, Debug, PartialEq, Eq)]
 pub enum Put {
     Done,
-    /// The sink failed. A prefix of the bytes may have been written.
+    /// The sink failed. A prefix of the bytes may have been written, but not all of them.
     WriteFault,
     /// There was no memory for the bytes, and nothing was written.
     Memory,

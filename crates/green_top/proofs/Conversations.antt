@@ -4,7 +4,7 @@ use Rattle.std.specs.Prelude.{codes}
 use Rattle.std.specs.List.{flat_map}
 use Rattle.std.specs.Io.KnownBytes.{Appends}
 use Rattle.std.proofs.lemmas.Bool.{eq-eqb}
-use Rattle.std.proofs.lemmas.List.{append-nil, length-append, length-drop}
+use Rattle.std.proofs.lemmas.List.{append-nil, append_cancel_left, length-append, length-drop}
 use Rattle.std.proofs.lemmas.Grind.{fold-append}
 use Rattle.febe_data.specs.LimitsView.{LimitsView}
 use Rattle.febe_data.specs.Plain.{PlainRequest, quit, PlainEntry}
@@ -137,8 +137,8 @@ module _ (limits : LimitsView) (session : ℕ) (h : List PlainEntry) (points : L
     counted = ap (λ (t : TurnsView). t.taken) begun.greeted.turns_are ∙ same_length;
     within = omega (arith, same_length, begun.greeted.within);
     progress = just_begun;
-    cause = put.put;
-    answered_and_written = (request_prefix ((greeting ++ feed.held) ++ []) [] feed given_none begun.greeted.greeted tt, (put.rest, put.prefix));
+    cause = put.put.0;
+    answered_and_written = (request_prefix ((greeting ++ feed.held) ++ []) [] feed given_none begun.greeted.greeted tt, ((put.rest, put.prefix), put.put.1));
   }
 
 -- ---- a round
@@ -264,8 +264,8 @@ module _ (limits : LimitsView) (session : ℕ) (start now after : SessionState) 
       counted = ap (λ (x : TurnsView). x.taken) (counts a.read a.reads);
       within = bounded a.read a.reads;
       progress = answered request put_results.WriteFault a h;
-      cause = risen_since start.io.sink_faults now.io.sink_faults after.io.sink_faults c.moves.sink_never_falls h.put.put;
-      answered_and_written = (one_more request put_results.WriteFault a, (h.put.rest, ap (λ (w : List ℕ). c.written ++ w) h.put.prefix ∙ sym (append_assoc c.written h.put.written h.put.rest)));
+      cause = risen_since start.io.sink_faults now.io.sink_faults after.io.sink_faults c.moves.sink_never_falls h.put.put.0;
+      answered_and_written = (one_more request put_results.WriteFault a, ((h.put.rest, ap (λ (w : List ℕ). c.written ++ w) h.put.prefix ∙ sym (append_assoc c.written h.put.written h.put.rest)), λ all. h.put.put.1 (append_cancel_left c.written h.put.written h.output all)));
     }
     | inr s ↦ absurd (let e = s.memory in cc)
   ]

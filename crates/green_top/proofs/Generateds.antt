@@ -284,7 +284,7 @@ pub tells_whole : (summary bytes : List ℕ) (taken taken' : Option (List ℕ)) 
 tells_whole summary bytes taken taken' k k' is p = record { written = p.written; appended = p.appended; never_falls = p.never_falls; told = p.put ∙ is }
 
 pub tells_part : (summary bytes : List ℕ) (taken taken' : Option (List ℕ)) (k k' : ℕ) → bytes ≡ summary → IsPut taken taken' k k' bytes puts.WriteFault → Tells summary taken taken' k k' ends.WriteFault
-tells_part summary bytes taken taken' k k' is p = record { written = p.written; appended = p.appended; never_falls = p.never_falls; told = ((p.rest, sym is ∙ p.prefix), p.put) }
+tells_part summary bytes taken taken' k k' is p = record { written = p.written; appended = p.appended; never_falls = p.never_falls; told = (((p.rest, sym is ∙ p.prefix), λ all. p.put.1 (all ∙ sym is)), p.put.0) }
 
 pub tells_nothing : (summary : List ℕ) (taken : Option (List ℕ)) (k : ℕ) → Tells summary taken taken k k ends.Memory
 tells_nothing summary taken k = record { written = []; appended = appends_nothing taken; never_falls = omega arith; told = refl }

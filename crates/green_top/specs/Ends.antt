@@ -10,7 +10,7 @@ use Rattle.green_top.specs.declared.session_end.SessionEnd.{SessionEnd}
 use Rattle.green_top.specs.declared.session_end.SessionEnd.TheVariants as ends
 use Rattle.green_top.specs.IoState.{IoState}
 use Rattle.green_top.specs.Requests.{IsNotGreeted, IsGreetedFirst, HasRequestPrefix, AreWholeRequests}
-use Rattle.green_top.specs.Transcript.{IsPrefixOf}
+use Rattle.green_top.specs.Transcript.{IsPrefixOf, IsProperPrefixOf}
 
 -- once a session has given so many bytes, no more are read
 abbrev pub most_input : ℕ
@@ -34,7 +34,7 @@ Cause ends.NoNumber read before after = Unit {0}
 abbrev pub AnsweredAndWritten : SessionEnd → List ℕ → List PlainRequest → List ℕ → List ℕ → Type 0
 AnsweredAndWritten ends.Quit read answered output written = AreWholeRequests read answered × EndsInQuit answered × (written ≡ output)
 AnsweredAndWritten ends.End read answered output written = IsInputOf answered read × NoQuits answered × (written ≡ output)
-AnsweredAndWritten ends.WriteFault read answered output written = HasRequestPrefix read answered × IsPrefixOf written output
+AnsweredAndWritten ends.WriteFault read answered output written = HasRequestPrefix read answered × IsProperPrefixOf written output
 AnsweredAndWritten ends.Memory read answered output written = HasRequestPrefix read answered × IsPrefixOf written output
 AnsweredAndWritten ends.NoNumber read answered output written = ⊥
 AnsweredAndWritten other read answered output written = AreWholeRequests read answered × (written ≡ output)

@@ -14,17 +14,18 @@ use Rattle.green_top.specs.Generated.{generated_requests}
 use Rattle.green_top.specs.IoState.{IoState}
 use Rattle.green_top.specs.Outcome.{NoSession, IsOver}
 use Rattle.green_top.specs.Summary.{replies_of, summary_of}
-use Rattle.green_top.specs.Transcript.{IsPrefixOf}
+use Rattle.green_top.specs.Transcript.{IsProperPrefixOf}
 
 -- these requests are the first of all
 abbrev pub AreFirstOf : List PlainRequest → List PlainRequest → Type 0
 AreFirstOf requests all = (more : List PlainRequest) × (all ≡ requests ++ more)
 
 -- How many of the requests were answered, and how much of the summary was written, in a session that ended so: all, and the whole
--- of it, after a quit; all, and a prefix of it, where the sink failed; some, and none of it, where there was no memory.
+-- of it, after a quit; all, and a prefix of it but not the whole, where the sink failed; some, and none of it, where there was no
+-- memory.
 abbrev pub AnsweredAndSummed : SessionEnd → (all answered : List PlainRequest) (summary written : List ℕ) → Type 0
 AnsweredAndSummed ends.Quit all answered summary written = (answered ≡ all) × (written ≡ summary)
-AnsweredAndSummed ends.WriteFault all answered summary written = (answered ≡ all) × IsPrefixOf written summary
+AnsweredAndSummed ends.WriteFault all answered summary written = (answered ≡ all) × IsProperPrefixOf written summary
 AnsweredAndSummed ends.Memory all answered summary written = AreFirstOf answered all × (written ≡ [])
 AnsweredAndSummed other all answered summary written = ⊥
 

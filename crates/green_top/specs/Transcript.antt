@@ -1,5 +1,5 @@
 -- What a session's requests, replies and points have to do with the history.
-use Rattle.std.specs.Prelude.{⊤, take, true, ◌≡◌, ◌⊎◌, ℕ, ◌+◌, ◌-◌, ◌^◌, ◌<◌, ◌≤◌, List, [], ◌∷◌, ◌++◌, length, map, filter, All, codes}
+use Rattle.std.specs.Prelude.{⊤, take, true, ◌≡◌, ◌≢◌, ◌⊎◌, ℕ, ◌+◌, ◌-◌, ◌^◌, ◌<◌, ◌≤◌, List, [], ◌∷◌, ◌++◌, length, map, filter, All, codes}
 use Rattle.std.specs.List.{flat_map, AllByRecursion}
 use Rattle.std.specs.List.Sorted.{IsNonDecreasing}
 use Rattle.febe_data.specs.LimitsView.{LimitsView}
@@ -14,6 +14,10 @@ use Rattle.green_store.specs.Sessions.{begin_entry}
 -- the first bytes are a prefix of the whole
 abbrev pub IsPrefixOf : List ℕ → List ℕ → Type 0
 IsPrefixOf prefix whole = (rest : List ℕ) × (whole ≡ prefix ++ rest)
+
+-- the same, and they are not the whole
+abbrev pub IsProperPrefixOf : List ℕ → List ℕ → Type 0
+IsProperPrefixOf prefix whole = IsPrefixOf prefix whole × (prefix ≢ whole)
 
 -- what a session is greeted with, and then its replies
 abbrev pub output_of : List Exchange → List ℕ

@@ -15,7 +15,7 @@ use Rattle.green_top.specs.Ends.{AllNumbersTaken}
 use Rattle.green_top.specs.Generated.{generated_requests}
 use Rattle.green_top.specs.GeneratedRun.{IsSummedSession}
 use Rattle.green_top.specs.Outcome.{NoSession, IsOver}
-use Rattle.green_top.specs.Transcript.{IsPrefixOf}
+use Rattle.green_top.specs.Transcript.{IsProperPrefixOf}
 
 -- how many documents a change makes
 abbrev pub documents_by : PlainChange → ℕ
@@ -46,7 +46,7 @@ pub record IsOutput (output : List ℕ) (replies : List PlainReply) : Type 0 whe
 -- how much of the summary was written, where a session ended so
 abbrev pub TellsBy : SessionEnd → (summary written : List ℕ) → (faults_before faults_after : ℕ) → Type 0
 TellsBy ends.Quit summary written faults_before faults_after = written ≡ summary
-TellsBy ends.WriteFault summary written faults_before faults_after = IsPrefixOf written summary × HasRisen faults_before faults_after
+TellsBy ends.WriteFault summary written faults_before faults_after = IsProperPrefixOf written summary × HasRisen faults_before faults_after
 TellsBy ends.Memory summary written faults_before faults_after = written ≡ []
 TellsBy other summary written faults_before faults_after = ⊥
 
