@@ -20,7 +20,7 @@ use Rattle.enfilade_core.proofs.Heights.{rows_height}
 use Rattle.enfilade_core.proofs.Parts.{names_below, rows-said, summary-said, right-now}
 use Rattle.enfilade_core.proofs.ExchangeGrown.{flat_rows}
 use Rattle.enfilade_core.proofs.ExchangeNodes.{level-height}
-use Rattle.enfilade_balance.specs.Laws.{DebtsStay, StepsAreCounted, SettledTreesAreFull}
+use Rattle.enfilade_balance.specs.Laws.{StandingsOfChildren, DebtsStay, StepsAreCounted, start, wait, step, SettledTreesAreFull}
 use Rattle.enfilade_balance.proofs.Owed.{standing-said, standing-grown}
 use Rattle.enfilade_balance.proofs.Rooting.{same-debt}
 
@@ -37,9 +37,15 @@ debts-stay {L} w nodes right more k lt =
 
 -- ---- steps in turn
 
-pub steps-counted : StepsAreCounted
-steps-counted debt [] lowers = omega arith
-steps-counted debt (next ∷ more) lowers = let rest = steps-counted next more lowers.1 in omega (arith, rest, lowers.0)
+pub steps-counted : {L : Type 0} (nodes : List (Shape L)) → StepsAreCounted nodes
+steps-counted nodes root now at steps start = omega arith
+steps-counted nodes root new at steps (wait {now = now} run grows same) = let before = steps-counted nodes root now at steps run in omega (arith, before, same)
+steps-counted nodes root new after next (step {now = now} {at = at} {steps = steps} run is) = let before = steps-counted nodes root now at steps run in omega (arith, before, is.lowers)
+
+-- ---- node by node
+
+pub standings-of-children : {L : Type 0} (w : Widths L) (nodes : List (Shape L)) → AreRight w nodes → StandingsOfChildren nodes
+standings-of-children w nodes right k lt = standing-said w nodes k right lt
 
 -- ---- trees in which no step is allowed
 

@@ -152,7 +152,7 @@ fn bytes_of(rt: &impl Abort, alloc: Global, runs: &[Run]) -> List<Byte> {
     bytes
 }
 
-/// Asserts that a position shows what it does in the plain list.
+/// Asserts that a position shows what it does in the plain list, and that each level of nodes was visited once for it.
 fn shows(rt: &impl Abort, poom: &Poom, document: &Document, n: u32)
     requires { IsRoot poom.now document.now.root.0 }
 {
@@ -167,6 +167,8 @@ fn shows(rt: &impl Abort, poom: &Poom, document: &Document, n: u32)
     let byte = expected.first().expect(rt, "no byte past the end");
     assert!(rt; found.number == byte.number);
     assert!(rt; found.document.places().last() == Some(&byte.home));
+    let depth = poom.arena().depth(document.root);
+    assert!(rt; found.visits == depth);
 }
 
 /// Asserts that so many positions from one on show what they do in the plain list.
@@ -527,6 +529,8 @@ fn edits(rt: &impl Abort, alloc: Global, seed: u32) {
     for _ in 0..300u32 {
         three = step(rt, &mut poom, &mut random, three);
     }
+    let depth = poom.arena().depth(three.one.root);
+    assert!(rt; 2 <= depth);
 }
 
 #[test]
