@@ -13,4 +13,4 @@ mod writing;
 
 pub use febe_data::{Memory, Reply, Text};
 pub use got::{GotReply, read_reply};
-pub use writing::write_reply;
+pub use writing::{ReplyParts, reply_parts, write_reply};

@@ -1,16 +1,17 @@
 //! A reply's bytes: its number, and what it gives.
-ghost use Rattle.std.specs.Prelude.{◌≡◌, ◌++◌, OnOk, IfOk};
+ghost use Rattle.std.specs.Prelude.{◌≡◌, ◌≤◌, ◌++◌, ◌∷◌, [], length, codes, decimal, OnOk, IfOk, IfSome};
 ghost use Rattle.std.specs.List.{flat_map};
-ghost use Rattle.febe_data.specs.Plain.{plain_reply};
+ghost use Rattle.febe_data.specs.Plain.{plain_reply, retrieved, bytes};
 ghost use Rattle.febe_data.specs.FieldValues.{reply_values};
-ghost use Rattle.febe_data.specs.Spelling.{spell_value};
+ghost use Rattle.febe_data.specs.Spelling.{spell_number, spell_value};
 ghost use Rattle.febe_data.specs.Validity.{IsReply};
 ghost use Rattle.febe_reply.specs.ReplyGrammar.{reply_head, spell_reply};
 
 use febe_data::{
-    List, Memory, Reply, Text, append_diagonals, append_items, append_number, append_span,
+    Item, List, Memory, Reply, Text, append_diagonals, append_items, append_number, append_span,
     append_spans, append_specs, append_tumbler, append_tumblers,
 };
+use itoa::Buffer;
 use std::alloc::Global;
 
 fn append_head(out: &mut Text, reply: &Reply) -> Result<(), Memory>
@@ -88,4 +89,58 @@ pub fn write_reply(alloc: Global, reply: &Reply) -> Result<Text, Memory>
     append_head(&mut out, reply)?;
     append_payload(&mut out, reply)?;
     Ok(out)
+}
+
+/// Texts of so many bytes and more are not copied to be written.
+const LONG_TEXT: usize = 65_536;
+
+/// A reply's bytes in two parts, one behind the other.
+#[derive(Drop)]
+pub struct ReplyParts<'a> {
+    pub head: Text,
+    /// A long text that stands in the reply, or nothing.
+    pub text: &'a [u8],
+}
+
+/// The text of a reply that gives one long text and nothing else.
+fn long_text(reply: &Reply) -> Option<&[u8]>
+    ensures { IfSome result (λ text. plain_reply reply.now ≡ retrieved (bytes text.now ∷ [])) }
+{
+    let Reply::Retrieved(items) = reply else {
+        return None;
+    };
+    let [Item::Bytes(text)] = items.as_slice() else {
+        return None;
+    };
+    if text.len() < LONG_TEXT {
+        return None;
+    }
+    Some(text.as_slice())
+}
+
+/// What stands before the bytes of a text of this length in a reply that gives it alone.
+fn text_head(alloc: Global, length: u32) -> Result<Text, Memory>
+    ensures { IfOk result (λ head. head.items ≡ spell_number 5 ++ spell_number 1 ++ codes "t" ++ decimal length ++ codes ":") }
+{
+    let mut out = List::new(alloc);
+    append_number(&mut out, 5)?;
+    append_number(&mut out, 1)?;
+    out.push(b't')?;
+    let mut buffer = Buffer::new();
+    out.extend_from_slice(buffer.format(length).as_bytes())?;
+    out.push(b':')?;
+    Ok(out)
+}
+
+/// The one spelling of the reply, of which a long text is not copied.
+pub fn reply_parts(alloc: Global, reply: &Reply) -> Result<ReplyParts<'_>, Memory>
+    requires { IsReply (plain_reply reply.now) }
+    ensures { IfOk result (λ parts. parts.head.items ++ parts.text.now ≡ spell_reply (plain_reply reply.now)) }
+{
+    let Some(text) = long_text(reply) else {
+        let head = write_reply(alloc, reply)?;
+        return Ok(ReplyParts { head, text: &[] });
+    };
+    let head = text_head(alloc, text.len() as u32)?;
+    Ok(ReplyParts { head, text })
 }

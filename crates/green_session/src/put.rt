@@ -7,7 +7,7 @@ ghost use Rattle.green_session.specs.Putting.{IsPut};
 ghost use Rattle.green_session.specs.declared.put.Put.TheVariants.{Memory};
 
 use febe_data::Reply;
-use febe_reply::write_reply;
+use febe_reply::reply_parts;
 use green_io::{Sink, WriteAnswer};
 use std::alloc::Global;
 
@@ -42,8 +42,11 @@ pub fn put_reply<K: Sink>(alloc: Global, sink: &mut K, reply: &Reply) -> Put
     requires { IsReply (plain_reply reply.now) }
     ensures put { IsPut (K.taken sink.old) (K.taken sink.new) (K.fault_count sink.old) (K.fault_count sink.new) (spell_reply (plain_reply reply.now)) result }
 {
-    let Ok(text) = write_reply(alloc, reply) else {
+    let Ok(parts) = reply_parts(alloc, reply) else {
         return Put::Memory;
     };
-    put_bytes(sink, text.as_slice())
+    match put_bytes(sink, parts.head.as_slice()) {
+        Put::Done => put_bytes(sink, parts.text),
+        short => short,
+    }
 }

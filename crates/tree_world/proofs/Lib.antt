@@ -24,6 +24,7 @@ pub mod SameRows
 pub mod Balanced
 pub mod Marked
 pub mod Swept
+pub mod Conditions
 pub mod Made
 pub mod Edited
 pub mod Seen

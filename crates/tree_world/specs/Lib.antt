@@ -5,4 +5,5 @@ pub mod Standing
 pub mod Changed
 pub mod Undone
 pub mod Condition
+pub mod Laws
 pub mod inside

@@ -12,6 +12,7 @@ mod ends;
 mod finds;
 mod indexing;
 mod inserting;
+pub mod laws;
 mod link_making;
 mod linking;
 mod lookups;

@@ -86,6 +86,15 @@ impl TreeWorld {
     }
 }
 
+/// How many bytes runs have.
+fn room_for(runs: &[Run]) -> usize {
+    let mut bytes: usize = 0;
+    for run in runs {
+        bytes = bytes.saturating_add(run.length as usize);
+    }
+    bytes
+}
+
 /// The bytes of runs, one run after the other.
 #[tactic(auto, using(crate::proofs::Retrieved::run_steps))]
 fn text_of(alloc: Global, contents: &Granfilade, runs: &[Run]) -> Result<Text, Memory>
@@ -94,6 +103,7 @@ fn text_of(alloc: Global, contents: &Granfilade, runs: &[Run]) -> Result<Text, M
     ensures { IfOk result (λ text. text.items ≡ bytes_found (content contents.now) (run_addresses runs.now)) }
 {
     let mut text = List::new(alloc);
+    text.reserve(room_for(runs))?;
     for run in runs {
         contents.bytes_of(&run_span(run), &mut text)?;
     }
