@@ -1,8 +1,6 @@
 -- Rows that do not meet a span have no byte in it.
-use Rattle.std.proofs.Common.{◌≡◌, ℕ, ◌<◌, Bool, true, false, not, cond, List, [], ◌∷◌, ◌++◌, length, map, refl, arith, ap, ◌∙◌, sym, subst, inl}
-use Rattle.std.specs.List.{All, filter}
+use Rattle.std.proofs.Common.{◌≡◌, ℕ, ◌<◌, Bool, true, false, not, [], length, refl, arith, sym, subst, inl}
 use Rattle.std.proofs.lemmas.Bool.{and_parts, not-true, both_ways}
-use Rattle.std.proofs.lemmas.List.Elements.{All-head, All-tail, All-filter}
 use Rattle.tumbler.specs.ListView.{ListView}
 use Rattle.tumbler.specs.Places.{IsTumbler, IsBefore, comes_before, width_at}
 use Rattle.tumbler.specs.Span.{Share, end_of}
@@ -12,21 +10,17 @@ use Rattle.tumbler.proofs.Spans.{are_places}
 use Rattle.tumbler.proofs.Sums.{sum-upto}
 use Rattle.tumbler.proofs.Widths.{EndsWell-width_at}
 use Rattle.enfilade_core.specs.declared.tree.Row.{Row}
-use Rattle.enfilade_core.specs.Rows.{Shape, rows_of}
 use Rattle.enfilade_core.specs.Axes.{first_axis, IsRightRow}
-use Rattle.enfilade_core.specs.Right.{AreRight}
-use Rattle.enfilade_core.specs.Plain.{plain_row}
-use Rattle.enfilade_core.specs.Planes.{content_widths, plain_text}
-use Rattle.enfilade_core.proofs.Parts.{rows-right}
+use Rattle.enfilade_core.specs.Planes.{content_widths}
 use Rattle.enfilade_search.specs.Meeting.{meets}
 use Rattle.enfilade_search.specs.Laws.{span_on}
 use Rattle.enfilade_search.proofs.Touching.{meets_exactly}
-use Rattle.granfilade.specs.Content.{so_far_on, laid_row, laid_out, lies_in, bytes_in}
+use Rattle.granfilade.specs.Content.{so_far_on, laid_row, lies_in, bytes_in}
 use Rattle.granfilade.proofs.Stepping.{step_is_tumbler, steps-before}
-use Rattle.granfilade.proofs.Picking.{part-outside, bytes_in-append}
+use Rattle.granfilade.proofs.Picking.{part-outside}
 use Rattle.granfilade.proofs.RightRows.{row_filled, row_end, row_room}
 
-abbrev is_met : Span → Row (ListView ℕ) → Bool
+abbrev pub is_met : Span → Row (ListView ℕ) → Bool
 is_met span row = meets (first_axis content_widths) span row
 
 shared : (span : Span) (row : Row (ListView ℕ)) (j : ℕ) → IsRightRow content_widths row → j < length row.leaf.items → lies_in span (so_far_on row.first j) ≡ true → Share (span_on (first_axis content_widths) row) span
@@ -47,32 +41,7 @@ outside : (b : Bool) → (b ≡ true → ⊥) → b ≡ false
 outside true h = absurd (h refl)
 outside false h = refl
 
-no_part : (span : Span) (row : Row (ListView ℕ)) → IsTumbler span.start → IsRightRow content_widths row → is_met span row ≡ false → bytes_in span (laid_row row) ≡ []
+pub no_part : (span : Span) (row : Row (ListView ℕ)) → IsTumbler span.start → IsRightRow content_widths row → is_met span row ≡ false → bytes_in span (laid_row row) ≡ []
 no_part span row t right not_met =
     part-outside span row.first row.leaf.items (λ j lt. outside (lies_in span (so_far_on row.first j)) (λ h.
     both_ways (is_met span row) not_met (((meets_exactly content_widths).first span row t right).1 (inl ((right.proper.0 refl).0, shared span row j right lt h)))))
-
-found-one : (span : Span) (row : Row (ListView ℕ)) (rows : List (Row (ListView ℕ))) (b : Bool) → is_met span row ≡ b → (b ≡ false → bytes_in span (laid_row row) ≡ [])
-    → bytes_in span (laid_out (filter (is_met span) rows)) ≡ bytes_in span (laid_out rows) → bytes_in span (laid_out (filter (is_met span) (row ∷ rows))) ≡ bytes_in span (laid_out (row ∷ rows))
-found-one span row rows true is none more =
-    ap (λ t. bytes_in span (laid_out (cond t (row ∷ filter (is_met span) rows) (filter (is_met span) rows)))) is
-    ∙ bytes_in-append span (laid_row row) (laid_out (filter (is_met span) rows)) ∙ ap (λ bs. bytes_in span (laid_row row) ++ bs) more ∙ sym (bytes_in-append span (laid_row row) (laid_out rows))
-found-one span row rows false is none more =
-    ap (λ t. bytes_in span (laid_out (cond t (row ∷ filter (is_met span) rows) (filter (is_met span) rows)))) is
-    ∙ more ∙ ap (λ bs. bs ++ bytes_in span (laid_out rows)) (sym (none refl)) ∙ sym (bytes_in-append span (laid_row row) (laid_out rows))
-
-found-all : (span : Span) (rows : List (Row (ListView ℕ))) → IsTumbler span.start → All (IsRightRow content_widths) rows → bytes_in span (laid_out (filter (is_met span) rows)) ≡ bytes_in span (laid_out rows)
-found-all span [] t all = refl
-found-all span (row ∷ rows) t all =
-    found-one span row rows (is_met span row) refl (no_part span row t (All-head (IsRightRow content_widths) row rows all)) (found-all span rows t (All-tail (IsRightRow content_widths) row rows all))
-
--- the rows that were found are right, and have all bytes of the tree that are in the span
-pub found-right : (span : Span) (nodes : List (Shape (ListView ℕ))) (root : ℕ) (found : List (Row (ListView ℕ))) → AreRight content_widths nodes → root < length nodes
-    → map (plain_row plain_text) found ≡ filter (is_met span) (rows_of nodes root) → All (IsRightRow content_widths) (map (plain_row plain_text) found)
-found-right span nodes root found right below is =
-    subst (All (IsRightRow content_widths)) (sym is) (All-filter (is_met span) (IsRightRow content_widths) (rows_of nodes root) (rows-right content_widths nodes root right below))
-
-pub found-bytes : (span : Span) (nodes : List (Shape (ListView ℕ))) (root : ℕ) (found : List (Row (ListView ℕ))) → IsTumbler span.start → AreRight content_widths nodes → root < length nodes
-    → map (plain_row plain_text) found ≡ filter (is_met span) (rows_of nodes root) → bytes_in span (laid_out (map (plain_row plain_text) found)) ≡ bytes_in span (laid_out (rows_of nodes root))
-found-bytes span nodes root found t right below is =
-    ap (λ (rs : List (Row (ListView ℕ))). bytes_in span (laid_out rs)) is ∙ found-all span (rows_of nodes root) t (rows-right content_widths nodes root right below)

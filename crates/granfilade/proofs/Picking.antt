@@ -1,18 +1,13 @@
 -- The bytes that lie in a span.
-use Rattle.std.proofs.Common.{◌≡◌, ℕ, zero, suc, ◌+◌, ◌-◌, ◌<◌, ◌≤◌, Bool, true, false, not, ◌&&◌, cond, ltb, List, [], ◌∷◌, ◌++◌, length, get_or, take, drop, map, refl, arith, ap, ◌∙◌, sym, inl, inr, append_assoc, append-nil}
+use Rattle.std.proofs.Common.{◌≡◌, ℕ, zero, suc, ◌+◌, ◌-◌, ◌<◌, ◌≤◌, Bool, true, false, not, ◌&&◌, cond, ltb, List, [], ◌∷◌, ◌++◌, length, take, drop, map, refl, arith, ap, ◌∙◌, sym, inl, inr, append-nil}
 use Rattle.std.specs.List.{filter}
 use Rattle.std.proofs.lemmas.Bool.{cases_lt, lt-ltb, le-ltb}
-use Rattle.std.proofs.lemmas.List.{map-append, take_more, take_all, take_at, drop-take}
+use Rattle.std.proofs.lemmas.List.{map-append, drop-take}
 use Rattle.std.proofs.lemmas.List.Elements.{filter-append}
-use Rattle.std.proofs.lemmas.Grind.{flat_map-append}
-use Rattle.tumbler.specs.ListView.{ListView}
 use Rattle.tumbler.specs.Places.{comes_before}
 use Rattle.tumbler.specs.Span.{end_of}
 use Rattle.tumbler.specs.declared.span.Span.{Span}
-use Rattle.enfilade_core.specs.declared.tree.Row.{Row}
-use Rattle.enfilade_core.specs.Plain.{plain_row}
-use Rattle.enfilade_core.specs.Planes.{plain_text}
-use Rattle.granfilade.specs.Content.{ByteAt, so_far_on, laid_from, laid, laid_row, laid_out, lies_in, bytes_in}
+use Rattle.granfilade.specs.Content.{ByteAt, so_far_on, laid_from, laid, lies_in, bytes_in}
 
 -- ---- of one row
 
@@ -121,30 +116,3 @@ part-outside span start bytes out = picked span start 0 0 0 bytes (λ j h. out j
 pub bytes_in-append : (span : Span) (xs ys : List ByteAt) → bytes_in span (xs ++ ys) ≡ bytes_in span xs ++ bytes_in span ys
 bytes_in-append span xs ys =
     ap (map (λ (b : ByteAt). b.byte)) (filter-append (λ b. lies_in span b.address) xs ys) ∙ map-append (λ (b : ByteAt). b.byte) (filter (λ b. lies_in span b.address) xs) (filter (λ b. lies_in span b.address) ys)
-
-pub parts-more : (span : Span) (rows : List (Row (ListView ℕ))) (i : ℕ) (row : Row (ListView ℕ)) (held so_far now : List ℕ) → i < length rows → row ≡ get_or rows i row
-    → so_far ≡ held ++ bytes_in span (laid_out (map (plain_row plain_text) (take i rows))) → now ≡ so_far ++ bytes_in span (laid_row row)
-    → now ≡ held ++ bytes_in span (laid_out (map (plain_row plain_text) (take (i + 1) rows)))
-parts-more span rows i row held so_far now lt at before is =
-    let plain = map (plain_row plain_text) in
-    let front = plain (take i rows) in
-    let one : laid_out (plain (row ∷ [])) ≡ laid_row row = append-nil (laid_row row) in
-    let more : plain (take (i + 1) rows) ≡ front ++ plain (row ∷ []) =
-    ap plain (take_more rows i row lt ∙ ap (λ (r : Row (ListView ℕ)). take i rows ++ r ∷ []) (sym at)) ∙ map-append (plain_row plain_text) (take i rows) (row ∷ []) in
-    is ∙ ap (λ bs. bs ++ bytes_in span (laid_row row)) before
-    ∙ append_assoc held (bytes_in span (laid_out front)) (bytes_in span (laid_row row))
-    ∙ ap (λ bs. held ++ bs) (sym (bytes_in-append span (laid_out front) (laid_row row)))
-    ∙ ap (λ bs. held ++ bytes_in span (laid_out front ++ bs)) (sym one)
-    ∙ ap (λ bs. held ++ bytes_in span bs) (sym (flat_map-append laid_row front (plain (row ∷ []))))
-    ∙ ap (λ (rs : List (Row (ListView ℕ))). held ++ bytes_in span (laid_out rs)) (sym more)
-
-pub parts-none : (span : Span) (rows : List (Row (ListView ℕ))) (held : List ℕ) → held ≡ held ++ bytes_in span (laid_out (map (plain_row plain_text) (take 0 rows)))
-parts-none span rows held = sym (append-nil held)
-
-pub parts-all : (span : Span) (rows : List (Row (ListView ℕ))) (i : ℕ) (held now : List ℕ) → length rows ≤ i → now ≡ held ++ bytes_in span (laid_out (map (plain_row plain_text) (take i rows)))
-    → now ≡ held ++ bytes_in span (laid_out (map (plain_row plain_text) rows))
-parts-all span rows i held now le is = is ∙ ap (λ (rs : List (Row (ListView ℕ))). held ++ bytes_in span (laid_out (map (plain_row plain_text) rs))) (take_all i rows le)
-
--- what was held stays in front
-pub held_front : (held more now : List ℕ) → now ≡ held ++ more → take (length held) now ≡ held
-held_front held more now is = ap (take (length held)) is ∙ take_at held more (length held) refl

@@ -12,10 +12,9 @@ ghost use Rattle.granfilade.specs.Puts.{IsNext, IsContent, put_in};
 
 use crate::leaves::leaves;
 use crate::lengthened::last_lengthened;
-use crate::parts::append_parts;
+use crate::reading::append_node;
 use enfilade_balance::{Balance, balance_step};
 use enfilade_core::{Arena, ContentPlane, Gap, Node, TreeMark};
-use enfilade_search::overlapping;
 use std::alloc::Global;
 use std::marker::Model;
 use tumbler::{Memory, Span, Text, Tumbler};
@@ -156,10 +155,11 @@ impl Granfilade {
         ensures ok { OnOk result (into.new.items ≡ into.old.items ++ bytes_in span.now (content self.now)) }
         ensures kept { take (length into.old.items) into.new.items ≡ into.old.items }
     {
-        let _alloc = self.arena.allocator();
+        let alloc = self.arena.allocator();
         let _places = span.start.places();
-        let rows = overlapping(&self.arena, self.root, span)?;
-        append_parts(rows.as_slice(), span, into)
+        let end = span.start.add(&span.width);
+        let zero = Tumbler::zero(alloc);
+        append_node(&self.arena, self.root, &zero, &zero, span, &end, into)
     }
 }
 

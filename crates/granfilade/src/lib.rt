@@ -5,6 +5,7 @@ mod granfilade;
 mod leaves;
 mod lengthened;
 mod parts;
+mod reading;
 #[cfg(test)]
 mod tests;
 

@@ -1,11 +1,13 @@
-//! The part of a row's bytes that lies in a span.
-ghost use Rattle.std.specs.Prelude.{◌≡◌, ◌≢◌, ℕ, ◌+◌, ◌<◌, ◌≤◌, ◌++◌, [], nat_lt, length, take, map, All, IfSome, OnOk, OnErr};
-ghost use Rattle.tumbler.specs.Places.{place_bound, comes_before};
-ghost use Rattle.tumbler.specs.Span.{SpanFits};
-ghost use Rattle.enfilade_core.specs.Axes.{IsRightRow};
+//! The part of rows' bytes that lies in a span.
+ghost use Rattle.std.specs.Prelude.{◌≡◌, ◌≢◌, ℕ, ◌+◌, ◌<◌, ◌≤◌, ◌++◌, [], nat_lt, length, map, All, IfSome, OnOk, OnErr};
+ghost use Rattle.std.specs.Io.{StartsWith};
+ghost use Rattle.tumbler.specs.Places.{place_bound, IsTumbler, comes_before};
+ghost use Rattle.tumbler.specs.Span.{end_of};
+ghost use Rattle.enfilade_core.specs.Rows.{moved};
+ghost use Rattle.enfilade_core.specs.Axes.{IsRightRow, InOrder};
 ghost use Rattle.enfilade_core.specs.Plain.{plain_row};
 ghost use Rattle.enfilade_core.specs.Planes.{content_widths, plain_text};
-ghost use Rattle.granfilade.specs.Content.{so_far_on, laid_row, laid_out, bytes_in};
+ghost use Rattle.granfilade.specs.Content.{so_far_on, laid, laid_out, bytes_in};
 ghost use Rattle.granfilade.specs.Steps.{last_of};
 
 use enfilade_core::Row;
@@ -59,31 +61,50 @@ fn count_before(start: &Tumbler, count: usize, at: &Tumbler) -> usize
     low
 }
 
-/// The bytes of a row whose address is in a span, behind `into`.
-fn append_part(row: &Row<Text>, span: &Span, into: &mut Text) -> Result<(), Memory>
-    requires right { IsRightRow content_widths (plain_row plain_text row.now) }
-    requires fits { SpanFits span.now }
-    ensures ok { OnOk result (into.new.items ≡ into.old.items ++ bytes_in span.now (laid_row row.now)) }
+/// The bytes that stand from an address on and are in a span, which ends there, behind `into`.
+fn append_part(
+    first: &Tumbler,
+    bytes: &[u8],
+    span: &Span,
+    end: &Tumbler,
+    into: &mut Text,
+) -> Result<(), Memory>
+    requires filled { first.now ≢ [] }
+    requires room { last_of first.now + length bytes.now < place_bound }
+    requires end { end.now ≡ end_of span.now }
+    ensures ok { OnOk result (into.new.items ≡ into.old.items ++ bytes_in span.now (laid first.now bytes.now)) }
     ensures err { OnErr result (into.new ≡ into.old) }
 {
-    let bytes = row.leaf.as_slice();
-    let from = count_before(&row.first, bytes.len(), &span.start);
-    let to = count_before(&row.first, bytes.len(), &span.start.add(&span.width));
+    let from = count_before(first, bytes.len(), &span.start);
+    let to = count_before(first, bytes.len(), end);
     if to <= from {
         return Ok(());
     }
     into.extend_from_slice(&bytes[from..to])
 }
 
-/// The bytes of rows whose address is in a span, behind `into`.
-pub(crate) fn append_parts(rows: &[Row<Text>], span: &Span, into: &mut Text) -> Result<(), Memory>
-    requires right { All (IsRightRow content_widths) (map (plain_row plain_text) rows.now) }
-    requires fits { SpanFits span.now }
-    ensures ok { OnOk result (into.new.items ≡ into.old.items ++ bytes_in span.now (laid_out (map (plain_row plain_text) rows.now))) }
-    ensures kept { take (length into.old.items) into.new.items ≡ into.old.items }
+/// The bytes of rows, seen from a base, whose address is in a span, which ends there, behind `into`.
+pub(crate) fn append_rows(
+    rows: &[Row<Text>],
+    first: &Tumbler,
+    second: &Tumbler,
+    span: &Span,
+    end: &Tumbler,
+    into: &mut Text,
+) -> Result<(), Memory>
+    requires right { All (IsRightRow content_widths) (map (moved first.now second.now) (map (plain_row plain_text) rows.now)) }
+    requires ordered { InOrder (map (moved first.now second.now) (map (plain_row plain_text) rows.now)) }
+    requires start { IsTumbler span.now.start }
+    requires end { end.now ≡ end_of span.now }
+    ensures ok { OnOk result (into.new.items ≡ into.old.items ++ bytes_in span.now (laid_out (map (moved first.now second.now) (map (plain_row plain_text) rows.now)))) }
+    ensures err { OnErr result (StartsWith into.new.items into.old.items) }
 {
     for row in rows {
-        append_part(row, span, into)?;
+        let at = first.add(&row.first);
+        if !at.is_before(end) {
+            return Ok(());
+        }
+        append_part(&at, row.leaf.as_slice(), span, end, into)?;
     }
     Ok(())
 }
