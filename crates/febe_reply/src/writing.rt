@@ -91,14 +91,15 @@ pub fn write_reply(alloc: Global, reply: &Reply) -> Result<Text, Memory>
     Ok(out)
 }
 
-/// Texts of so many bytes and more are not copied to be written.
+/// A text that a reply gives alone is not copied to be written where it has so many bytes or more.
 const LONG_TEXT: usize = 65_536;
 
 /// A reply's bytes in two parts, one behind the other.
 #[derive(Drop)]
 pub struct ReplyParts<'a> {
+    /// What comes first: the whole reply where `text` is empty.
     pub head: Text,
-    /// A long text that stands in the reply, or nothing.
+    /// The one text of the reply, of 65,536 bytes or more; or nothing.
     pub text: &'a [u8],
 }
 
@@ -132,7 +133,10 @@ fn text_head(alloc: Global, length: u32) -> Result<Text, Memory>
     Ok(out)
 }
 
-/// The one spelling of the reply, of which a long text is not copied.
+/// The one spelling of the reply, in two parts.
+///
+/// A text of 65,536 bytes or more that the reply gives alone is lent. Any other reply stands in `head` as a whole. Want of
+/// memory is the only error.
 pub fn reply_parts(alloc: Global, reply: &Reply) -> Result<ReplyParts<'_>, Memory>
     requires { IsReply (plain_reply reply.now) }
     ensures { IfOk result (λ parts. parts.head.items ++ parts.text.now ≡ spell_reply (plain_reply reply.now)) }

@@ -53,6 +53,12 @@ halved-done start count at low high le h k lt = elim (cases_lt k low) [
   | inr from ↦ h.back k (omega (arith, le, from)) lt ∙ sym (le-ltb k low from)
 ]
 
+-- all come before the place where the last one does
+pub all-before : (start : List ℕ) (count : ℕ) (at : List ℕ) → start ≢ [] → 0 < count → comes_before (so_far_on start (count - 1)) at ≡ true → (k : ℕ) → k < count → comes_before (so_far_on start k) at ≡ ltb k count
+all-before start count at some few here k lt =
+    let same : count - 1 + 1 ≡ count = omega (arith, few) in
+    halved-done start count at (count - 1 + 1) count (omega (arith, few)) (halved-up start count at 0 count (count - 1) some (omega (arith, few)) here (halved-first start count at)) k lt ∙ ap (ltb k) same
+
 -- ---- a place that differs at the last place at most
 
 step_at_last : (front : List ℕ) (l k : ℕ) → so_far_on (front ++ l ∷ []) k ≡ front ++ (l + k) ∷ []

@@ -48,6 +48,9 @@ fn count_before(start: &Tumbler, count: usize, at: &Tumbler) -> usize
     if let Some(found) = count_beside(start, count, at) {
         return found;
     }
+    if count == 0 || so_far_on(start, count - 1).is_before(at) {
+        return count;
+    }
     let mut low = 0;
     let mut high = count;
     while low < high {
@@ -61,7 +64,7 @@ fn count_before(start: &Tumbler, count: usize, at: &Tumbler) -> usize
     low
 }
 
-/// The bytes that stand from an address on and are in a span, which ends there, behind `into`.
+/// Adds to `into` the bytes, laid out from `first` on, whose address is in the span, where `end` is the span's end.
 fn append_part(
     first: &Tumbler,
     bytes: &[u8],
@@ -83,7 +86,7 @@ fn append_part(
     into.extend_from_slice(&bytes[from..to])
 }
 
-/// The bytes of rows, seen from a base, whose address is in a span, which ends there, behind `into`.
+/// Adds to `into` the bytes of rows, seen from a base, whose address is in the span, where `end` is the span's end.
 pub(crate) fn append_rows(
     rows: &[Row<Text>],
     first: &Tumbler,

@@ -1,4 +1,4 @@
-//! Reading goes over the nodes below which bytes can be that are asked for, and copies these bytes alone.
+//! Reading goes down to the nodes that can have bytes of the span, and copies those bytes alone.
 ghost use Rattle.std.specs.Prelude.{◌≡◌, ◌++◌, IfOk, OnOk, OnErr};
 ghost use Rattle.std.specs.Io.{StartsWith};
 ghost use Rattle.tumbler.specs.Places.{IsTumbler, comes_before, sum};
@@ -12,7 +12,7 @@ use crate::parts::append_rows;
 use enfilade_core::{Arena, Branch, Children, ContentPlane, Node};
 use tumbler::{Memory, Span, Text, Tumbler};
 
-/// The bytes below a node, seen from a base, whose address is in a span, which ends there, behind `into`.
+/// Adds to `into` the bytes below a node, seen from a base, whose address is in the span, where `end` is the span's end.
 #[cycle(below)]
 #[tactic(auto, using(crate::proofs::ReadBytes::fronts))]
 pub(crate) fn append_node(
@@ -45,8 +45,8 @@ pub(crate) fn append_node(
     }
 }
 
-/// The same of a child, where its node is seen from a base. The answer is whether bytes behind the child can be asked
-/// for too.
+/// The same of what is below a child of a node that is seen from a base. The answer is whether bytes behind the child can
+/// be in the span too.
 #[cycle(below)]
 fn append_child(
     arena: &Arena<ContentPlane>,

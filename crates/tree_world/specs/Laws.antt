@@ -19,7 +19,7 @@ pub record EachReached (trees : Trees) : Type 0 where
   pub three : AllReached trees.links.three.nodes (trees.links.three.root.0 ∷ [])
   pub documents : AllReached trees.nodes (roots_in trees.documents)
 
--- each is where the condition says so
+-- each node is reached where the condition says so
 abbrev pub NodesAreReached : Trees → Type 0
 NodesAreReached trees = (condition_of trees).reached ≡ true → EachReached trees
 
@@ -27,7 +27,7 @@ NodesAreReached trees = (condition_of trees).reached ≡ true → EachReached tr
 abbrev pub IsFull : {L : Type 0} → Widths L → List (Shape L) → ℕ → Type 0
 IsFull w nodes root = 2 ≤ depth_of w nodes root → 2 ^ depth_of w nodes root ≤ length (rows_of nodes root)
 
--- all trees are so
+-- all trees are full
 pub record EachFull (trees : Trees) : Type 0 where
   pub contents : IsFull content_widths trees.contents.nodes trees.contents.root
   pub index : IsFull key_widths trees.index.nodes trees.index.root.0
@@ -36,6 +36,6 @@ pub record EachFull (trees : Trees) : Type 0 where
   pub three : IsFull key_widths trees.links.three.nodes trees.links.three.root.0
   pub documents : All (λ (row : DocumentRow Node). IsFull text_widths trees.nodes row.root.0) trees.documents
 
--- they are where no step of the balancer is allowed
+-- all trees are full where none of them allows a step
 abbrev pub TreesAreFull : Trees → Type 0
 TreesAreFull trees = (condition_of trees).allows ≡ false → EachFull trees

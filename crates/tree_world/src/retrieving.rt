@@ -86,7 +86,7 @@ impl TreeWorld {
     }
 }
 
-/// How many bytes runs have.
+/// How many bytes runs have, up to the greatest `usize`.
 fn room_for(runs: &[Run]) -> usize {
     let mut bytes: usize = 0;
     for run in runs {
