@@ -4,11 +4,12 @@ use crate::runs::{
     Figures, HELLO, HELLO_ANSWERED, Kind, Mark, RESTART, Ran, WORDS, run, run_words, sink_of,
     source_of,
 };
-use crate::sessions::bytes_of;
+use crate::sessions::{bytes_of, push_row};
 use green_io::{ReadAnswer, Source};
 use std::alloc::Global;
 use std::process::Abort;
 use std::test::Fail;
+use tumbler::{Memory, Text};
 
 /// Words that are no form of the program.
 const WRONG: &[&[&str]] = &[
@@ -171,5 +172,52 @@ fn a_sink_fails_midway(rt: HostRuntime) -> Result<(), Fail> {
     for failing in [2, 3, 4, 5] {
         check_midway(&rt, rt.alloc(), failing)?;
     }
+    Ok(())
+}
+
+const LONG_TEXT: usize = 65_536;
+
+/// What has a text of that length between a front and a rest.
+fn around_long_text(alloc: Global, front: &str, rest: &str) -> Result<Text, Memory> {
+    let mut bytes = bytes_of(alloc, front)?;
+    for _ in 0..LONG_TEXT {
+        bytes.push(b'x')?;
+    }
+    push_row(&mut bytes, rest)?;
+    Ok(bytes)
+}
+
+/// A session that puts a long text in a document and retrieves it, of which writes fail where their numbers are listed.
+fn run_long(alloc: Global, failing: &[u64]) -> Result<Ran, Fail> {
+    let asked = around_long_text(
+        alloc,
+        "P0~ 34~0.1.1.0.1~ 11~ 0~A~0.1.1~t65536:",
+        "5~1~A~1~0.1.1~1.65536~ 16~",
+    )?;
+    let source = source_of(alloc, asked, None, &[])?;
+    let sink = sink_of(alloc, failing)?;
+    Ok(run(alloc, WORDS, source, sink)?)
+}
+
+/// The text is not copied to be written: a write of its own gives it.
+const BEFORE_LONG_TEXT: &str = "P0~ 34~ 11~A~ 0~ 5~1~t65536:";
+
+#[test]
+fn a_long_text_is_given_whole(rt: HostRuntime) -> Result<(), Fail> {
+    let alloc = rt.alloc();
+    let told = around_long_text(alloc, BEFORE_LONG_TEXT, "16~")?;
+    let ran = run_long(alloc, &[])?;
+    assert_eq!(rt; ran.status, 0);
+    assert!(rt; ran.written() == told.as_slice());
+    Ok(())
+}
+
+#[test]
+fn a_sink_fails_before_a_long_text(rt: HostRuntime) -> Result<(), Fail> {
+    let alloc = rt.alloc();
+    let front = bytes_of(alloc, BEFORE_LONG_TEXT)?;
+    let ran = run_long(alloc, &[6])?;
+    assert_eq!(rt; ran.status, 6);
+    assert!(rt; ran.written() == front.as_slice());
     Ok(())
 }
