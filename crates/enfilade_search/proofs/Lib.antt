@@ -5,3 +5,4 @@ pub mod Children
 pub mod Gathering
 pub mod Stopping
 pub mod UpToLimit
+pub mod Beside

@@ -1,14 +1,16 @@
 //! What is sought below a node.
-ghost use Rattle.std.specs.Prelude.{◌≡◌, ◌++◌, ◌∷◌, [], ◌<◌, not, map, length, All, IfOk, OnOk};
+ghost use Rattle.std.specs.Prelude.{◌≡◌, ◌⊎◌, ◌++◌, ◌∷◌, [], ◌<◌, true, false, not, map, length, All, IfOk, OnOk};
 ghost use Rattle.std.specs.List.{filter};
-ghost use Rattle.tumbler.specs.Places.{sum};
+ghost use Rattle.tumbler.specs.Places.{comes_before, sum};
 ghost use Rattle.enfilade_core.specs.Rows.{moved, rows_of};
 ghost use Rattle.enfilade_core.specs.Axes.{IsRightRow, InOrder};
 ghost use Rattle.enfilade_core.specs.Plain.{plain_row};
 ghost use Rattle.enfilade_core.specs.Laws.{rows_from};
+ghost use Rattle.enfilade_core.specs.Touched.{IsSeenFrom};
+ghost use Rattle.enfilade_search.specs.declared.sought.By.TheVariants.{Second};
 ghost use Rattle.enfilade_search.specs.Sought.{is_sought, is_past, FitsAt, ChildFits};
 
-use crate::sought::Sought;
+use crate::sought::{By, Sought};
 use enfilade_core::{Arena, Branch, Children, Node, Plane, Row};
 use std::alloc::Global;
 use tumbler::{List, Memory, Tumbler};
@@ -44,8 +46,8 @@ pub(crate) fn take_row<P: Plane>(
     Ok(true)
 }
 
-/// The rows from a base that are sought, behind `out`.
-fn take_rows<P: Plane>(
+/// The rows from a base that are sought, behind `out`, up to the first behind which none can be.
+fn take_rows_in_order<P: Plane>(
     alloc: Global,
     rows: &[Row<P::Leaf>],
     first: &Tumbler,
@@ -64,6 +66,76 @@ fn take_rows<P: Plane>(
         }
     }
     Ok(())
+}
+
+/// A place, as it is seen from a base. From one behind it, it is zero.
+fn seen_from(at: &Tumbler, base: &Tumbler) -> Tumbler
+    ensures { IsSeenFrom at.now base.now result }
+{
+    if at.is_before(base) {
+        return Tumbler::zero(at.allocator());
+    }
+    let seen = at.minus(base);
+    let _seen = seen.places();
+    seen
+}
+
+/// Whether a row begins where a range ends, or behind that, or ends before it begins, on the second axis. The range is
+/// seen from where the row's place is.
+fn is_beside<P: Plane>(row: &Row<P::Leaf>, from: &Tumbler, to: &Tumbler) -> bool
+    requires { IsRightRow P.widths (plain_row P.plain row.now) }
+    ensures { result ≡ true → (comes_before row.now.second to.now ≡ false) ⊎ (comes_before (sum row.now.second (P.widths.second (plain_row P.plain row.now))) from.now ≡ true) }
+{
+    if !row.second.is_before(to) {
+        return true;
+    }
+    row.second.add(&P::second_width(row)).is_before(from)
+}
+
+/// The rows from a base that are sought by the second axis, behind `out`. Most that are not are told without a sum with
+/// the base.
+fn take_rows_by_second<P: Plane>(
+    alloc: Global,
+    rows: &[Row<P::Leaf>],
+    first: &Tumbler,
+    second: &Tumbler,
+    sought: &Sought,
+    out: &mut List<Row<P::Leaf>>,
+) -> Result<(), Memory>
+    requires own { All (IsRightRow P.widths) (map (plain_row P.plain) rows.now) }
+    requires there { All (IsRightRow P.widths) (map (moved first.now second.now) (map (plain_row P.plain) rows.now)) }
+    requires second { sought.now.by ≡ Second }
+    ensures { OnOk result (map (plain_row P.plain) out.new.items ≡ map (plain_row P.plain) out.old.items ++ filter (is_sought P.widths sought.now) (map (moved first.now second.now) (map (plain_row P.plain) rows.now))) }
+{
+    let from = seen_from(&sought.from, second);
+    let to = seen_from(&sought.to, second);
+    for row in rows {
+        if is_beside::<P>(row, &from, &to) {
+            continue;
+        }
+        let _ = take_row::<P>(alloc, row, first, second, sought, out)?;
+    }
+    Ok(())
+}
+
+/// The rows from a base that are sought, behind `out`.
+fn take_rows<P: Plane>(
+    alloc: Global,
+    rows: &[Row<P::Leaf>],
+    first: &Tumbler,
+    second: &Tumbler,
+    sought: &Sought,
+    out: &mut List<Row<P::Leaf>>,
+) -> Result<(), Memory>
+    requires own { All (IsRightRow P.widths) (map (plain_row P.plain) rows.now) }
+    requires there { All (IsRightRow P.widths) (map (moved first.now second.now) (map (plain_row P.plain) rows.now)) }
+    requires ordered { InOrder (map (moved first.now second.now) (map (plain_row P.plain) rows.now)) }
+    ensures { OnOk result (map (plain_row P.plain) out.new.items ≡ map (plain_row P.plain) out.old.items ++ filter (is_sought P.widths sought.now) (map (moved first.now second.now) (map (plain_row P.plain) rows.now))) }
+{
+    match sought.by {
+        By::Second => take_rows_by_second::<P>(alloc, rows, first, second, sought, out),
+        By::Place | By::First => take_rows_in_order::<P>(alloc, rows, first, second, sought, out),
+    }
 }
 
 /// The rows of a node from a base that are sought, behind `out`.

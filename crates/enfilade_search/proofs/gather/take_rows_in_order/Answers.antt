@@ -3,7 +3,7 @@ use Rattle.enfilade_core.specs.Plain.{plain_row}
 use Rattle.enfilade_search.specs.Sought.{is_sought}
 use Rattle.enfilade_search.proofs.Placing.{row_at, rows_more}
 use Rattle.enfilade_search.proofs.Stopping.{held_rows_stop}
-use Rattle.enfilade_search.proofs.gather.take_rows.Goals as goal
+use Rattle.enfilade_search.proofs.gather.take_rows_in_order.Goals as goal
 
 pub take_row-requires-clause-own : goal.take_row-requires-clause-own
 take_row-requires-clause-own g c =
