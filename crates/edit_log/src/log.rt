@@ -1,7 +1,8 @@
 //! An open log, to which bodies are appended.
 ghost use Rattle.std.specs.Prelude.{◌≡◌, ◌≢◌, ◌≤◌, List, [], ◌∷◌, ◌++◌, IsTrue};
 ghost use Rattle.febe_data.specs.Plain.{PlainEntry};
-ghost use Rattle.green_io.specs.Disk.{LeavesOnly, LeavesOthers};
+ghost use Rattle.green_io.specs.Areas.{is_log};
+ghost use Rattle.green_io.specs.Disk.{LeavesOnly, LeavesBut};
 ghost use Rattle.green_io.specs.Outside.{HasRisen};
 ghost use Rattle.edit_log.specs.Answers.{OnDone, OnFailed};
 ghost use Rattle.edit_log.specs.Images.{IsOpen, IsPending, IsAppendable, IsMendable, HoldsEither};
@@ -11,7 +12,7 @@ use crate::pending::Pending;
 use crate::phases::{close_gate, open_gate, stage};
 use entry_codec::laws::body_says_length;
 use febe_data::Text;
-use green_io::{Area, Disk};
+use green_io::Disk;
 use std::marker::Model;
 
 /// What came of an append or a mend.
@@ -58,7 +59,7 @@ impl EditLog {
         ensures any_moment { (entries : List PlainEntry) (entry : PlainEntry) → IsAppendable entries entry bytes.now.items → IsOpen (D.state disk.old) self.old entries → LeavesOnly (D.state disk.old) (D.state disk.new) (HoldsEither entries entry) }
         ensures done { (entries : List PlainEntry) (entry : PlainEntry) → IsAppendable entries entry bytes.now.items → IsOpen (D.state disk.old) self.old entries → OnDone result (IsOpen (D.state disk.new) self.new (entries ++ entry ∷ [])) }
         ensures pending { (entries : List PlainEntry) (entry : PlainEntry) → IsAppendable entries entry bytes.now.items → IsOpen (D.state disk.old) self.old entries → OnFailed result (IsPending (D.state disk.new) self.new entries entry) }
-        ensures others { LeavesOthers Area.Log (D.state disk.old) (D.state disk.new) }
+        ensures others { LeavesBut is_log (D.state disk.old) (D.state disk.new) }
         ensures never_falls { D.fault_count disk.old ≤ D.fault_count disk.new }
         ensures failed { OnFailed result (HasRisen (D.fault_count disk.old) (D.fault_count disk.new)) }
     {
@@ -88,7 +89,7 @@ impl EditLog {
         ensures any_moment { (entries : List PlainEntry) (entry : PlainEntry) → IsMendable entries entry → IsPending (D.state disk.old) self.old entries entry → LeavesOnly (D.state disk.old) (D.state disk.new) (HoldsEither entries entry) }
         ensures done { (entries : List PlainEntry) (entry : PlainEntry) → IsMendable entries entry → IsPending (D.state disk.old) self.old entries entry → OnDone result (IsOpen (D.state disk.new) self.new entries) }
         ensures pending { (entries : List PlainEntry) (entry : PlainEntry) → IsMendable entries entry → IsPending (D.state disk.old) self.old entries entry → OnFailed result (IsPending (D.state disk.new) self.new entries entry) }
-        ensures others { LeavesOthers Area.Log (D.state disk.old) (D.state disk.new) }
+        ensures others { LeavesBut is_log (D.state disk.old) (D.state disk.new) }
         ensures never_falls { D.fault_count disk.old ≤ D.fault_count disk.new }
         ensures failed { OnFailed result (HasRisen (D.fault_count disk.old) (D.fault_count disk.new)) }
     {

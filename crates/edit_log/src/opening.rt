@@ -3,7 +3,8 @@ ghost use Rattle.std.specs.Prelude.{◌≡◌, ◌≤◌, length, IsSome, IfOk};
 ghost use Rattle.std.specs.List.{AllByRecursion};
 ghost use Rattle.febe_data.specs.Plain.{plain_history};
 ghost use Rattle.entry_codec.specs.Bodies.{HasBody};
-ghost use Rattle.green_io.specs.Disk.{Changes, LeavesOnly, LeavesOthers, WhereTold};
+ghost use Rattle.green_io.specs.Areas.{is_log};
+ghost use Rattle.green_io.specs.Disk.{Changes, LeavesOnly, LeavesBut, WhereTold};
 ghost use Rattle.green_io.specs.Outside.{HasRisen};
 ghost use Rattle.edit_log.specs.Answers.{OnDamaged, OnDiskFault, OnOtherFault};
 ghost use Rattle.edit_log.specs.Images.{IsOpen, AsRead, HoldsAsRead};
@@ -49,7 +50,7 @@ impl EditLog {
         ensures closed { IfOk result (λ opened. Changes Area.Log (HasEndClosed (plain_history opened.1.items)) (D.state disk.old).reads (D.state disk.new).reads) }
         ensures damaged { OnDamaged result (λ at. WhereTold (D.state disk.old).reads (λ areas. IsDamagedAt at areas.log)) }
         ensures untouched { OnOtherFault result ((D.state disk.new).reads ≡ (D.state disk.old).reads) }
-        ensures others { LeavesOthers Area.Log (D.state disk.old) (D.state disk.new) }
+        ensures others { LeavesBut is_log (D.state disk.old) (D.state disk.new) }
         ensures never_falls { D.fault_count disk.old ≤ D.fault_count disk.new }
         ensures failed { OnDiskFault result (HasRisen (D.fault_count disk.old) (D.fault_count disk.new)) }
     {

@@ -1,6 +1,7 @@
 //! The writes of a log, each of which is synced before the next begins.
 ghost use Rattle.std.specs.Prelude.{◌≡◌, ◌<◌, ◌≤◌, ◌^◌, ℕ, List, [], ◌∷◌, ◌++◌, length, OnOk, OnErr};
-ghost use Rattle.green_io.specs.Disk.{Changes, LeavesOnly, LeavesOthers};
+ghost use Rattle.green_io.specs.Areas.{is_log};
+ghost use Rattle.green_io.specs.Disk.{Changes, LeavesOnly, LeavesBut};
 ghost use Rattle.green_io.specs.Outside.{HasRisen};
 ghost use Rattle.edit_log.specs.Images.{IsShut, IsAjar, LogImages, InLog};
 ghost use Rattle.edit_log.specs.inside.Ends.{IsLog, HasTornGate, ClosesEnd, begins_shut};
@@ -12,7 +13,7 @@ pub(crate) fn stage<D: Disk>(disk: &mut D, end: u64, bytes: &[u8]) -> Result<(),
     ensures any_moment { (front body : List ℕ) → bytes.now ≡ body ++ (0 ∷ []) → length front < 2 ^ 63 → LogImages (D.state disk.old) end front (IsShut front) → LeavesOnly (D.state disk.old) (D.state disk.new) (InLog (IsShut front)) }
     ensures staged { (front body : List ℕ) → bytes.now ≡ body ++ (0 ∷ []) → length front < 2 ^ 63 → LogImages (D.state disk.old) end front (IsShut front) → OnOk result (LogImages (D.state disk.new) end front (IsAjar front body)) }
     ensures shut { (front body : List ℕ) → bytes.now ≡ body ++ (0 ∷ []) → length front < 2 ^ 63 → LogImages (D.state disk.old) end front (IsShut front) → OnErr result (LogImages (D.state disk.new) end front (IsShut front)) }
-    ensures others { LeavesOthers Area.Log (D.state disk.old) (D.state disk.new) }
+    ensures others { LeavesBut is_log (D.state disk.old) (D.state disk.new) }
     ensures never_falls { D.fault_count disk.old ≤ D.fault_count disk.new }
     ensures failed { OnErr result (HasRisen (D.fault_count disk.old) (D.fault_count disk.new)) }
 {
@@ -24,7 +25,7 @@ pub(crate) fn open_gate<D: Disk>(disk: &mut D, end: u64) -> Result<(), DiskFaile
     ensures any_moment { (front body : List ℕ) → LogImages (D.state disk.old) end front (IsAjar front body) → LeavesOnly (D.state disk.old) (D.state disk.new) (InLog (IsAjar front body)) }
     ensures opened { (front body : List ℕ) → LogImages (D.state disk.old) end front (IsAjar front body) → OnOk result (LogImages (D.state disk.new) (length (front ++ (1 ∷ body))) (front ++ (1 ∷ body)) (IsShut (front ++ (1 ∷ body)))) }
     ensures ajar { (front body : List ℕ) → LogImages (D.state disk.old) end front (IsAjar front body) → OnErr result (LogImages (D.state disk.new) end front (IsAjar front body)) }
-    ensures others { LeavesOthers Area.Log (D.state disk.old) (D.state disk.new) }
+    ensures others { LeavesBut is_log (D.state disk.old) (D.state disk.new) }
     ensures never_falls { D.fault_count disk.old ≤ D.fault_count disk.new }
     ensures failed { OnErr result (HasRisen (D.fault_count disk.old) (D.fault_count disk.new)) }
 {
@@ -36,7 +37,7 @@ pub(crate) fn close_gate<D: Disk>(disk: &mut D, end: u64) -> Result<(), DiskFail
     ensures any_moment { (front body : List ℕ) → LogImages (D.state disk.old) end front (IsAjar front body) → LeavesOnly (D.state disk.old) (D.state disk.new) (InLog (IsAjar front body)) }
     ensures closed { (front body : List ℕ) → LogImages (D.state disk.old) end front (IsAjar front body) → OnOk result (LogImages (D.state disk.new) end front (IsShut front)) }
     ensures ajar { (front body : List ℕ) → LogImages (D.state disk.old) end front (IsAjar front body) → OnErr result (LogImages (D.state disk.new) end front (IsAjar front body)) }
-    ensures others { LeavesOthers Area.Log (D.state disk.old) (D.state disk.new) }
+    ensures others { LeavesBut is_log (D.state disk.old) (D.state disk.new) }
     ensures never_falls { D.fault_count disk.old ≤ D.fault_count disk.new }
     ensures failed { OnErr result (HasRisen (D.fault_count disk.old) (D.fault_count disk.new)) }
 {
@@ -59,7 +60,7 @@ pub(crate) fn close_end<D: Disk>(disk: &mut D, at: u64, end: &[u8]) -> Result<()
     ensures any_moment { (front : List ℕ) → LogImages (D.state disk.old) at front (IsLog (front ++ end.now)) → LeavesOnly (D.state disk.old) (D.state disk.new) (InLog (HasTornGate front end.now)) }
     ensures closed { (front : List ℕ) → LogImages (D.state disk.old) at front (IsLog (front ++ end.now)) → OnOk result (LogImages (D.state disk.new) at front (IsShut front)) }
     ensures reads { (front : List ℕ) → at ≡ length front → OnOk result (Changes Area.Log (ClosesEnd front end.now) (D.state disk.old).reads (D.state disk.new).reads) }
-    ensures others { LeavesOthers Area.Log (D.state disk.old) (D.state disk.new) }
+    ensures others { LeavesBut is_log (D.state disk.old) (D.state disk.new) }
     ensures never_falls { D.fault_count disk.old ≤ D.fault_count disk.new }
     ensures failed { OnErr result (HasRisen (D.fault_count disk.old) (D.fault_count disk.new)) }
 {

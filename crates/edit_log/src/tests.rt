@@ -40,6 +40,7 @@ fn an_entry_is_appended_and_read_again(rt: HostRuntime) -> Result<(), Fail> {
     assert_eq!(rt; append_entry(rt.alloc(), &mut disk), Ok(Appended::Ok));
     assert_eq!(rt; append_entry(rt.alloc(), &mut disk), Ok(Appended::Ok));
     assert_eq!(rt; count_entries(rt.alloc(), &mut disk), Ok(2));
+    drop(disk);
     // What stands behind a gate 1 that is no body is damage, and one gate at the end is none.
     for (log, wanted) in [
         (b"\x01\x00".as_slice(), Err(LogFault::Damaged { at: 0 })),

@@ -4,4 +4,5 @@ pub mod Naming
 pub mod Ranks
 pub mod Copies
 pub mod Whole
-pub mod Held
+pub mod StillReached
+pub mod Counted

@@ -29,7 +29,7 @@ map-map f g [] = refl
 map-map f g (k ∷ ks) = ap (λ (r : List _). g (f k) ∷ r) (map-map f g ks)
 
 -- all that is reached is marked
-reached_marked : {L : Type 0} (old : List (Shape L)) (roots : List ℕ) (marks : List Bool) → AreMarked old roots marks 0 → (k : ℕ) → Reached old roots k → is_marked marks k ≡ true
+pub reached_marked : {L : Type 0} (old : List (Shape L)) (roots : List ℕ) (marks : List Bool) → AreMarked old roots marks 0 → (k : ℕ) → Reached old roots k → is_marked marks k ≡ true
 reached_marked old roots marks m k (is_root c) = m.rooted k c
 reached_marked old roots marks m k (hangs {j = j} r c) = m.closed j k (omega arith) (reached_marked old roots marks m j r) c
 

@@ -1,5 +1,5 @@
 -- What a sweep of an arena leaves: the nodes that are reached from its roots, each once.
-use Rattle.std.specs.Prelude.{◌≡◌, ℕ, ◌<◌, ◌==◌, ◌||◌, not, Bool, List, length, map}
+use Rattle.std.specs.Prelude.{◌≡◌, ℕ, zero, suc, ◌-◌, ◌<◌, ◌==◌, ◌||◌, ◌&&◌, Bool, List, length, map, count_by}
 use Rattle.std.specs.List.{Contains, list_any, range_with_len}
 use Rattle.enfilade_core.specs.declared.tree.Node.{Node}
 use Rattle.enfilade_core.specs.declared.tree.Branch.{Branch}
@@ -22,13 +22,26 @@ pub data Reached {L : Type 0} (nodes : List (Shape L)) (roots : List ℕ) : ℕ 
 abbrev pub AllReached : {L : Type 0} → List (Shape L) → List ℕ → Type 0
 AllReached nodes roots = (k : ℕ) → k < length nodes → Reached nodes roots k
 
--- whether the node is one of the roots, or hangs under a node
-abbrev pub is_held : {L : Type 0} → List (Shape L) → List ℕ → ℕ → Bool
-is_held nodes roots k = list_any (λ root. root == k) roots || list_any (λ node. list_any (λ j. j == k) (under node)) nodes
+-- whether a number is one of these
+abbrev pub is_among : List ℕ → ℕ → Bool
+is_among numbers k = list_any (λ number. number == k) numbers
 
--- Whether all nodes are. What hangs under a node has a lesser number, so each node is reached from the roots then.
-abbrev pub are_held : {L : Type 0} → List (Shape L) → List ℕ → Bool
-are_held nodes roots = not (list_any (λ k. not (is_held nodes roots k)) (range_with_len 0 (length nodes)))
+-- whether a node is reached in at most so many steps: it is a root, or hangs under one that is reached in fewer
+unfoldable pub is_reached_in : {L : Type 0} → List (Shape L) → List ℕ → ℕ → ℕ → Bool
+is_reached_in nodes roots zero k = is_among roots k
+is_reached_in nodes roots (suc steps) k =
+    is_among roots k || list_any (λ j. is_reached_in nodes roots steps j && is_among (under (node_at nodes j)) k) (range_with_len 0 (length nodes))
+
+-- Whether a node is reached. What hangs under a node has a lesser number, so as many steps as there are nodes lead everywhere.
+abbrev pub is_reached : {L : Type 0} → List (Shape L) → List ℕ → ℕ → Bool
+is_reached nodes roots k = is_reached_in nodes roots (length nodes) k
+
+-- how many nodes are reached, and how many are not
+unfoldable pub reached_count : {L : Type 0} → List (Shape L) → List ℕ → ℕ
+reached_count nodes roots = count_by (is_reached nodes roots) (range_with_len 0 (length nodes))
+
+unfoldable pub unreached_count : {L : Type 0} → List (Shape L) → List ℕ → ℕ
+unreached_count nodes roots = length nodes - reached_count nodes roots
 
 -- a branch, and what hangs under a node, where nodes have other numbers
 abbrev pub renamed_branch : (ℕ → ℕ) → Branch → Branch

@@ -1,9 +1,9 @@
 //! The sweep.
-ghost use Rattle.std.specs.Prelude.{◌≡◌, ℕ, ◌<◌, true, length, map, All, IfOk};
+ghost use Rattle.std.specs.Prelude.{◌≡◌, ℕ, ◌<◌, length, map, All, IfOk};
 ghost use Rattle.enfilade_core.specs.Rows.{rows_of};
 ghost use Rattle.enfilade_core.specs.Standing.{tree_debt, tree_allows};
 ghost use Rattle.enfilade_core.specs.Summary.{depth_of};
-ghost use Rattle.enfilade_sweep.specs.Sweep.{numbers, IsSwept, AllReached, are_held};
+ghost use Rattle.enfilade_sweep.specs.Sweep.{numbers, IsSwept, AllReached, reached_count, unreached_count};
 
 use crate::copying::{copied, renamed_roots};
 use crate::marks::{ranks, reached};
@@ -23,7 +23,8 @@ pub fn sweep<P: Plane>(old: &Arena<P>, roots: &List<Node>) -> Result<(Arena<P>, 
     ensures allowed { IfOk result (λ made. map (tree_allows made.0) (numbers made.1.items) ≡ map (tree_allows old.now) (numbers roots.now.items)) }
     ensures depths { IfOk result (λ made. map (depth_of P.widths made.0) (numbers made.1.items) ≡ map (depth_of P.widths old.now) (numbers roots.now.items)) }
     ensures reached { IfOk result (λ made. AllReached made.0 (numbers made.1.items)) }
-    ensures held { IfOk result (λ made. are_held made.0 (numbers made.1.items) ≡ true) }
+    ensures count { IfOk result (λ made. length made.0 ≡ reached_count old.now (numbers roots.now.items)) }
+    ensures none_left { IfOk result (λ made. unreached_count made.0 (numbers made.1.items) ≡ 0) }
 {
     let marks = reached(old, roots.as_slice())?;
     let ranks = ranks(old.allocator(), marks.as_slice())?;

@@ -22,9 +22,17 @@ is_same Home Home = true
 is_same Journal Journal = true
 is_same _ _ = false
 
+-- the area is the log
+abbrev pub is_log : Area → Bool
+is_log = is_same Log
+
+-- every area but those that are touched has the bytes that it had
+abbrev pub IsSameBut : (Area → Bool) → Areas → Areas → Type 0
+IsSameBut touched old new = (other : Area) → touched other ≡ false → area_of other new ≡ area_of other old
+
 -- every other area has the bytes that it had
 abbrev pub IsSameBeside : Area → Areas → Areas → Type 0
-IsSameBeside area old new = (other : Area) → is_same area other ≡ false → area_of other new ≡ area_of other old
+IsSameBeside area old new = IsSameBut (is_same area) old new
 
 -- this was done to one area, and nothing to the others
 abbrev pub InArea : Area → (List ℕ → List ℕ → Type 0) → Areas → Areas → Type 0

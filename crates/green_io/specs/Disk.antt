@@ -1,9 +1,9 @@
 -- What the calls of a disk do to what its areas read, and what a crash may leave of them.
-use Rattle.std.specs.Prelude.{◌≡◌, ◌⊎◌, ℕ, ◌+◌, ◌-◌, ◌≤◌, min, max, List, ◌++◌, length, take, drop, replicate, Option, None, Some}
+use Rattle.std.specs.Prelude.{◌≡◌, ◌⊎◌, ℕ, ◌+◌, ◌-◌, ◌≤◌, min, max, Bool, List, ◌++◌, length, take, drop, replicate, Option, None, Some}
 use Rattle.green_io.specs.declared.disk.Area.{Area}
 use Rattle.green_io.specs.declared.source.ReadAnswer.{ReadAnswer}
 use Rattle.green_io.specs.declared.source.ReadAnswer.TheVariants.{Got, End, Failed}
-use Rattle.green_io.specs.Areas.{Areas, area_of, IsSameBeside, InArea}
+use Rattle.green_io.specs.Areas.{Areas, area_of, IsSameBut, InArea}
 
 -- What contracts see of a disk: what its areas read, none where it does not tell that; a clock of its calls;
 -- and the images since a moment, which are what a crash at that moment or a later one may leave.
@@ -68,21 +68,21 @@ pub record LeavesOnly (old new : DiskState) (fact : Areas → Type 0) : Type 0 w
   pub keeps : (t : ℕ) (image : Areas) → t ≤ old.clock → old.images t image → new.images t image
   pub each : (t : ℕ) (image : Areas) → t ≤ old.clock → new.images t image → old.images t image ⊎ fact image
 
--- every other area reads what it read, where the disk tells that
-abbrev pub ReadsAsBeside : Area → Option Areas → Option Areas → Type 0
-ReadsAsBeside area None None = Unit {0}
-ReadsAsBeside area (Some old) (Some new) = IsSameBeside area old new
-ReadsAsBeside area _ _ = ⊥
+-- every area but those that are touched reads what it read, where the disk tells that
+abbrev pub ReadsAsBut : (Area → Bool) → Option Areas → Option Areas → Type 0
+ReadsAsBut touched None None = Unit {0}
+ReadsAsBut touched (Some old) (Some new) = IsSameBut touched old new
+ReadsAsBut touched _ _ = ⊥
 
--- the image has in every other area what one of these images has there
-abbrev pub IsAsBeside : Area → (Areas → Type 0) → Areas → Type 0
-IsAsBeside area images image = (was : Areas) × images was × IsSameBeside area was image
+-- the image has in every area but those that are touched what one of these images has there
+abbrev pub IsAsBut : (Area → Bool) → (Areas → Type 0) → Areas → Type 0
+IsAsBut touched images image = (was : Areas) × images was × IsSameBut touched was image
 
--- Between an old and a new state of one disk the other areas are left alone: they read what they read, and a crash
--- leaves in all of them together what it might have left before.
-pub record LeavesOthers (area : Area) (old new : DiskState) : Type 0 where
-  pub reads : ReadsAsBeside area old.reads new.reads
-  pub images : LeavesOnly old new (IsAsBeside area (images_now old))
+-- Between an old and a new state of one disk all areas but those that are touched are left alone: they read what they
+-- read, and a crash leaves in all of them together what it might have left before.
+pub record LeavesBut (touched : Area → Bool) (old new : DiskState) : Type 0 where
+  pub reads : ReadsAsBut touched old.reads new.reads
+  pub images : LeavesOnly old new (IsAsBut touched (images_now old))
 
 -- every image has in this area what it reads, where that is told
 abbrev pub IsDurable : Area → Option Areas → (Areas → Type 0) → Type 0

@@ -15,9 +15,18 @@ use tumbler::Memory;
 
 /// A disk whose areas are the files `log`, `home` and `journal` of a folder. It tells nothing of what they hold.
 ///
-/// The files are opened at the first call, and those that are missing are made empty. A folder or a file that
-/// cannot be opened is a fault, and so is each failed call of the system, but one that was interrupted, which is
-/// tried again. Contracts see where the files lie, and the number of faults.
+/// The folder has to exist. Its files are opened at the first call, and those that are missing are made empty.
+///
+/// One program has the folder at a time. As soon as `log` is open, and before any other file is made, it is locked (by
+/// `flock`, against all others), until this disk is dropped or its program ends in whatever way. Where another disk
+/// has the lock, in this program or in any other, the call fails, and nothing was made, read or changed. The lock
+/// is on the file and not on its name, and stops none that does not ask for it, as an editor or a copy.
+///
+/// A fault is a folder or a file that cannot be opened, a folder that another disk has, a file system without locks,
+/// and each failed call of the system, but one that was interrupted, which is tried again. Until the files are open and
+/// locked each further call tries that anew.
+///
+/// Contracts see where the files lie, and the number of faults.
 #[derive(Drop)]
 pub struct FolderDisk {
     files: FolderFiles,
@@ -113,8 +122,9 @@ fn cut_in(files: &mut FolderFiles, area: Area, length: u64) -> io::Result<()> {
     cut_down(files.of(area)?, length)
 }
 
+// Of what the system keeps beside the bytes, the length is made stable with them, and the times are not.
 fn sync_in(files: &mut FolderFiles, area: Area) -> io::Result<()> {
-    files.of(area)?.sync_all()
+    files.of(area)?.sync_data()
 }
 
 impl Disk for FolderDisk {

@@ -38,7 +38,7 @@ fn joined(alloc: Global, folder: &str, name: &str) -> Result<String, AllocError>
     Ok(path)
 }
 
-/// The open files.
+/// The open files, of which the log is locked until they are closed.
 #[derive(Drop)]
 struct AreaFiles {
     log: File,
@@ -48,9 +48,14 @@ struct AreaFiles {
 
 impl AreaFiles {
     /// Opens the files and makes those that are missing, which the folder then names for good.
+    ///
+    /// The log comes first and is locked at once: where another program holds the folder its log is there, so nothing
+    /// has been made or changed when this fails.
     fn open(rt: &HostRuntime, paths: &Paths) -> io::Result<AreaFiles> {
+        let log = open_or_make(rt, paths.log.as_str())?;
+        log.try_lock()?;
         let files = AreaFiles {
-            log: open_or_make(rt, paths.log.as_str())?,
+            log,
             home: open_or_make(rt, paths.home.as_str())?,
             journal: open_or_make(rt, paths.journal.as_str())?,
         };
@@ -94,7 +99,8 @@ impl FolderFiles {
         })
     }
 
-    /// The file of an area. Where a file or the folder cannot be opened, the next call tries again.
+    /// The file of an area. Where a file or the folder cannot be opened, or another program holds the lock, the next
+    /// call tries again.
     pub(crate) fn of(&mut self, area: Area) -> io::Result<&File> {
         if self.files.is_none() {
             self.files = Some(AreaFiles::open(&self.rt, &self.paths)?);

@@ -191,14 +191,20 @@ fn the_files_of_a_folder(rt: HostRuntime) -> Result<(), Fail> {
     Ok(())
 }
 
+// A disk in a new folder.
+fn disk_in_new(rt: HostRuntime, folder: &str) -> Result<FolderDisk, Fail> {
+    let _ = fs::remove_dir_all(&rt, folder);
+    fs::create_dir(&rt, folder)?;
+    Ok(FolderDisk::new(rt, folder)?)
+}
+
 #[test]
 fn a_folder_is_opened_again(rt: HostRuntime) -> Result<(), Fail> {
     let folder = "folder_disk_again_test";
-    let _ = fs::remove_dir_all(&rt, folder);
-    fs::create_dir(&rt, folder)?;
-    let mut first = FolderDisk::new(rt, folder)?;
+    let mut first = disk_in_new(rt, folder)?;
     assert_eq!(rt; write_log(&mut first), Ok(9));
     assert_eq!(rt; cut_log(&mut first), Ok(2));
+    drop(first);
     let mut second = FolderDisk::new(rt, folder)?;
     for (area, wanted) in [
         (Area::Log, (ReadAnswer::Got(2), *b"\0B------")),
@@ -208,6 +214,23 @@ fn a_folder_is_opened_again(rt: HostRuntime) -> Result<(), Fail> {
         assert_eq!(rt; read_at(&mut second, area, 0), wanted);
     }
     assert_eq!(rt; second.faults(), 0);
+    fs::remove_dir_all(&rt, folder)?;
+    Ok(())
+}
+
+#[test]
+fn a_folder_is_one_disk_at_a_time(rt: HostRuntime) -> Result<(), Fail> {
+    let folder = "folder_disk_held_test";
+    let mut first = disk_in_new(rt, folder)?;
+    let mut second = FolderDisk::new(rt, folder)?;
+    assert!(rt; write_log(&mut first) == Ok(9));
+    // A file that the second one would make, had it gone on.
+    fs::remove_file(&rt, "folder_disk_held_test/home")?;
+    assert!(rt; cut_log(&mut second) == Err(DiskFailed));
+    assert!(rt; !fs::exists(&rt, "folder_disk_held_test/home")?);
+    assert!(rt; first.length(Area::Log) == Ok(9));
+    drop(first);
+    assert!(rt; cut_log(&mut second) == Ok(2));
     fs::remove_dir_all(&rt, folder)?;
     Ok(())
 }

@@ -13,3 +13,6 @@ pub mod Quiet
 pub mod Remaining
 pub mod Serials
 pub mod Unkept
+pub mod OneDisks
+pub mod Owners
+pub mod HousedSteps

@@ -96,10 +96,11 @@ pub record IsBalanced (before after : StoreView) : Type 0 where
   pub base_stays : after.base ≡ before.base
   pub still : StandsStill before after
 
--- the arenas hold no node that no tree's root reaches, and the trees stay in shape
+-- the arenas hold exactly as many nodes as the trees' roots reached, none that no root reaches, and the trees stay in shape
 pub record IsSwept (before after : StoreView) : Type 0 where
   pub may : MaySweep before
-  pub reached : after.trees.reached ≡ true
+  pub count : after.trees.nodes ≡ before.trees.reached
+  pub none_left : after.trees.unreached ≡ 0
   pub shape_stays : StaysInShape before.trees after.trees
   pub base_is : after.base ≡ after.trees.nodes
   pub still : StandsStill before after

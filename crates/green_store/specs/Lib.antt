@@ -14,6 +14,7 @@ pub use Rattle.edit_log.specs.Images
 pub use Rattle.edit_log.specs.Log
 pub use Rattle.edit_log.specs.LogView
 pub use Rattle.tree_world.specs.Condition
+pub use Rattle.history_lock.specs.Histories
 pub mod Sessions
 pub mod Steps
 pub mod StoreView
@@ -24,4 +25,7 @@ pub mod Laws
 pub mod Durable
 pub mod Opening
 pub mod Replayed
+pub mod HousedView
+pub mod Marks
+pub mod HousePlays
 pub mod inside

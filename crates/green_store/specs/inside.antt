@@ -70,7 +70,7 @@ KeepsEdit before pending entry after reply disk =
 -- nodes they had after the last sweep, before the step and after it.
 abbrev pub IsTended : Condition → ℕ → Tended → Condition → ℕ → Type 0
 IsTended old base tended.Balanced new after = (old.allows ≡ true) × (new.debt + 1 ≤ old.debt) × (after ≡ base)
-IsTended old base tended.Swept new after = (old.allows ≡ false) × (2 * base + 1024 < old.nodes) × (new.reached ≡ true) × StaysInShape old new × (after ≡ new.nodes)
+IsTended old base tended.Swept new after = (old.allows ≡ false) × (2 * base + 1024 < old.nodes) × (new.nodes ≡ old.reached) × (new.unreached ≡ 0) × StaysInShape old new × (after ≡ new.nodes)
 IsTended old base tended.Idle new after = (old.allows ≡ false) × (old.nodes ≤ 2 * base + 1024) × (new ≡ old) × (after ≡ base)
 
 -- something is to be put right, but there was no memory for it, and nothing changed

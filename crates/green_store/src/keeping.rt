@@ -3,7 +3,8 @@ ghost use Rattle.std.specs.Prelude.{◌≡◌, ◌⊎◌, ◌≤◌, List, [], �
 ghost use Rattle.febe_data.specs.Plain.{PlainEntry, plain_change, plain_entry};
 ghost use Rattle.entry_codec.specs.Bodies.{HasBody};
 ghost use Rattle.entry_codec.specs.Format.{body_of};
-ghost use Rattle.green_io.specs.Disk.{LeavesOnly, LeavesOthers};
+ghost use Rattle.green_io.specs.Areas.{is_log};
+ghost use Rattle.green_io.specs.Disk.{LeavesOnly, LeavesBut};
 ghost use Rattle.green_io.specs.Outside.{HasRisen};
 ghost use Rattle.world_rules.specs.History.{is_counted};
 ghost use Rattle.edit_log.specs.Answers.{OnDone, OnFailed};
@@ -14,7 +15,7 @@ ghost use Rattle.green_store.specs.inside.{IsTyped, PendsOneOf};
 use edit_log::{Appended, EditLog};
 use entry_codec::encode;
 use febe_data::{Change, Entry, Memory, Text};
-use green_io::{Area, Disk};
+use green_io::Disk;
 use std::alloc::Global;
 
 /// Whether a change is kept over a restart, and so logged: one of documents, content or links.
@@ -87,7 +88,7 @@ pub(crate) fn keep<D: Disk>(log: &mut EditLog, disk: &mut D, bytes: &Text) -> Ap
     ensures any_moment { (entries : List PlainEntry) (pending : Option PlainEntry) (entry : PlainEntry) → IsAppendable entries entry bytes.now.items → LogHas (D.state disk.old) log.old entries pending → LeavesOnly (D.state disk.old) (D.state disk.new) (HoldsWith entries (λ other. IsThat pending other ⊎ (other ≡ entry))) }
     ensures done { (entries : List PlainEntry) (pending : Option PlainEntry) (entry : PlainEntry) → IsAppendable entries entry bytes.now.items → LogHas (D.state disk.old) log.old entries pending → OnDone result (LogHas (D.state disk.new) log.new (entries ++ entry ∷ []) None) }
     ensures pending { (entries : List PlainEntry) (pending : Option PlainEntry) (entry : PlainEntry) → IsAppendable entries entry bytes.now.items → LogHas (D.state disk.old) log.old entries pending → OnFailed result (PendsOneOf (D.state disk.new) log.new entries (λ other. IsThat pending other ⊎ (other ≡ entry))) }
-    ensures others { LeavesOthers Area.Log (D.state disk.old) (D.state disk.new) }
+    ensures others { LeavesBut is_log (D.state disk.old) (D.state disk.new) }
     ensures never_falls { D.fault_count disk.old ≤ D.fault_count disk.new }
     ensures failed { OnFailed result (HasRisen (D.fault_count disk.old) (D.fault_count disk.new)) }
 {

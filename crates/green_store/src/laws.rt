@@ -1,11 +1,11 @@
 //! Laws of stores. Each is a function that does nothing, whose contract says the law.
-ghost use Rattle.std.specs.Prelude.{Option};
+ghost use Rattle.std.specs.Prelude.{◌≡◌, false, Option};
 ghost use Rattle.febe_data.specs.Plain.{PlainEntry};
 ghost use Rattle.green_io.specs.Areas.{Areas};
 ghost use Rattle.green_io.specs.Disk.{images_now};
-ghost use Rattle.world_rules.specs.History.{kept};
+ghost use Rattle.world_rules.specs.History.{is_live, kept};
 ghost use Rattle.green_store.specs.Durable.{Keeps, HoldsWith, IsThat};
-ghost use Rattle.green_store.specs.Laws.{StepsCount, StepsStayPlaced};
+ghost use Rattle.green_store.specs.Laws.{LegalStepsAddOwn, StepsCount, StepsStayPlaced};
 ghost use Rattle.green_store.specs.Opening.{EachHasOneOpening};
 
 use crate::store::StoreOver;
@@ -36,4 +36,16 @@ pub fn one_opening()
     ensures { EachHasOneOpening }
 {
     one_reading();
+}
+
+/// A legal step of a session adds nothing to the history, or one entry of that session.
+pub fn legal_steps_add_own()
+    ensures { LegalStepsAddOwn }
+{}
+
+/// Sessions have numbers from 1 on, so none of a store is live under the number 0.
+pub fn no_session_is_zero<W: Undoes>(store: &StoreOver<W>)
+    ensures { is_live store.now.history 0 ≡ false }
+{
+    let _ = &store.history;
 }

@@ -4,7 +4,8 @@ ghost use Rattle.std.specs.List.{AllByRecursion};
 ghost use Rattle.febe_data.specs.Plain.{plain_history};
 ghost use Rattle.entry_codec.specs.Bodies.{HasBody};
 ghost use Rattle.entry_fits.specs.Fits.{AllFit};
-ghost use Rattle.green_io.specs.Disk.{LeavesOnly, LeavesOthers, WhereTold};
+ghost use Rattle.green_io.specs.Areas.{is_log};
+ghost use Rattle.green_io.specs.Disk.{LeavesOnly, LeavesBut, WhereTold};
 ghost use Rattle.green_io.specs.Outside.{HasRisen};
 ghost use Rattle.world_rules.specs.FlatView.{nothing_yet};
 ghost use Rattle.edit_log.specs.Images.{AsRead, HoldsAsRead};
@@ -23,7 +24,7 @@ use entry_codec::laws::body_says_length;
 use entry_fits::laws::{fitting_are_kept, fitting_begin, one_more_fits};
 use entry_fits::{Serials, fits};
 use febe_data::{Change, Entry, Limits, List, Memory};
-use green_io::{Area, Disk};
+use green_io::Disk;
 use std::alloc::Global;
 use thiserror::Error;
 use tree_world::{Tends, TreeWorld, Undoes};
@@ -139,7 +140,7 @@ impl<W: Undoes + Drop> StoreOver<W> {
         ensures left { UnlessDiskFailed result (ReadsAsBefore (D.state disk.old).reads (D.state disk.new).reads) }
         ensures whole { (entries : _) → AsRead (D.state disk.old).reads (IsWhole entries) → OpensAs result entries }
         ensures any_moment { (entries : _) → AsRead (D.state disk.old).reads (IsWhole entries) → LeavesOnly (D.state disk.old) (D.state disk.new) (HoldsAsRead entries (D.state disk.old).reads) }
-        ensures others { LeavesOthers Area.Log (D.state disk.old) (D.state disk.new) }
+        ensures others { LeavesBut is_log (D.state disk.old) (D.state disk.new) }
         ensures never_falls { D.fault_count disk.old ≤ D.fault_count disk.new }
         ensures failed { OnDiskFailed result (HasRisen (D.fault_count disk.old) (D.fault_count disk.new)) }
     {
@@ -215,7 +216,7 @@ impl StoreOver<TreeWorld> {
         ensures left { UnlessDiskFailed result (ReadsAsBefore (D.state disk.old).reads (D.state disk.new).reads) }
         ensures whole { (entries : _) → AsRead (D.state disk.old).reads (IsWhole entries) → OpensAs result entries }
         ensures any_moment { (entries : _) → AsRead (D.state disk.old).reads (IsWhole entries) → LeavesOnly (D.state disk.old) (D.state disk.new) (HoldsAsRead entries (D.state disk.old).reads) }
-        ensures others { LeavesOthers Area.Log (D.state disk.old) (D.state disk.new) }
+        ensures others { LeavesBut is_log (D.state disk.old) (D.state disk.new) }
         ensures never_falls { D.fault_count disk.old ≤ D.fault_count disk.new }
         ensures failed { OnDiskFailed result (HasRisen (D.fault_count disk.old) (D.fault_count disk.new)) }
     {

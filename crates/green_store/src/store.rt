@@ -1,5 +1,5 @@
 //! The history of many sessions, and the world that it builds.
-ghost use Rattle.std.specs.Prelude.{◌≡◌, ◌≢◌, ◌⊎◌, ◌≤◌, ◌+◌, ◌==◌, [], ◌∷◌, not, filter, Bool, false, Option, IsTrue, IfOk, OnOk, OnErr};
+ghost use Rattle.std.specs.Prelude.{◌≡◌, ◌≢◌, ◌⊎◌, ◌≤◌, ◌<◌, ◌+◌, ◌^◌, ◌==◌, [], ◌∷◌, not, filter, length, Bool, false, Option, IsTrue, IfOk, OnOk, OnErr};
 ghost use Rattle.std.specs.List.{list_any};
 
 use crate::keeping::{is_kept, keep, look_at, record_of};
@@ -7,7 +7,7 @@ use crate::step::{Step, StepAnswer};
 use crate::tending::{Tended, tend};
 use edit_log::{Appended, EditLog};
 use febe_data::{Change, Entry, Limits, List, Memory, Refusal, Reply, Request, Tumbler};
-use green_io::{Area, Disk};
+use green_io::Disk;
 use std::alloc::Global;
 use std::marker::Model;
 use tree_world::{TreeWorld, Undoes};
@@ -48,7 +48,8 @@ impl<W: Undoes> Model for StoreOver<W> {
 impl<W: Undoes + Drop> StoreOver<W> {
     ghost use Rattle.febe_data.specs.Plain.{plain_history};
     ghost use Rattle.febe_data.specs.Plain.{PlainEntry};
-    ghost use Rattle.green_io.specs.Disk.{LeavesOnly, LeavesOthers};
+    ghost use Rattle.green_io.specs.Areas.{is_log};
+    ghost use Rattle.green_io.specs.Disk.{LeavesOnly, LeavesBut};
     ghost use Rattle.world_rules.specs.Apply.{world_of};
     ghost use Rattle.world_rules.specs.FlatView.{view_of};
     ghost use Rattle.world_rules.specs.Holding.{holder};
@@ -71,7 +72,7 @@ impl<W: Undoes + Drop> StoreOver<W> {
         ensures limits { self.new.limits ≡ self.old.limits }
         ensures any_moment { (pending : Option PlainEntry) → Keeps (D.state disk.old) self.old pending → LeavesOnly (D.state disk.old) (D.state disk.new) (HoldsStep self.old pending step) }
         ensures keeps { (pending : Option PlainEntry) → Keeps (D.state disk.old) self.old pending → KeepsStep self.old pending step self.new result (D.state disk.new) }
-        ensures others { LeavesOthers Area.Log (D.state disk.old) (D.state disk.new) }
+        ensures others { LeavesBut is_log (D.state disk.old) (D.state disk.new) }
         ensures never_falls { D.fault_count disk.old ≤ D.fault_count disk.new }
         ensures base { UnlessSwept result (self.new.base ≡ self.old.base) }
         ensures untouched { UnlessAsked step (disk.new ≡ disk.old) }
@@ -89,6 +90,15 @@ impl<W: Undoes + Drop> StoreOver<W> {
         ensures { plain_history result.now.items ≡ self.now.history }
     {
         &self.history
+    }
+
+    /// How many entries there are.
+    pub fn length(&self) -> u64
+        ensures value { result ≡ length self.now.history }
+        ensures bound { result < 2 ^ 63 }
+    {
+        let entries = self.history.as_slice();
+        entries.len() as u64
     }
 
     /// The world that the history has built.
@@ -175,7 +185,8 @@ fn remove(live: &mut List<u64>, session: u64)
 impl<W: Undoes + Drop> StoreOver<W> {
     ghost use Rattle.febe_data.specs.Plain.{PlainEntry, plain_request, plain_reply, plain_change};
     ghost use Rattle.febe_data.specs.Validity.{IsRequest, IsReply};
-    ghost use Rattle.green_io.specs.Disk.{LeavesOnly, LeavesOthers};
+    ghost use Rattle.green_io.specs.Areas.{is_log};
+    ghost use Rattle.green_io.specs.Disk.{LeavesOnly, LeavesBut};
     ghost use Rattle.world_rules.specs.Apply.{world_of};
     ghost use Rattle.world_rules.specs.History.{is_live, is_counted, kept};
     ghost use Rattle.world_rules.specs.Legal.{entry_after};
@@ -215,7 +226,7 @@ impl<W: Undoes + Drop> StoreOver<W> {
         ensures base { self.new.base ≡ self.old.base }
         ensures any_moment { (pending : Option PlainEntry) → Keeps (D.state disk.old) self.old pending → LeavesOnly (D.state disk.old) (D.state disk.new) (HoldsStep self.old pending (Step.Ask session request.now)) }
         ensures keeps { (pending : Option PlainEntry) → Keeps (D.state disk.old) self.old pending → KeepsStep self.old pending (Step.Ask session request.now) self.new result (D.state disk.new) }
-        ensures others { LeavesOthers Area.Log (D.state disk.old) (D.state disk.new) }
+        ensures others { LeavesBut is_log (D.state disk.old) (D.state disk.new) }
         ensures never_falls { D.fault_count disk.old ≤ D.fault_count disk.new }
     {
         if !self.is_live(session) {
@@ -315,7 +326,7 @@ impl<W: Undoes + Drop> StoreOver<W> {
         ensures trees { UnlessKept self.old self.new (self.new.trees ≡ self.old.trees) }
         ensures any_moment { (pending : Option PlainEntry) → Keeps (D.state disk.old) self.old pending → LeavesOnly (D.state disk.old) (D.state disk.new) (HoldsRequest self.old pending session (plain_request request.now)) }
         ensures keeps { (pending : Option PlainEntry) → Keeps (D.state disk.old) self.old pending → KeepsRequest self.old pending session (plain_request request.now) self.new (plain_reply result) (D.state disk.new) }
-        ensures others { LeavesOthers Area.Log (D.state disk.old) (D.state disk.new) }
+        ensures others { LeavesBut is_log (D.state disk.old) (D.state disk.new) }
         ensures never_falls { D.fault_count disk.old ≤ D.fault_count disk.new }
     {
         if let Request::Quit = request {
@@ -349,7 +360,7 @@ impl<W: Undoes + Drop> StoreOver<W> {
         ensures trees { UnlessKept self.old self.new (self.new.trees ≡ self.old.trees) }
         ensures any_moment { (pending : Option PlainEntry) → Keeps (D.state disk.old) self.old pending → LeavesOnly (D.state disk.old) (D.state disk.new) (HoldsRequest self.old pending session (plain_request request.now)) }
         ensures keeps { (pending : Option PlainEntry) → Keeps (D.state disk.old) self.old pending → IfOk result (λ reply. KeepsRequest self.old pending session (plain_request request.now) self.new (plain_reply reply) (D.state disk.new)) }
-        ensures others { LeavesOthers Area.Log (D.state disk.old) (D.state disk.new) }
+        ensures others { LeavesBut is_log (D.state disk.old) (D.state disk.new) }
         ensures never_falls { D.fault_count disk.old ≤ D.fault_count disk.new }
         ensures err { OnErr result (StandsStill self.old self.new) }
         ensures untouched { OnErr result (disk.new ≡ disk.old) }
@@ -408,7 +419,7 @@ impl<W: Undoes + Drop> StoreOver<W> {
         ensures trees { UnlessKept self.old self.new (self.new.trees ≡ self.old.trees) }
         ensures any_moment { (pending : Option PlainEntry) → Keeps (D.state disk.old) self.old pending → LeavesOnly (D.state disk.old) (D.state disk.new) (HoldsWith (kept self.old.history) (λ other. IsThat pending other ⊎ (other ≡ entry_after self.old.history session (plain_effect made)))) }
         ensures keeps { (pending : Option PlainEntry) → Keeps (D.state disk.old) self.old pending → IfOk result (λ reply. KeepsEdit self.old pending (entry_after self.old.history session (plain_effect made)) self.new (plain_reply reply) (D.state disk.new)) }
-        ensures others { LeavesOthers Area.Log (D.state disk.old) (D.state disk.new) }
+        ensures others { LeavesBut is_log (D.state disk.old) (D.state disk.new) }
         ensures never_falls { D.fault_count disk.old ≤ D.fault_count disk.new }
         ensures err { OnErr result (StandsStill self.old self.new) }
         ensures untouched { OnErr result (disk.new ≡ disk.old) }

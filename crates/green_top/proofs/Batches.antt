@@ -3,7 +3,7 @@ use Rattle.std.proofs.Common.{◌≡◌, ◌≢◌, ℕ, ◌+◌, ◌≤◌, Lis
 use Rattle.std.specs.Prelude.{IsSome}
 use Rattle.std.proofs.lemmas.List.{length-map, take-append-le}
 use Rattle.std.proofs.Math.Seq.{take-length}
-use Rattle.febe_data.specs.LimitsView.{LimitsView, standard_limits}
+use Rattle.febe_data.specs.LimitsView.{LimitsView}
 use Rattle.febe_data.specs.Plain.{PlainEntry, plain_history, plain_entry}
 use Rattle.febe_data.specs.declared.entry.Entry.{Entry}
 use Rattle.green_io.specs.Areas.{Areas}
@@ -27,11 +27,11 @@ use Rattle.green_top.specs.Batch.{IsBatch, BeginsWith, fault_status, status_of, 
 use Rattle.green_top.specs.Crash.{HoldsFront, HoldsRun, HoldsAll, WasMade}
 use Rattle.green_top.specs.IoState.{IoState, with_disk_faults}
 use Rattle.green_top.specs.GeneratedRun.{SinkFailed, CouldNotBegin, IsSummedSession, IsGeneratedRun}
-use Rattle.green_top.specs.Outcome.{NoSession, IsRun}
+use Rattle.green_top.specs.Outcome.{NoSession, IsRun, HasServedAlone}
 use Rattle.green_top.specs.declared.words.Form.{Form}
 use Rattle.green_top.specs.declared.words.Form.TheVariants as forms
 use Rattle.green_top.specs.inside.Forms.{limits_of, IsForm, IsFormRun, IsGenerated}
-use Rattle.green_top.proofs.EndedSessions.{run_from, transcript_from}
+use Rattle.green_top.proofs.EndedSessions.{run_from, alone_from}
 use Rattle.green_top.specs.Words.{AreWords, AreGenerateWords, AreNoWords, HasLimits}
 use Rattle.green_top.specs.inside.Enduring.{StandsOn, Endures}
 use Rattle.green_top.proofs.Endurings.{was_made}
@@ -143,47 +143,36 @@ pub generates : (words : List (List ℕ)) (form : Form) → IsForm words form �
 generates words (forms.Session limits) is start generate = absurd (not_both words limits start is generate)
 generates words (forms.Generate named) is start generate = tt
 
-pub session_runs : (form : Form) (named limits : LimitsView) (opened : List PlainEntry) (before after : IoState) (history : List PlainEntry) (exchanges : List Exchange) (points : List ℕ) (count : ℕ) (end : SessionEnd) → form ≡ forms.Session named → limits ≡ limits_of form
-    → IsRun limits opened before after history exchanges points count end → IsFormRun form opened before after history exchanges points count end
-session_runs form named limits opened before after history exchanges points count end is so run =
-    subst (λ (f : Form). IsFormRun f opened before after history exchanges points count end) (sym is)
-    (subst (λ (l : LimitsView). IsRun l opened before after history exchanges points count end) (so ∙ ap limits_of is) run)
+pub session_runs : (form : Form) (named limits : LimitsView) (session : ℕ) (before after : IoState) (history : List PlainEntry) (exchanges : List Exchange) (points : List ℕ) (count : ℕ) (end : SessionEnd) → form ≡ forms.Session named → limits ≡ limits_of form
+    → IsRun limits session before after history exchanges points count end → IsFormRun form session before after history exchanges points count end
+session_runs form named limits session before after history exchanges points count end is so run =
+    subst (λ (f : Form). IsFormRun f session before after history exchanges points count end) (sym is)
+    (subst (λ (l : LimitsView). IsRun l session before after history exchanges points count end) (so ∙ ap limits_of is) run)
 
-pub generated_runs : (form : Form) (start : ℕ) (opened : List PlainEntry) (before after : IoState) (history : List PlainEntry) (exchanges : List Exchange) (points : List ℕ) (count : ℕ) (end : SessionEnd) → form ≡ forms.Generate start
-    → IsGeneratedRun start opened before after history exchanges points end → count ≡ 0 → IsFormRun form opened before after history exchanges points count end
-generated_runs form start opened before after history exchanges points count end is run none = subst (λ (f : Form). IsFormRun f opened before after history exchanges points count end) (sym is) (run, none)
+pub generated_runs : (form : Form) (start session : ℕ) (before after : IoState) (history : List PlainEntry) (exchanges : List Exchange) (points : List ℕ) (count : ℕ) (end : SessionEnd) → form ≡ forms.Generate start
+    → IsGeneratedRun start session before after history exchanges points end → count ≡ 0 → IsFormRun form session before after history exchanges points count end
+generated_runs form start session before after history exchanges points count end is run none = subst (λ (f : Form). IsFormRun f session before after history exchanges points count end) (sym is) (run, none)
 
-no_place : (start : ℕ) (opened : List PlainEntry) (before after : IoState) (history : List PlainEntry) (exchanges : List Exchange) (points : List ℕ) (end : SessionEnd) → IsGeneratedRun start opened before after history exchanges points end → place_of end ≡ 0
-no_place start opened before after history exchanges points (ends.Malformed at) run = absurd (never run.leaves)
+no_place : (start session : ℕ) (before after : IoState) (history : List PlainEntry) (exchanges : List Exchange) (points : List ℕ) (end : SessionEnd) → IsGeneratedRun start session before after history exchanges points end → place_of end ≡ 0
+no_place start session before after history exchanges points (ends.Malformed at) run = absurd (never run.leaves)
   where
-    never : (CouldNotBegin (ends.Malformed at) opened × NoSession opened history exchanges points run.written) ⊎ IsSummedSession start opened (ends.Malformed at) run.written history exchanges points before.disk_faults after.disk_faults → ⊥
+    never : (CouldNotBegin (ends.Malformed at) history × NoSession session exchanges points run.written) ⊎ IsSummedSession start session (ends.Malformed at) run.written history exchanges points → ⊥
     never (inl l) = l.0
     never (inr s) = s.answered_and_summed
-no_place start opened before after history exchanges points (ends.Truncated at) run = absurd (never run.leaves)
+no_place start session before after history exchanges points (ends.Truncated at) run = absurd (never run.leaves)
   where
-    never : (CouldNotBegin (ends.Truncated at) opened × NoSession opened history exchanges points run.written) ⊎ IsSummedSession start opened (ends.Truncated at) run.written history exchanges points before.disk_faults after.disk_faults → ⊥
+    never : (CouldNotBegin (ends.Truncated at) history × NoSession session exchanges points run.written) ⊎ IsSummedSession start session (ends.Truncated at) run.written history exchanges points → ⊥
     never (inl l) = l.0
     never (inr s) = s.answered_and_summed
-no_place start opened before after history exchanges points ends.Quit run = refl
-no_place start opened before after history exchanges points ends.End run = refl
-no_place start opened before after history exchanges points ends.ReadFault run = refl
-no_place start opened before after history exchanges points ends.WriteFault run = refl
-no_place start opened before after history exchanges points ends.Memory run = refl
-no_place start opened before after history exchanges points ends.Budget run = refl
-no_place start opened before after history exchanges points ends.NoNumber run = refl
+no_place start session before after history exchanges points ends.Quit run = refl
+no_place start session before after history exchanges points ends.End run = refl
+no_place start session before after history exchanges points ends.ReadFault run = refl
+no_place start session before after history exchanges points ends.WriteFault run = refl
+no_place start session before after history exchanges points ends.Memory run = refl
+no_place start session before after history exchanges points ends.Budget run = refl
+no_place start session before after history exchanges points ends.NoNumber run = refl
 
 -- seen from before the store was opened
-
-summed_from : (start : ℕ) (opened : List PlainEntry) (end : SessionEnd) (written : List ℕ) (history : List PlainEntry) (exchanges : List Exchange) (points : List ℕ) (k m n : ℕ) → k ≤ m → IsSummedSession start opened end written history exchanges points m n → IsSummedSession start opened end written history exchanges points k n
-summed_from start opened end written history exchanges points k m n le s = record {
-  session = s.session;
-  number_is = s.number_is;
-  has_number = s.has_number;
-  answered = s.answered;
-  output = s.output;
-  over = record { history_is = s.over.history_is; over = s.over.over; placed = s.over.placed; transcript = transcript_from standard_limits s.session history exchanges s.answered points s.output k m n le s.over.transcript };
-  answered_and_summed = s.answered_and_summed;
-}
 
 failed_from : (end : SessionEnd) (before after : IoState) (m : ℕ) → SinkFailed end (with_disk_faults before m) after → SinkFailed end before after
 failed_from ends.WriteFault before after m failed = failed
@@ -196,9 +185,9 @@ failed_from ends.Memory before after m failed = tt
 failed_from ends.Budget before after m failed = tt
 failed_from ends.NoNumber before after m failed = tt
 
-generated_from : (start : ℕ) (opened : List PlainEntry) (before after : IoState) (m : ℕ) (history reported : List PlainEntry) (exchanges : List Exchange) (points : List ℕ) (end : SessionEnd) → before.disk_faults ≤ m → reported ≡ history
-    → IsGeneratedRun start opened (with_disk_faults before m) after history exchanges points end → IsGeneratedRun start opened before after reported exchanges points end
-generated_from start opened before after m history reported exchanges points end le is run = subst (λ (h : List PlainEntry). IsGeneratedRun start opened before after h exchanges points end) (sym is) (record {
+generated_from : (start session : ℕ) (before after : IoState) (m : ℕ) (history reported : List PlainEntry) (exchanges : List Exchange) (points : List ℕ) (end : SessionEnd) → before.disk_faults ≤ m → reported ≡ history
+    → IsGeneratedRun start session (with_disk_faults before m) after history exchanges points end → IsGeneratedRun start session before after reported exchanges points end
+generated_from start session before after m history reported exchanges points end le is run = subst (λ (h : List PlainEntry). IsGeneratedRun start session before after h exchanges points end) (sym is) (record {
   written = run.written;
   left_stays = run.left_stays;
   source_faults_stay = run.source_faults_stay;
@@ -206,39 +195,38 @@ generated_from start opened before after m history reported exchanges points end
   sink_never_falls = run.sink_never_falls;
   disk_never_falls = omega (arith, le, run.disk_never_falls);
   cause = failed_from end before after m run.cause;
-  leaves = wider run.leaves;
+  leaves = run.leaves;
 })
-  where
-    wider : (CouldNotBegin end opened × NoSession opened history exchanges points run.written) ⊎ IsSummedSession start opened end run.written history exchanges points m after.disk_faults
-        → (CouldNotBegin end opened × NoSession opened history exchanges points run.written) ⊎ IsSummedSession start opened end run.written history exchanges points before.disk_faults after.disk_faults
-    wider (inl never) = inl never
-    wider (inr s) = inr (summed_from start opened end run.written history exchanges points before.disk_faults m after.disk_faults le s)
 
-pub batch_of : (words : List (List ℕ)) (form : Form) (reads left : Option Areas) (before after : IoState) (m : ℕ) (report : Report) (status : ℕ) (opened history : List PlainEntry) (exchanges : List Exchange) (end : SessionEnd)
+pub batch_of : (words : List (List ℕ)) (form : Form) (reads left : Option Areas) (before after : IoState) (m : ℕ) (report : Report) (status : ℕ) (opened : List PlainEntry) (session : ℕ) (history : List PlainEntry) (exchanges : List Exchange) (end : SessionEnd)
     → IsForm words form → IsOpenedFrom reads opened → status ≡ status_of end → report.place ≡ place_of end → report.opened ≡ length opened → before.disk_faults ≤ m → plain_history report.history.items ≡ history
-    → IsFormRun form opened (with_disk_faults before m) after history exchanges report.points.items report.bytes_read end → IsBatch words reads left before after report exchanges status
-batch_of words (forms.Session limits) reads left before after m report status opened history exchanges end form from status-is place-is opened-is le is run = inr (inl (record {
+    → IsFormRun form session (with_disk_faults before m) after history exchanges report.points.items report.bytes_read end → HasServedAlone opened session history exchanges m after.disk_faults → IsBatch words reads left before after report exchanges status
+batch_of words (forms.Session limits) reads left before after m report status opened session history exchanges end form from status-is place-is opened-is le is run alone = inr (inl (record {
   limits = limits;
   opened = opened;
+  session = session;
   end = end;
   words_are = form;
   from = from;
   status_is = status-is;
   place_is = place-is;
   opened_is = opened-is;
-  run = run_from limits opened before after m history (plain_history report.history.items) exchanges report.points.items report.bytes_read end le is run;
+  run = run_from limits session before after m history (plain_history report.history.items) exchanges report.points.items report.bytes_read end le is run;
+  alone = alone_from opened session history (plain_history report.history.items) exchanges before.disk_faults m after.disk_faults le is alone;
 }))
-batch_of words (forms.Generate start) reads left before after m report status opened history exchanges end form from status-is place-is opened-is le is run = inr (inr (record {
+batch_of words (forms.Generate start) reads left before after m report status opened session history exchanges end form from status-is place-is opened-is le is run alone = inr (inr (record {
   start = start;
   opened = opened;
+  session = session;
   end = end;
   words_are = form;
   from = from;
   status_is = status-is;
-  place_is = place-is ∙ no_place start opened (with_disk_faults before m) after history exchanges report.points.items end run.0;
+  place_is = place-is ∙ no_place start session (with_disk_faults before m) after history exchanges report.points.items end run.0;
   opened_is = opened-is;
   counted = run.1;
-  run = generated_from start opened before after m history (plain_history report.history.items) exchanges report.points.items end le is run.0;
+  run = generated_from start session before after m history (plain_history report.history.items) exchanges report.points.items end le is run.0;
+  alone = alone_from opened session history (plain_history report.history.items) exchanges before.disk_faults m after.disk_faults le is alone;
 }))
 
 -- ---- a store that was not opened

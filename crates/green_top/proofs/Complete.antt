@@ -18,7 +18,7 @@ use Rattle.green_top.specs.declared.session_end.SessionEnd.{SessionEnd}
 use Rattle.green_top.specs.declared.session_end.SessionEnd.TheVariants as ends
 use Rattle.green_top.specs.Batch.{status_of, fault_status, FaultCause, IsUsage, IsNotOpened}
 use Rattle.green_top.specs.Ends.{Cause}
-use Rattle.green_top.specs.Outcome.{Leaves, NoSession}
+use Rattle.green_top.specs.Outcome.{Leaves, NoSession, HasServedAlone}
 use Rattle.green_top.specs.GeneratedRun.{SinkFailed, CouldNotBegin, IsSummedSession}
 use Rattle.green_top.specs.Laws.{NoFaults, IsServed, HasSession, HasLog, Completeness, GeneratedCompleteness}
 use Rattle.green_top.specs.IoState.{IoState}
@@ -36,9 +36,14 @@ prefix_of (Some xs) (Some ys) input read e c = (ys, refl, sym (some_is xs input 
     some_is a b is = cc
 
 -- where there is a number a session does not end for want of one
-number_left : (limits : LimitsView) (opened : List PlainEntry) (read written : List ℕ) (history : List PlainEntry) (exchanges : List Exchange) (points : List ℕ) (m n : ℕ) → greatest_session opened + 1 < 2 ^ 64 → ¬ Leaves limits opened ends.NoNumber read written history exchanges points m n
-number_left limits opened read written history exchanges points m n has (inl l) = omega (arith, has, l.0.0)
-number_left limits opened read written history exchanges points m n has (inr s) = s.answered_and_written
+number_left : (limits : LimitsView) (session : ℕ) (read written : List ℕ) (history : List PlainEntry) (exchanges : List Exchange) (points : List ℕ) → (session ≡ 0 → greatest_session history + 1 < 2 ^ 64) → ¬ Leaves limits session ends.NoNumber read written history exchanges points
+number_left limits session read written history exchanges points has (inl l) = omega (arith, has l.1.unnumbered, l.0.0)
+number_left limits session read written history exchanges points has (inr s) = s.answered_and_written
+
+-- Where no session began, the history is the one that was opened, so it has a number left where that had.
+left_where_none : (opened : List PlainEntry) (session : ℕ) (history : List PlainEntry) (exchanges : List Exchange) (m n : ℕ) → greatest_session opened + 1 < 2 ^ 64 → HasServedAlone opened session history exchanges m n → session ≡ 0 → greatest_session history + 1 < 2 ^ 64
+left_where_none opened session history exchanges m n has (inl a) none = omega (arith, has, ap greatest_session a.1)
+left_where_none opened session history exchanges m n has (inr a) none = absurd (omega (arith, none, a.number_is))
 
 module _ (before after : IoState) (s : HasSession before.left) (quiet : NoFaults before after) (read : List ℕ) (consumed : Consumes before.left after.left read) where
   abbrev prefix : (rest : List ℕ) × (after.left ≡ Some rest) × (s.input ≡ read ++ rest)
@@ -52,8 +57,8 @@ module _ (before after : IoState) (s : HasSession before.left) (quiet : NoFaults
       let none : prefix.0 ≡ [] = rw prefix.1 at over in
       subst IsInput (prefix.2 ∙ ap (λ (rest : List ℕ). read ++ rest) none ∙ append-nil read) s.whole
 
-  module _ (limits : LimitsView) (opened : List PlainEntry) (written : List ℕ) (history : List PlainEntry) (exchanges : List Exchange) (points : List ℕ) (has : greatest_session opened + 1 < 2 ^ 64) where
-    served : (end : SessionEnd) → Cause end read before after → Leaves limits opened end read written history exchanges points before.disk_faults after.disk_faults → (status_of end ≡ 0) ⊎ (status_of end ≡ 9)
+  module _ (limits : LimitsView) (session : ℕ) (written : List ℕ) (history : List PlainEntry) (exchanges : List Exchange) (points : List ℕ) (has : session ≡ 0 → greatest_session history + 1 < 2 ^ 64) where
+    served : (end : SessionEnd) → Cause end read before after → Leaves limits session end read written history exchanges points → (status_of end ≡ 0) ⊎ (status_of end ≡ 9)
     served ends.Quit cause leaves = inl refl
     served ends.End cause leaves = inl refl
     served (ends.Malformed at) cause leaves = absurd (prefixes_are_right read at is_prefix cause)
@@ -62,7 +67,7 @@ module _ (before after : IoState) (s : HasSession before.left) (quiet : NoFaults
     served ends.WriteFault cause leaves = absurd (quiet.none_written cause)
     served ends.Memory cause leaves = inr refl
     served ends.Budget cause leaves = absurd (omega (arith, cause.1, s.short, ap length prefix.2, length-append read prefix.0))
-    served ends.NoNumber cause leaves = absurd (number_left limits opened read written history exchanges points before.disk_faults after.disk_faults has leaves)
+    served ends.NoNumber cause leaves = absurd (number_left limits session read written history exchanges points has leaves)
 
 -- the store is not opened for want of memory, or since the disk failed, and for nothing else
 by_fault : EachHasOneReading → (reads left : Option Areas) (before after : IoState) → HasLog reads → (fault : OpenFault) → FaultCause fault reads left before after → IsServed before after (fault_status fault)
@@ -86,26 +91,27 @@ completeness one words limits reads left before after report exchanges status ar
 completeness one words limits reads left before after report exchanges status are s log quiet (inr (inl o)) =
     let is = opened_is one reads log.entries o.opened log.read o.from in
     let has : greatest_session o.opened + 1 < 2 ^ 64 = omega (arith, log.number, ap greatest_session is, greatest_opened log.entries) in
-    by_end before after status (status_of o.end) o.status_is (served before after s quiet o.run.read o.run.moves.consumed o.limits o.opened o.run.written _ exchanges report.points.items has o.end o.run.cause o.run.leaves)
+    by_end before after status (status_of o.end) o.status_is (served before after s quiet o.run.read o.run.moves.consumed o.limits o.session o.run.written _ exchanges report.points.items
+    (left_where_none o.opened o.session _ exchanges before.disk_faults after.disk_faults has o.alone) o.end o.run.cause o.run.leaves)
 
 -- ---- a session that is generated
 
-generated_ends : (start : ℕ) (opened history : List PlainEntry) (exchanges : List Exchange) (points written : List ℕ) (before after : IoState) (end : SessionEnd) → greatest_session opened + 1 < 2 ^ 64 → ¬ HasRisen before.sink_faults after.sink_faults → SinkFailed end before after
-    → (CouldNotBegin end opened × NoSession opened history exchanges points written) ⊎ IsSummedSession start opened end written history exchanges points before.disk_faults after.disk_faults → (status_of end ≡ 0) ⊎ (status_of end ≡ 9)
-generated_ends start opened history exchanges points written before after ends.Quit has quiet failed leaves = inl refl
-generated_ends start opened history exchanges points written before after ends.End has quiet failed leaves = inl refl
-generated_ends start opened history exchanges points written before after (ends.Malformed at) has quiet failed (inl never) = absurd never.0
-generated_ends start opened history exchanges points written before after (ends.Malformed at) has quiet failed (inr s) = absurd s.answered_and_summed
-generated_ends start opened history exchanges points written before after (ends.Truncated at) has quiet failed (inl never) = absurd never.0
-generated_ends start opened history exchanges points written before after (ends.Truncated at) has quiet failed (inr s) = absurd s.answered_and_summed
-generated_ends start opened history exchanges points written before after ends.ReadFault has quiet failed (inl never) = absurd never.0
-generated_ends start opened history exchanges points written before after ends.ReadFault has quiet failed (inr s) = absurd s.answered_and_summed
-generated_ends start opened history exchanges points written before after ends.WriteFault has quiet failed leaves = absurd (quiet failed)
-generated_ends start opened history exchanges points written before after ends.Memory has quiet failed leaves = inr refl
-generated_ends start opened history exchanges points written before after ends.Budget has quiet failed (inl never) = absurd never.0
-generated_ends start opened history exchanges points written before after ends.Budget has quiet failed (inr s) = absurd s.answered_and_summed
-generated_ends start opened history exchanges points written before after ends.NoNumber has quiet failed (inl never) = absurd (omega (arith, has, never.0))
-generated_ends start opened history exchanges points written before after ends.NoNumber has quiet failed (inr s) = absurd s.answered_and_summed
+generated_ends : (start session : ℕ) (history : List PlainEntry) (exchanges : List Exchange) (points written : List ℕ) (before after : IoState) (end : SessionEnd) → (session ≡ 0 → greatest_session history + 1 < 2 ^ 64) → ¬ HasRisen before.sink_faults after.sink_faults → SinkFailed end before after
+    → (CouldNotBegin end history × NoSession session exchanges points written) ⊎ IsSummedSession start session end written history exchanges points → (status_of end ≡ 0) ⊎ (status_of end ≡ 9)
+generated_ends start session history exchanges points written before after ends.Quit has quiet failed leaves = inl refl
+generated_ends start session history exchanges points written before after ends.End has quiet failed leaves = inl refl
+generated_ends start session history exchanges points written before after (ends.Malformed at) has quiet failed (inl never) = absurd never.0
+generated_ends start session history exchanges points written before after (ends.Malformed at) has quiet failed (inr s) = absurd s.answered_and_summed
+generated_ends start session history exchanges points written before after (ends.Truncated at) has quiet failed (inl never) = absurd never.0
+generated_ends start session history exchanges points written before after (ends.Truncated at) has quiet failed (inr s) = absurd s.answered_and_summed
+generated_ends start session history exchanges points written before after ends.ReadFault has quiet failed (inl never) = absurd never.0
+generated_ends start session history exchanges points written before after ends.ReadFault has quiet failed (inr s) = absurd s.answered_and_summed
+generated_ends start session history exchanges points written before after ends.WriteFault has quiet failed leaves = absurd (quiet failed)
+generated_ends start session history exchanges points written before after ends.Memory has quiet failed leaves = inr refl
+generated_ends start session history exchanges points written before after ends.Budget has quiet failed (inl never) = absurd never.0
+generated_ends start session history exchanges points written before after ends.Budget has quiet failed (inr s) = absurd s.answered_and_summed
+generated_ends start session history exchanges points written before after ends.NoNumber has quiet failed (inl never) = absurd (omega (arith, has never.1.unnumbered, never.0))
+generated_ends start session history exchanges points written before after ends.NoNumber has quiet failed (inr s) = absurd s.answered_and_summed
 
 pub generated_completeness : EachHasOneReading → GeneratedCompleteness
 generated_completeness one words start reads left before after report exchanges status are log quiet (inl nothing) = by_nothing one words reads left before after report.place status (λ none. none.no_generate start are) log nothing.why
@@ -113,4 +119,5 @@ generated_completeness one words start reads left before after report exchanges 
 generated_completeness one words start reads left before after report exchanges status are log quiet (inr (inr o)) =
     let is = opened_is one reads log.entries o.opened log.read o.from in
     let has : greatest_session o.opened + 1 < 2 ^ 64 = omega (arith, log.number, ap greatest_session is, greatest_opened log.entries) in
-    by_end before after status (status_of o.end) o.status_is (generated_ends o.start o.opened _ exchanges report.points.items o.run.written before after o.end has quiet o.run.cause o.run.leaves)
+    by_end before after status (status_of o.end) o.status_is (generated_ends o.start o.session _ exchanges report.points.items o.run.written before after o.end
+    (left_where_none o.opened o.session _ exchanges before.disk_faults after.disk_faults has o.alone) quiet o.run.cause o.run.leaves)

@@ -1,11 +1,9 @@
 -- A session's requests are answered one after the other.
-use Rattle.std.proofs.Common.{◌≡◌, ◌≢◌, ℕ, zero, suc, take, ◌+◌, ◌-◌, ◌^◌, ◌≤◌, ◌<◌, true, false, List, [], ◌∷◌, ◌++◌, length, Option, Some, None, refl, ap, ◌∙◌, sym, subst, inl, inr, arith, le_trans, le_refl, append_assoc}
+use Rattle.std.proofs.Common.{◌≡◌, ◌≢◌, ℕ, zero, suc, take, ◌+◌, ◌-◌, ◌^◌, ◌≤◌, ◌<◌, true, List, [], ◌∷◌, ◌++◌, length, Option, None, refl, ap, ◌∙◌, sym, subst, inl, inr, arith, le_trans, le_refl, append_assoc}
 use Rattle.std.specs.Prelude.{codes}
 use Rattle.std.specs.List.{flat_map}
 use Rattle.std.specs.Io.KnownBytes.{Appends}
-use Rattle.std.proofs.lemmas.Bool.{eq-eqb}
 use Rattle.std.proofs.lemmas.List.{append-nil, append_cancel_left, length-append, length-drop}
-use Rattle.std.proofs.lemmas.Grind.{fold-append}
 use Rattle.febe_data.specs.LimitsView.{LimitsView}
 use Rattle.febe_data.specs.Plain.{PlainRequest, quit, PlainEntry}
 use Rattle.febe_fields.specs.Prefixes.{HasNoSpelledPrefix}
@@ -30,12 +28,11 @@ use Rattle.green_top.specs.IoState.{IoState, io_state, Moves}
 use Rattle.green_top.specs.Requests.{HasRequestPrefix, AreWholeRequests}
 use Rattle.green_top.specs.Ends.{most_input, Cause, AnsweredAndWritten}
 use Rattle.green_top.specs.inside.Progress.{AnswersAndWrites, Progress}
-use Rattle.green_top.specs.inside.Conversation.{SessionState, session_state, reading, answering, IsAsked, IsNotAsked, IsRound, HasBegun, all_read, IsConversing, IsConversed}
-use Rattle.world_rules.specs.History.{is_live, live_after}
+use Rattle.green_top.specs.inside.Conversation.{SessionState, session_state, reading, answering, IsAsked, IsNotAsked, IsLastRound, IsRound, HasBegun, all_read, IsConversing, IsConversed}
+use Rattle.world_rules.specs.History.{is_live}
 use Rattle.world_rules.specs.Legal.{Exchange}
-use Rattle.green_store.specs.Sessions.{begin_entry}
-use Rattle.green_top.specs.inside.Opening.{Begins}
 use Rattle.green_top.proofs.Streams.{consumes_more, consumes_nothing, appends_nothing, appends_both, risen_since}
+use Rattle.green_top.proofs.Liveness.{live_from_begin}
 use Rattle.green_top.proofs.Progresses.{progress_begins, progress_goes_on}
 
 -- ---- quits
@@ -80,10 +77,6 @@ moves_both a b c r s w v p q = record {
 
 -- ---- the greeting
 
-live_from_begin : (session : ℕ) (opened h : List PlainEntry) → Begins session opened h → is_live h session ≡ true
-live_from_begin session opened h b =
-    ap (λ (x : List PlainEntry). is_live x session) b.grows ∙ fold-append (live_after session) false opened (begin_entry session ∷ []) ∙ rw (eq-eqb session session refl) refl
-
 module _ (limits : LimitsView) (session : ℕ) (h : List PlainEntry) (points : List ℕ) (feed : FeedView) (turns : TurnsView) (left : Option (List ℕ)) (source_faults : ℕ) (taken taken' : Option (List ℕ)) (faults faults' disk_faults : ℕ)
     (begun : HasBegun session (session_state h points feed turns (io_state left source_faults taken faults disk_faults))) where
   abbrev start : SessionState
@@ -109,8 +102,11 @@ module _ (limits : LimitsView) (session : ℕ) (h : List PlainEntry) (points : L
   same_length : length (greeting ++ feed.held) ≡ length ((greeting ++ feed.held) ++ [])
   same_length = ap length (sym (append-nil (greeting ++ feed.held)))
 
-  just_begun : Progress limits session h h [] points [] (codes "P0~") disk_faults disk_faults
-  just_begun = rw begun.no_points (progress_begins limits session begun.opened h disk_faults begun.begins)
+  just_begun : Progress limits session h h [] points [] (codes "P0~")
+  just_begun = rw begun.no_points (progress_begins limits session begun.opened h begun.begins)
+
+  pub still_live : is_live h session ≡ true
+  still_live = live_from_begin session begun.opened h begun.begins.grows
 
   pub starts : IsPut taken taken' faults faults' (codes "P0~") put_results.Done → IsConversing limits session start (session_state h points feed turns (io_state left source_faults taken' faults' disk_faults)) []
   starts put = record {
@@ -124,7 +120,7 @@ module _ (limits : LimitsView) (session : ℕ) (h : List PlainEntry) (points : L
     turns_are = begun.greeted.turns_are ∙ ap (λ (n : ℕ). record { limit = most_input; taken = n }) same_length;
     within = omega (arith, same_length, begun.greeted.within);
     progress = just_begun;
-    live = live_from_begin session begun.opened h begun.begins;
+    live = still_live;
   }
 
   pub greeting_fails : IsPut taken taken' faults faults' (codes "P0~") put_results.WriteFault → IsConversed limits session start (session_state h points feed turns (io_state left source_faults taken' faults' disk_faults)) [] ends.WriteFault
@@ -213,10 +209,10 @@ module _ (limits : LimitsView) (session : ℕ) (start now after : SessionState) 
     one_more = request_prefix asked_stream (c.requests ++ request ∷ []) after.feed given_one still_greeted (last_may_quit c.requests request c.no_quits)
 
     answered : (h : AnswersAndWrites limits session (answering now) (answering after) request put next)
-        → Progress limits session start.history after.history (earlier ++ next) after.points (c.requests ++ request ∷ []) (c.written ++ h.output) start.io.disk_faults after.io.disk_faults
+        → Progress limits session start.history after.history (earlier ++ next) after.points (c.requests ++ request ∷ []) (c.written ++ h.output)
     answered h =
-        subst (λ (es : List Exchange). Progress limits session start.history after.history (earlier ++ es) after.points (c.requests ++ request ∷ []) (c.written ++ h.output) start.io.disk_faults after.io.disk_faults) (sym h.exchanges_are)
-        (progress_goes_on limits session start.history now.history earlier now.points c.requests c.written start.io.disk_faults now.io.disk_faults c.progress request h.output (answering now) (answering after) refl refl refl h.answers)
+        subst (λ (es : List Exchange). Progress limits session start.history after.history (earlier ++ es) after.points (c.requests ++ request ∷ []) (c.written ++ h.output)) (sym h.exchanges_are)
+        (progress_goes_on limits session start.history earlier c.requests c.written h.output request (answering now) (answering after) c.progress h.answers)
 
   pub goes_on : IsRound limits session now after next None → IsConversing limits session start after (earlier ++ next)
   goes_on ((request, no_quit, a), live) = elim a.answered [
@@ -292,7 +288,7 @@ module _ (limits : LimitsView) (session : ℕ) (start now after : SessionState) 
       moves = taking a.read a.reads [] (rw s.sink_stays (appends_nothing now.io.taken)) (omega (arith, s.faults_stay)) (omega (arith, s.disk_faults_stay));
       counted = ap (λ (x : TurnsView). x.taken) (counts a.read a.reads);
       within = bounded a.read a.reads;
-      progress = rw (s.history_stays, s.points_stay, s.disk_faults_stay, s.no_exchange, append-nil c.written, append-nil earlier) c.progress;
+      progress = rw (s.history_stays, s.points_stay, s.no_exchange, append-nil c.written, append-nil earlier) c.progress;
       cause = tt;
       answered_and_written = (prefix a.read a.reads, ([], sym (append-nil (c.written ++ []))));
     }
@@ -308,8 +304,8 @@ module _ (limits : LimitsView) (session : ℕ) (start now after : SessionState) 
     nothing_more = subst (λ (w : List ℕ). Moves start.io after.io (c.read ++ n.read) w) (append-nil c.written)
         (taking n.read n.reads [] (rw n.taken_stays (appends_nothing now.io.taken)) (omega (arith, n.faults_stay)) (omega (arith, n.disk_faults_stay)))
 
-    still : Progress limits session start.history after.history (earlier ++ next) after.points c.requests c.written start.io.disk_faults after.io.disk_faults
-    still = rw (n.history_stays, n.points_stay, n.disk_faults_stay, n.no_exchange, append-nil earlier) c.progress
+    still : Progress limits session start.history after.history (earlier ++ next) after.points c.requests c.written
+    still = rw (n.history_stays, n.points_stay, n.no_exchange, append-nil earlier) c.progress
 
     ends_so : (end : SessionEnd) → Cause end unasked_stream start.io after.io → AnsweredAndWritten end unasked_stream c.requests c.written c.written → IsConversed limits session start after (earlier ++ next) end
     ends_so end cause answered_and_written = record {
@@ -379,7 +375,7 @@ module _ (limits : LimitsView) (session : ℕ) (start now after : SessionState) 
       let enough : most_input ≤ length (stream n.read n.reads) = rw all at n.comes.1 in
       ends_so take_answers.Budget n ends.Budget (waits_open take_answers.Budget n n.comes.0, enough) (waits_whole take_answers.Budget n n.comes.0, refl)
 
-  pub comes_to : (end : SessionEnd) → IsRound limits session now after next (Some end) → IsConversed limits session start after (earlier ++ next) end
+  pub comes_to : (end : SessionEnd) → IsLastRound limits session now after next end → IsConversed limits session start after (earlier ++ next) end
   comes_to ends.Quit round = quits round
   comes_to ends.End round = comes_to_end round
   comes_to (ends.Malformed at) round = is_malformed at round
@@ -413,14 +409,20 @@ less_to_come limits session start now after earlier next c ((request, no_quit, a
     let held : length after.feed.held ≡ length (now.feed.held ++ a.read) - a.gives.used = ap (λ (f : FeedView). length f.held) a.gives.after_is ∙ length-drop a.gives.used (now.feed.held ++ a.read) in
     omega (arith, counted, taken_before, more, most, some, held, length-append now.feed.held a.read, a.gives.read.within)
 
--- ---- the same, for a round under limits that are the session's
+-- ---- the same, for a round under limits and a number that are the session's
 
-module _ (limits own : LimitsView) (same : own ≡ limits) (session : ℕ) (start now after : SessionState) (earlier next : List Exchange) (c : IsConversing limits session start now earlier) where
-  pub goes_on_under : IsRound own session now after next None → IsConversing limits session start after (earlier ++ next)
-  goes_on_under round = goes_on limits session start now after earlier next c (subst (λ (l : LimitsView). IsRound l session now after next None) same round)
+module _ (limits own : LimitsView) (same : own ≡ limits) (session mine : ℕ) (is_mine : mine ≡ session) (start now after : SessionState) (earlier next : List Exchange) (c : IsConversing limits session start now earlier) where
+  pub goes_on_under : IsRound own mine now after next None → IsConversing limits session start after (earlier ++ next)
+  goes_on_under round =
+      goes_on limits session start now after earlier next c
+      (subst (λ (n : ℕ). IsRound limits n now after next None) is_mine (subst (λ (l : LimitsView). IsRound l mine now after next None) same round))
 
-  pub less_under : IsRound own session now after next None → to_come after < to_come now
-  less_under round = less_to_come limits session start now after earlier next c (subst (λ (l : LimitsView). IsRound l session now after next None) same round)
+  pub less_under : IsRound own mine now after next None → to_come after < to_come now
+  less_under round =
+      less_to_come limits session start now after earlier next c
+      (subst (λ (n : ℕ). IsRound limits n now after next None) is_mine (subst (λ (l : LimitsView). IsRound l mine now after next None) same round))
 
-  pub comes_to_under : (end : SessionEnd) → IsRound own session now after next (Some end) → IsConversed limits session start after (earlier ++ next) end
-  comes_to_under end round = comes_to limits session start now after earlier next c end (subst (λ (l : LimitsView). IsRound l session now after next (Some end)) same round)
+  pub comes_to_under : (end : SessionEnd) → IsLastRound own mine now after next end → IsConversed limits session start after (earlier ++ next) end
+  comes_to_under end round =
+      comes_to limits session start now after earlier next c end
+      (subst (λ (n : ℕ). IsLastRound limits n now after next end) is_mine (subst (λ (l : LimitsView). IsLastRound l mine now after next end) same round))

@@ -1,30 +1,20 @@
 -- A session from its greeting to its end.
-use Rattle.std.proofs.Common.{Bool, max, eqb, true, ◌<◌, ◌≡◌, ◌≢◌, ℕ, ◌+◌, ◌^◌, ◌≤◌, false, List, [], ◌∷◌, ◌++◌, length, take, Option, Err, refl, ap, ◌∙◌, sym, subst, inl, inr, ◌⊎◌, arith, le_refl}
-use Rattle.std.specs.List.{fold}
-use Rattle.std.proofs.lemmas.Bool.{eq-eqb, ne_eqb}
+use Rattle.std.proofs.Common.{true, ◌<◌, ◌≡◌, ◌≢◌, ℕ, ◌+◌, ◌≤◌, false, List, [], ◌∷◌, ◌++◌, length, take, Option, Err, refl, ap, ◌∙◌, sym, subst, inl, inr, arith, le_refl}
 use Rattle.std.proofs.lemmas.List.{append-nil, length-append}
-use Rattle.std.proofs.lemmas.Grind.{fold-append}
 use Rattle.febe_data.specs.LimitsView.{LimitsView}
-use Rattle.febe_data.specs.Plain.{PlainRequest, PlainEntry}
+use Rattle.febe_data.specs.Plain.{PlainEntry}
 use Rattle.febe_wire.specs.Sessions.{greeting}
 use Rattle.febe_feed.specs.FeedView.{with_piece, FeedView, Waits, IsGreeting, later}
 use Rattle.febe_feed.specs.Pieces.{HasGiven}
 use Rattle.febe_feed.proofs.Inputted.{waiting_is_open, waiting_is_truncated}
 use Rattle.febe_feed.proofs.Malformed.{wrong_is_malformed}
 use Rattle.febe_fields.specs.Prefixes.{HasNoSpelledPrefix}
-use Rattle.world_rules.specs.World.{empty_world}
-use Rattle.world_rules.specs.Placed.{AllPlaced}
-use Rattle.world_rules.specs.History.{is_live, live_after, entries_of}
+use Rattle.world_rules.specs.History.{is_live, entries_of}
 use Rattle.world_rules.specs.Legal.{Exchange}
 use Rattle.green_session.specs.Taking.{TurnsView, ReadState, read_state, IsTaken, MayRead}
 use Rattle.green_session.specs.declared.take.Taken.{Taken}
 use Rattle.green_session.specs.declared.take.Taken.TheVariants as take_answers
-use Rattle.green_store.specs.IsStep.{IsStep, IsBegun}
 use Rattle.green_store.specs.Sessions.{greatest_session, end_entry}
-use Rattle.green_store.specs.StoreView.{StoreView}
-use Rattle.green_store.specs.declared.step.Step.TheVariants as steps
-use Rattle.green_store.specs.declared.step.StepAnswer.{StepAnswer}
-use Rattle.green_store.specs.declared.step.StepAnswer.TheVariants as answers
 use Rattle.green_top.specs.declared.session_end.SessionEnd.{SessionEnd}
 use Rattle.green_top.specs.declared.session_end.SessionEnd.TheVariants as ends
 use Rattle.green_top.specs.inside.Next.{NextIs}
@@ -33,59 +23,27 @@ use Rattle.green_top.specs.Requests.{IsNotGreeted}
 use Rattle.green_top.specs.Ends.{most_input, Cause, NeverBegan}
 use Rattle.green_top.specs.Transcript.{IsEnding, Transcript}
 use Rattle.green_top.specs.inside.Opening.{Begins}
-use Rattle.green_top.specs.Outcome.{IsOver, Leaves, IsRun}
+use Rattle.green_top.specs.Outcome.{IsOver, Leaves, IsRun, HasServedAlone}
+use Rattle.green_top.specs.inside.Play.{BeginsAt, EndsAt}
+use Rattle.green_top.specs.inside.Progress.{Progress}
 use Rattle.green_top.specs.inside.Conversation.{SessionState, session_state, with_history, IsGreeted, all_read, IsConversed, IsSession}
 use Rattle.green_top.proofs.Rises.{rises_wider}
 use Rattle.green_top.proofs.Streams.{consumes_nothing, appends_nothing, risen_since}
 use Rattle.green_top.proofs.Conversations.{moves_both}
-use Rattle.green_store.proofs.Lives.{live_within}
-use Rattle.green_store.proofs.Places.{placed_push}
-use Rattle.green_top.proofs.Progresses.{IsOwn, own_one, entries_behind, transcript_of}
+use Rattle.green_top.proofs.Liveness.{own_live, none_above, not_live_above, not_live_behind_end}
+use Rattle.green_top.proofs.Progresses.{IsOwn, own_one, progress_past, transcript_of}
 
 -- ---- the begin of a session
 
--- no entry is of a session above the greatest number
-le_greatest : (h : List PlainEntry) (g : ℕ) → g ≤ fold (λ greatest (e : PlainEntry). max greatest e.session) g h
-le_greatest [] g = omega arith
-le_greatest (e ∷ h) g = omega (arith, le_greatest h (max g e.session))
+pub begins_at : (session : ℕ) (seen after : List PlainEntry) (b : BeginsAt session seen after) → Begins session (seen ++ b.past) after
+begins_at session seen after b =
+    let above : greatest_session (seen ++ b.past) < session = omega (arith, b.number_is) in
+    record { grows = b.grows; no_entry = none_above (seen ++ b.past) session above; not_live = not_live_above (seen ++ b.past) session above }
 
-none_above : (h : List PlainEntry) (g session : ℕ) → fold (λ greatest (e : PlainEntry). max greatest e.session) g h < session → entries_of session h ≡ []
-none_above [] g session above = refl
-none_above (e ∷ h) g session above =
-    let other : eqb e.session session ≡ false = ne_eqb e.session session (λ same. omega (arith, above, same, le_greatest h (max g e.session))) in
-    rw other (none_above h (max g e.session) session above)
-
-not_live_above : (h : List PlainEntry) (session : ℕ) → greatest_session h < session → is_live h session ≡ false
-not_live_above h session above = by (is_live h session) refl where
-  by : (b : Bool) → is_live h session ≡ b → b ≡ false
-  by true e = absurd (omega (arith, above, live_within h session e))
-  by false e = refl
-
-pub begins_with : (before after : StoreView) (session : ℕ) → AllPlaced empty_world before.history → IsBegun before session after → Begins session before.history after.history
-begins_with before after session placed b =
-    let above : greatest_session before.history < session = omega (arith, b.number_is) in
-    record {
-      grows = ap (λ (v : StoreView). v.history) b.grows;
-      no_entry = none_above before.history 0 session above;
-      not_live = not_live_above before.history session above;
-      placed = placed;
-    }
+pub is_numbered : (session : ℕ) (seen after : List PlainEntry) → BeginsAt session seen after → session ≢ 0
+is_numbered session seen after b none = omega (arith, none, b.number_is)
 
 -- ---- the end of a session
-
--- after an End step its entry was added, or the session was not live
-after_end : (session : ℕ) (before after : StoreView) (answer : StepAnswer) (rose : Bool) → IsStep before (steps.End session) after answer rose
-    → ((is_live before.history session ≡ true) × (after.history ≡ before.history ++ end_entry before.history session ∷ [])) ⊎ ((is_live before.history session ≡ false) × (after.history ≡ before.history))
-after_end session before after answers.Ended rose s = inl (s.live, ap (λ (v : StoreView). v.history) s.grows)
-after_end session before after answers.NoSession rose s = inr (s.not_live, ap (λ (v : StoreView). v.history) s.stays)
-after_end session before after other rose s = absurd s
-
-not_live_behind_end : (session : ℕ) (h : List PlainEntry) → is_live (h ++ end_entry h session ∷ []) session ≡ false
-not_live_behind_end session h = fold-append (live_after session) false h (end_entry h session ∷ []) ∙ rw (eq-eqb session session refl) refl
-
-placed_ends : (session : ℕ) (own h more after : List PlainEntry) → AllPlaced empty_world h → IsEnding session own more → after ≡ h ++ more → AllPlaced empty_world after
-placed_ends session own h more after p (inl e) grows = subst (AllPlaced empty_world) (sym (grows ∙ ap (λ (x : List PlainEntry). h ++ x) e ∙ append-nil h)) p
-placed_ends session own h more after p (inr e) grows = subst (AllPlaced empty_world) (sym (grows ∙ ap (λ (x : List PlainEntry). h ++ x) e.1)) (placed_push empty_world h _ p tt)
 
 -- what the disk counted has no part in why a session ended
 cause_beside : (end : SessionEnd) (read : List ℕ) (before after : IoState) (m n : ℕ) → Cause end read (with_disk_faults before m) after → Cause end read before (with_disk_faults after n)
@@ -100,19 +58,17 @@ cause_beside ends.Budget read before after m n cause = cause
 cause_beside ends.NoNumber read before after m n cause = cause
 
 module _ (limits : LimitsView) (session : ℕ) (first now : SessionState) (begun : List PlainEntry) (begun_faults last_faults : ℕ) (earlier : first.io.disk_faults ≤ begun_faults) (later_still : now.io.disk_faults ≤ last_faults)
-    (b : Begins session first.history begun) (number : session ≡ greatest_session first.history + 1) (has_number : session < 2 ^ 64) (end : SessionEnd) (exchanges : List Exchange) (c : IsConversed limits session (with_history first begun begun_faults) now exchanges end) where
-  is_over : (more after : List PlainEntry) → IsEnding session (entries_of session now.history) more → IsOwn session more → after ≡ now.history ++ more → is_live after session ≡ false → IsOver limits first.history session after exchanges now.points c.answered c.output first.io.disk_faults last_faults
-  is_over more after ending own e over = record {
-    history_is = e ∙ entries_behind limits session first.history begun now.history b exchanges now.points c.answered c.output begun_faults now.io.disk_faults c.progress more own ∙ ap (λ (x : List PlainEntry). first.history ++ entries_of session x) (sym e);
+    (b : BeginsAt session first.history begun) (end : SessionEnd) (exchanges : List Exchange) (c : IsConversed limits session (with_history first begun begun_faults) now exchanges end) where
+  is_over : (h more after : List PlainEntry) → Progress limits session begun h exchanges now.points c.answered c.output → IsEnding session (entries_of session h) more → IsOwn session more → after ≡ h ++ more → is_live after session ≡ false
+      → IsOver limits session after exchanges now.points c.answered c.output
+  is_over h more after p ending own e over = record {
     over = over;
-    placed = placed_ends session (entries_of session now.history) now.history more after c.progress.placed ending e;
-    transcript = subst (λ (x : List PlainEntry). Transcript limits session x exchanges c.answered now.points c.output first.io.disk_faults last_faults) (sym e)
-        (transcript_of limits session first.history begun now.history b exchanges now.points c.answered c.output begun_faults now.io.disk_faults c.progress more ending own first.io.disk_faults last_faults earlier later_still);
+    transcript = subst (λ (x : List PlainEntry). Transcript limits session x exchanges c.answered now.points c.output) (sym e)
+        (transcript_of limits session (first.history ++ b.past) begun h (begins_at session first.history begun b) exchanges now.points c.answered c.output p more ending own);
   }
 
-  ended_session : (more after : List PlainEntry) → IsEnding session (entries_of session now.history) more → IsOwn session more → after ≡ now.history ++ more → is_live after session ≡ false
-      → IsSession limits first (with_history now after last_faults) exchanges end
-  ended_session more after ending own e over = record {
+  ended_session : (after : List PlainEntry) → IsOver limits session after exchanges now.points c.answered c.output → IsSession limits session first (with_history now after last_faults) exchanges end
+  ended_session after over = record {
     read = c.read;
     written = c.written;
     moves = record { consumed = c.moves.consumed; appended = c.moves.appended; source_never_falls = c.moves.source_never_falls; sink_never_falls = c.moves.sink_never_falls; disk_never_falls = omega (arith, earlier, c.moves.disk_never_falls, later_still) };
@@ -120,52 +76,53 @@ module _ (limits : LimitsView) (session : ℕ) (first now : SessionState) (begun
     within = c.within;
     cause = cause_beside end (all_read first c.read) first.io now.io begun_faults last_faults c.cause;
     leaves = inr (record {
-      session = session;
-      number_is = number;
-      has_number = has_number;
+      numbered = is_numbered session first.history begun b;
+      has_number = b.has_number;
       answered = c.answered;
       output = c.output;
-      over = is_over more after ending own e over;
+      over = over;
       answered_and_written = c.answered_and_written;
     });
   }
 
-  -- the session's own entries leave it live where the whole history does
-  own_live : is_live now.history session ≡ true → is_live (entries_of session now.history) session ≡ true
-  own_live live =
-      let own : List PlainEntry = entries_of session now.history in
-      let e : now.history ≡ first.history ++ own = sym (append-nil now.history) ∙ entries_behind limits session first.history begun now.history b exchanges now.points c.answered c.output begun_faults now.io.disk_faults c.progress [] refl ∙ ap (λ (x : List PlainEntry). first.history ++ entries_of session x) (append-nil now.history) in
-      let parts : is_live (first.history ++ own) session ≡ fold (live_after session) (is_live first.history session) own = fold-append (live_after session) false first.history own in
-      sym (ap (λ (x : List PlainEntry). is_live x session) e ∙ parts ∙ ap (λ (x : Bool). fold (live_after session) x own) b.not_live) ∙ live
+  -- it was live, and was ended behind what others had added
+  pub ends_live : (after : List PlainEntry) → is_live now.history session ≡ true → EndsAt session now.history after → IsSession limits session first (with_history now after last_faults) exchanges end
+  ends_live after live e =
+      let h : List PlainEntry = now.history ++ e.past in
+      let alive : is_live h session ≡ true = e.others.live_stays now.history ∙ live in
+      ended_session after
+      (is_over h (end_entry h session ∷ []) after (progress_past limits session begun now.history exchanges now.points c.answered c.output c.progress e.past e.others) (inr (own_live session h alive, refl))
+      (own_one session (end_entry h session) refl) e.grows (ap (λ (x : List PlainEntry). is_live x session) e.grows ∙ not_live_behind_end session h))
 
-  pub session_ends : (before after : StoreView) (answer : StepAnswer) (rose : Bool) → before.history ≡ now.history → IsStep before (steps.End session) after answer rose → IsSession limits first (with_history now after.history last_faults) exchanges end
-  session_ends before after answer rose is step = elim (after_end session before after answer rose step) [
-    | inl e ↦ (let grows : after.history ≡ now.history ++ end_entry now.history session ∷ [] = e.1 ∙ ap (λ (h : List PlainEntry). h ++ end_entry h session ∷ []) is in
-        ended_session (end_entry now.history session ∷ []) after.history (inr (own_live (ap (λ (h : List PlainEntry). is_live h session) (sym is) ∙ e.0), refl)) (own_one session (end_entry now.history session) refl) grows
-        (ap (λ (h : List PlainEntry). is_live h session) grows ∙ not_live_behind_end session now.history))
-    | inr s ↦ (let stays : after.history ≡ now.history = s.1 ∙ is in
-        ended_session [] after.history (inl refl) refl (stays ∙ sym (append-nil now.history)) (ap (λ (h : List PlainEntry). is_live h session) (s.1) ∙ s.0))
-  ]
+  -- it was not
+  pub ends_over : is_live now.history session ≡ false → IsSession limits session first (with_history now now.history last_faults) exchanges end
+  ends_over over = ended_session now.history (is_over now.history [] now.history c.progress (inl refl) refl (sym (append-nil now.history)) over)
 
--- the same, for a session that was served under limits that are the store's
-pub session_ends_under : (limits own : LimitsView) → own ≡ limits → (session : ℕ) (first now : SessionState) (begun : List PlainEntry) (begun_faults last_faults : ℕ) → first.io.disk_faults ≤ begun_faults → now.io.disk_faults ≤ last_faults
-    → Begins session first.history begun → session ≡ greatest_session first.history + 1 → session < 2 ^ 64 → (end : SessionEnd) (exchanges : List Exchange) → IsConversed own session (with_history first begun begun_faults) now exchanges end
-    → (before after : StoreView) (answer : StepAnswer) (rose : Bool) → before.history ≡ now.history → IsStep before (steps.End session) after answer rose → IsSession limits first (with_history now after.history last_faults) exchanges end
-session_ends_under limits own same session first now begun begun_faults last_faults earlier later_still b number has_number end exchanges c =
-    session_ends limits session first now begun begun_faults last_faults earlier later_still b number has_number end exchanges
-    (subst (λ (l : LimitsView). IsConversed l session (with_history first begun begun_faults) now exchanges end) same c)
+-- the same, for a session that was served under limits and a number that are these
+module _ (limits own : LimitsView) (same : own ≡ limits) (session mine : ℕ) (is_mine : mine ≡ session) (first now : SessionState) (begun : List PlainEntry) (begun_faults last_faults : ℕ) (earlier : first.io.disk_faults ≤ begun_faults) (later_still : now.io.disk_faults ≤ last_faults)
+    (b : BeginsAt session first.history begun) (end : SessionEnd) (exchanges : List Exchange) (c : IsConversed own session (with_history first begun begun_faults) now exchanges end) where
+  conversed : IsConversed limits session (with_history first begun begun_faults) now exchanges end
+  conversed = subst (λ (l : LimitsView). IsConversed l session (with_history first begun begun_faults) now exchanges end) same c
+
+  pub ends_live_under : (after : List PlainEntry) → is_live now.history session ≡ true → EndsAt session now.history after → IsSession limits mine first (with_history now after last_faults) exchanges end
+  ends_live_under after live e = subst (λ (n : ℕ). IsSession limits n first (with_history now after last_faults) exchanges end) (sym is_mine)
+      (ends_live limits session first now begun begun_faults last_faults earlier later_still b end exchanges conversed after live e)
+
+  pub ends_over_under : is_live now.history session ≡ false → IsSession limits mine first (with_history now now.history last_faults) exchanges end
+  ends_over_under over = subst (λ (n : ℕ). IsSession limits n first (with_history now now.history last_faults) exchanges end) (sym is_mine)
+      (ends_over limits session first now begun begun_faults last_faults earlier later_still b end exchanges conversed over)
 
 -- there was no memory to begin, or no number
-pub did_not_begin : (limits : LimitsView) (end : SessionEnd) (start : SessionState) (history : List PlainEntry) (faults : ℕ) → IsGreeted start → start.points ≡ [] → history ≡ start.history → start.io.disk_faults ≤ faults
-    → NeverBegan start.history end (all_read start []) → Cause end (all_read start []) start.io (with_disk_faults start.io faults) → IsSession limits start (with_history start history faults) [] end
-did_not_begin limits end start history faults greeted none stays later_still never_began cause = record {
+pub did_not_begin : (limits : LimitsView) (session : ℕ) (end : SessionEnd) (start : SessionState) (history : List PlainEntry) (faults : ℕ) → IsGreeted start → start.points ≡ [] → session ≡ 0 → start.io.disk_faults ≤ faults
+    → NeverBegan history end (all_read start []) → Cause end (all_read start []) start.io (with_disk_faults start.io faults) → IsSession limits session start (with_history start history faults) [] end
+did_not_begin limits session end start history faults greeted none unnumbered later_still never_began cause = record {
   read = [];
   written = [];
   moves = record { consumed = consumes_nothing start.io.left; appended = appends_nothing start.io.taken; source_never_falls = le_refl _; sink_never_falls = le_refl _; disk_never_falls = later_still };
   counted = ap (λ (t : TurnsView). t.taken) greeted.turns_are ∙ ap length (sym (append-nil (greeting ++ start.feed.held)));
   within = omega (arith, greeted.within, ap length (append-nil (greeting ++ start.feed.held)));
   cause = cause;
-  leaves = inl (never_began, record { history_is = stays; none_answered = refl; no_points = none; nothing = refl });
+  leaves = inl (never_began, record { unnumbered = unnumbered; none_answered = refl; no_points = none; nothing = refl });
 }
 
 -- ---- the greeting
@@ -187,7 +144,7 @@ cause_since ends.Memory read start mid after s k cause = cause
 cause_since ends.Budget read start mid after s k cause = cause
 cause_since ends.NoNumber read start mid after s k cause = cause
 
-module _ (limits : LimitsView) (left left' : Option (List ℕ)) (before after : ℕ) (feed : FeedView) (turns : TurnsView) (taken : Option (List ℕ)) (faults disk_faults : ℕ) where
+module _ (limits : LimitsView) (session : ℕ) (unnumbered : session ≡ 0) (left left' : Option (List ℕ)) (before after : ℕ) (feed : FeedView) (turns : TurnsView) (taken : Option (List ℕ)) (faults disk_faults : ℕ) where
   abbrev from : ReadState
   from = read_state left before fresh_feed fresh_turns
 
@@ -226,7 +183,7 @@ module _ (limits : LimitsView) (left left' : Option (List ℕ)) (before after : 
     no_greeting : HasNoSpelledPrefix IsGreeting t.read → IsNotGreeted t.read
     no_greeting none rest e = none 3 (omega (arith, ap length e, length-append greeting rest)) (ap (take 3) e)
 
-    pub never : (end : SessionEnd) (h : List PlainEntry) (points : List ℕ) (n : ℕ) → points ≡ [] → n ≡ turns.taken → Cause end t.read out0 out1 → NeverBegan h end t.read → IsRun limits h out0 out1 h [] points n end
+    pub never : (end : SessionEnd) (h : List PlainEntry) (points : List ℕ) (n : ℕ) → points ≡ [] → n ≡ turns.taken → Cause end t.read out0 out1 → NeverBegan h end t.read → IsRun limits session out0 out1 h [] points n end
     never end h points n none is cause never_began = record {
       read = t.read;
       written = [];
@@ -234,7 +191,7 @@ module _ (limits : LimitsView) (left left' : Option (List ℕ)) (before after : 
       counted = is ∙ ap (λ (x : TurnsView). x.taken) counts;
       within = bounded;
       cause = cause;
-      leaves = inl (never_began, record { history_is = refl; none_answered = refl; no_points = none; nothing = refl });
+      leaves = inl (never_began, record { unnumbered = unnumbered; none_answered = refl; no_points = none; nothing = refl });
     }
 
   -- ---- the greeting came
@@ -251,9 +208,9 @@ module _ (limits : LimitsView) (left left' : Option (List ℕ)) (before after : 
       within = omega (arith, ap length prefix, bounded take_answers.Greeting t);
     }
 
-    pub run_of_session : (h final : List PlainEntry) (exchanges : List Exchange) (points points' : List ℕ) (feed' : FeedView) (turns' : TurnsView) (out2 : IoState) (end : SessionEnd) (n : ℕ)
-        → IsSession limits (session_state h points feed turns out1) (session_state final points' feed' turns' out2) exchanges end → n ≡ turns'.taken → IsRun limits h out0 out2 final exchanges points' n end
-    run_of_session h final exchanges points points' feed' turns' out2 end n s is =
+    pub run_of_session : (mine : ℕ) (h final : List PlainEntry) (exchanges : List Exchange) (points points' : List ℕ) (feed' : FeedView) (turns' : TurnsView) (out2 : IoState) (end : SessionEnd) (n : ℕ)
+        → IsSession limits mine (session_state h points feed turns out1) (session_state final points' feed' turns' out2) exchanges end → n ≡ turns'.taken → IsRun limits mine out0 out2 final exchanges points' n end
+    run_of_session mine h final exchanges points points' feed' turns' out2 end n s is =
         let stream : (greeting ++ feed.held) ++ s.read ≡ t.read ++ s.read = ap (λ (bytes : List ℕ). bytes ++ s.read) (sym prefix) in
         record {
           read = t.read ++ s.read;
@@ -262,7 +219,7 @@ module _ (limits : LimitsView) (left left' : Option (List ℕ)) (before after : 
           counted = is ∙ s.counted ∙ ap length stream;
           within = omega (arith, s.within, ap length stream);
           cause = cause_since end (t.read ++ s.read) out0 out1 out2 t.reads.never_falls (le_refl faults) (subst (λ (bytes : List ℕ). Cause end bytes out1 out2) stream s.cause);
-          leaves = subst (λ (bytes : List ℕ). Leaves limits h end bytes s.written final exchanges points' disk_faults out2.disk_faults) stream s.leaves;
+          leaves = subst (λ (bytes : List ℕ). Leaves limits mine end bytes s.written final exchanges points') stream s.leaves;
         }
 
   -- ---- it did not
@@ -271,7 +228,7 @@ module _ (limits : LimitsView) (left left' : Option (List ℕ)) (before after : 
   waits_none read w = w.prefix.none
 
   pub run_of_none : (h : List PlainEntry) (points : List ℕ) (n : ℕ) (end : SessionEnd) → points ≡ [] → n ≡ turns.taken
-      → NextIs (IsTaken from to) (Err end) → IsRun limits h out0 out1 h [] points n end
+      → NextIs (IsTaken from to) (Err end) → IsRun limits session out0 out1 h [] points n end
   run_of_none h points n ends.Quit none is t = absurd t
   run_of_none h points n ends.End none is t =
       never take_answers.End t ends.End h points n none is (t.comes.1, below take_answers.End t t.comes.2) (sym (ap (λ (f : FeedView). f.held) t.comes.0.stays) ∙ t.comes.3)
@@ -301,7 +258,7 @@ module _ (limits : LimitsView) (left left' : Option (List ℕ)) (before after : 
 
 -- ---- the same, from what the code begins with
 
-module _ (limits : LimitsView) (left left' : Option (List ℕ)) (before after : ℕ) (feed0 feed : FeedView) (turns0 turns : TurnsView) (taken : Option (List ℕ)) (faults disk_faults : ℕ) (begins : feed0 ≡ fresh_feed) (counts_from : turns0 ≡ fresh_turns) where
+module _ (limits : LimitsView) (session : ℕ) (unnumbered : session ≡ 0) (left left' : Option (List ℕ)) (before after : ℕ) (feed0 feed : FeedView) (turns0 turns : TurnsView) (taken : Option (List ℕ)) (faults disk_faults : ℕ) (begins : feed0 ≡ fresh_feed) (counts_from : turns0 ≡ fresh_turns) where
   from_fresh : (what : Taken) → IsTaken (read_state left before feed0 turns0) (read_state left' after feed turns) what → IsTaken (read_state left before fresh_feed fresh_turns) (read_state left' after feed turns) what
   from_fresh what t = rw (begins, counts_from) at t
 
@@ -309,15 +266,15 @@ module _ (limits : LimitsView) (left left' : Option (List ℕ)) (before after : 
   next_from_fresh end t = subst (λ (f : FeedView). NextIs (IsTaken (read_state left before f fresh_turns) (read_state left' after feed turns)) (Err end)) begins (subst (λ (x : TurnsView). NextIs (IsTaken (read_state left before feed0 x) (read_state left' after feed turns)) (Err end)) counts_from t)
 
   pub greets : (h : List PlainEntry) (points : List ℕ) → IsTaken (read_state left before feed0 turns0) (read_state left' after feed turns) take_answers.Greeting → IsGreeted (session_state h points feed turns (io_state left' after taken faults disk_faults))
-  greets h points t = is_greeted limits left left' before after feed turns taken faults disk_faults (from_fresh take_answers.Greeting t) h points
+  greets h points t = is_greeted limits session unnumbered left left' before after feed turns taken faults disk_faults (from_fresh take_answers.Greeting t) h points
 
-  pub runs : (h final : List PlainEntry) (exchanges : List Exchange) (points points' : List ℕ) (feed' : FeedView) (turns' : TurnsView) (out2 : IoState) (end : SessionEnd) (n : ℕ) → IsTaken (read_state left before feed0 turns0) (read_state left' after feed turns) take_answers.Greeting
-      → IsSession limits (session_state h points feed turns (io_state left' after taken faults disk_faults)) (session_state final points' feed' turns' out2) exchanges end → n ≡ turns'.taken → IsRun limits h (io_state left before taken faults disk_faults) out2 final exchanges points' n end
-  runs h final exchanges points points' feed' turns' out2 end n t s is = run_of_session limits left left' before after feed turns taken faults disk_faults (from_fresh take_answers.Greeting t) h final exchanges points points' feed' turns' out2 end n s is
+  pub runs : (mine : ℕ) (h final : List PlainEntry) (exchanges : List Exchange) (points points' : List ℕ) (feed' : FeedView) (turns' : TurnsView) (out2 : IoState) (end : SessionEnd) (n : ℕ) → IsTaken (read_state left before feed0 turns0) (read_state left' after feed turns) take_answers.Greeting
+      → IsSession limits mine (session_state h points feed turns (io_state left' after taken faults disk_faults)) (session_state final points' feed' turns' out2) exchanges end → n ≡ turns'.taken → IsRun limits mine (io_state left before taken faults disk_faults) out2 final exchanges points' n end
+  runs mine h final exchanges points points' feed' turns' out2 end n t s is = run_of_session limits session unnumbered left left' before after feed turns taken faults disk_faults (from_fresh take_answers.Greeting t) mine h final exchanges points points' feed' turns' out2 end n s is
 
   pub runs_nothing : (h : List PlainEntry) (points : List ℕ) (n : ℕ) (end : SessionEnd) → points ≡ [] → n ≡ turns.taken
-      → NextIs (IsTaken (read_state left before feed0 turns0) (read_state left' after feed turns)) (Err end) → IsRun limits h (io_state left before taken faults disk_faults) (io_state left' after taken faults disk_faults) h [] points n end
-  runs_nothing h points n end none is t = run_of_none limits left left' before after feed turns taken faults disk_faults h points n end none is (next_from_fresh end t)
+      → NextIs (IsTaken (read_state left before feed0 turns0) (read_state left' after feed turns)) (Err end) → IsRun limits session (io_state left before taken faults disk_faults) (io_state left' after taken faults disk_faults) h [] points n end
+  runs_nothing h points n end none is t = run_of_none limits session unnumbered left left' before after feed turns taken faults disk_faults h points n end none is (next_from_fresh end t)
 
 -- ---- the same, seen from before the store was opened
 
@@ -332,40 +289,25 @@ cause_from ends.Memory read before after m cause = cause
 cause_from ends.Budget read before after m cause = cause
 cause_from ends.NoNumber read before after m cause = cause
 
-pub transcript_from : (limits : LimitsView) (session : ℕ) (history : List PlainEntry) (exchanges : List Exchange) (requests : List PlainRequest) (points output : List ℕ) (k m n : ℕ) → k ≤ m → Transcript limits session history exchanges requests points output m n → Transcript limits session history exchanges requests points output k n
-transcript_from limits session history exchanges requests points output k m n le t = record {
-  requests_are = t.requests_are;
-  points_are = t.points_are;
-  output_is = t.output_is;
-  each = t.each;
-  rises = rises_wider exchanges k m n n le (le_refl n) t.rises;
-  valid_replies = t.valid_replies;
-  rising = t.rising;
-  begun = t.begun;
-  entries = t.entries;
-}
+pub alone_from : (opened : List PlainEntry) (session : ℕ) (history reported : List PlainEntry) (exchanges : List Exchange) (k m n : ℕ) → k ≤ m → reported ≡ history → HasServedAlone opened session history exchanges m n → HasServedAlone opened session reported exchanges k n
+alone_from opened session history reported exchanges k m n le is (inl none) = inl (none.0, is ∙ none.1)
+alone_from opened session history reported exchanges k m n le is (inr s) = subst (λ (h : List PlainEntry). HasServedAlone opened session h exchanges k n) (sym is)
+    (inr (record { number_is = s.number_is; history_is = s.history_is; placed = s.placed; rises = rises_wider exchanges k m n n le (le_refl n) s.rises }))
 
-leaves_from : (limits : LimitsView) (opened : List PlainEntry) (end : SessionEnd) (read written : List ℕ) (history : List PlainEntry) (exchanges : List Exchange) (points : List ℕ) (k m n : ℕ) → k ≤ m → Leaves limits opened end read written history exchanges points m n → Leaves limits opened end read written history exchanges points k n
-leaves_from limits opened end read written history exchanges points k m n le (inl never) = inl never
-leaves_from limits opened end read written history exchanges points k m n le (inr s) = inr (record {
-  session = s.session;
-  number_is = s.number_is;
-  has_number = s.has_number;
-  answered = s.answered;
-  output = s.output;
-  over = record { history_is = s.over.history_is; over = s.over.over; placed = s.over.placed; transcript = transcript_from limits s.session history exchanges s.answered points s.output k m n le s.over.transcript };
-  answered_and_written = s.answered_and_written;
-})
+-- the trees were put right behind it
+pub alone_on : (opened : List PlainEntry) (session session' : ℕ) (history history' : List PlainEntry) (exchanges : List Exchange) (m n n' : ℕ) → session' ≡ session → history' ≡ history → n' ≡ n → HasServedAlone opened session history exchanges m n → HasServedAlone opened session' history' exchanges m n'
+alone_on opened session session' history history' exchanges m n n' is same still alone =
+    subst (λ (i : ℕ). HasServedAlone opened i history' exchanges m n') (sym is)
+    (subst (λ (h : List PlainEntry). HasServedAlone opened session h exchanges m n') (sym same) (subst (λ (x : ℕ). HasServedAlone opened session history exchanges m x) (sym still) alone))
 
-pub run_from : (limits : LimitsView) (opened : List PlainEntry) (before after : IoState) (m : ℕ) (history reported : List PlainEntry) (exchanges : List Exchange) (points : List ℕ) (bytes_read : ℕ) (end : SessionEnd) → before.disk_faults ≤ m → reported ≡ history
-    → IsRun limits opened (with_disk_faults before m) after history exchanges points bytes_read end → IsRun limits opened before after reported exchanges points bytes_read end
-run_from limits opened before after m history reported exchanges points bytes_read end le is r = record {
+pub run_from : (limits : LimitsView) (session : ℕ) (before after : IoState) (m : ℕ) (history reported : List PlainEntry) (exchanges : List Exchange) (points : List ℕ) (bytes_read : ℕ) (end : SessionEnd) → before.disk_faults ≤ m → reported ≡ history
+    → IsRun limits session (with_disk_faults before m) after history exchanges points bytes_read end → IsRun limits session before after reported exchanges points bytes_read end
+run_from limits session before after m history reported exchanges points bytes_read end le is r = record {
   read = r.read;
   written = r.written;
   moves = record { consumed = r.moves.consumed; appended = r.moves.appended; source_never_falls = r.moves.source_never_falls; sink_never_falls = r.moves.sink_never_falls; disk_never_falls = omega (arith, le, r.moves.disk_never_falls) };
   counted = r.counted;
   within = r.within;
   cause = cause_from end r.read before after m r.cause;
-  leaves = subst (λ (h : List PlainEntry). Leaves limits opened end r.read r.written h exchanges points before.disk_faults after.disk_faults) (sym is)
-      (leaves_from limits opened end r.read r.written history exchanges points before.disk_faults m after.disk_faults le r.leaves);
+  leaves = subst (λ (h : List PlainEntry). Leaves limits session end r.read r.written h exchanges points) (sym is) r.leaves;
 }

@@ -16,9 +16,8 @@ use Rattle.world_rules.specs.Legal.{Exchange, IsServed, IsRefused, IsQueryAnswer
 use Rattle.green_store.specs.Steps.{Steps}
 use Rattle.green_top.proofs.Rises.{risen}
 use Rattle.green_top.proofs.Streams.{risen_since, risen_until}
-use Rattle.green_io.specs.Areas.{Areas}
-use Rattle.green_io.specs.declared.disk.Area.TheVariants.{Log}
-use Rattle.green_io.specs.Disk.{DiskState, IsDisk, LeavesOnly, LeavesOthers}
+use Rattle.green_io.specs.Areas.{Areas, is_log}
+use Rattle.green_io.specs.Disk.{DiskState, IsDisk, LeavesOnly, LeavesBut}
 use Rattle.green_io.proofs.Beside.{untouched_others, then_others}
 use Rattle.green_io.proofs.Crash.{after, weaker, none_called}
 use Rattle.edit_log.specs.Log.{IsWhole}
@@ -86,7 +85,7 @@ endures_nothing limits session disk store faults = record {
   never_falls = omega arith;
   any_moment = λ earlier least before le s. none_called disk (HoldsFront limits session (earlier ++ []) least store.history);
   stands = λ earlier least before le s. subst (λ (es : List Exchange). StandsOn limits session es least before disk store faults) (sym (append-nil earlier)) s;
-  others = untouched_others Log disk;
+  others = untouched_others is_log disk;
 }
 
 -- one part, and then another
@@ -103,24 +102,13 @@ endures_both limits session xs ys a b c s t u k m n disk p q = record {
   stands = λ earlier least before le stands.
       subst (λ (es : List Exchange). StandsOn limits session es least before c u n) (append_assoc earlier xs ys)
       (q.stands (earlier ++ xs) least before (longer least s.history t.history p.grows le) (p.stands earlier least before le stands));
-  others = then_others Log a b c disk p.others q.others;
+  others = then_others is_log a b c disk p.others q.others;
 }
 
 -- a part, and then one without exchanges
 pub endures_still : (limits : LimitsView) (session : ℕ) (xs : List Exchange) (a b c : DiskState) (s t u : StoreView) (k m n : ℕ) → IsDisk b → Endures limits session xs a s k b t m → Endures limits session [] b t m c u n → Endures limits session xs a s k c u n
 endures_still limits session xs a b c s t u k m n disk p q =
     subst (λ (es : List Exchange). Endures limits session es a s k c u n) (append-nil xs) (endures_both limits session xs [] a b c s t u k m n disk p q)
-
--- the same, where the second part has the limits of the store between
-pub endures_then : (limits own : LimitsView) → own ≡ limits → (session : ℕ) (xs ys : List Exchange) (a b c : DiskState) (s t u : StoreView) (k m n : ℕ) → IsDisk b → Endures limits session xs a s k b t m → Endures own session ys b t m c u n → Endures limits session (xs ++ ys) a s k c u n
-endures_then limits own same session xs ys a b c s t u k m n disk p q = endures_both limits session xs ys a b c s t u k m n disk p (subst (λ (l : LimitsView). Endures l session ys b t m c u n) same q)
-
--- the begin of a session, what it asks, and its end
-pub session_endures : (limits own : LimitsView) → own ≡ limits → (number session : ℕ) → session ≡ number → (xs : List Exchange) (a b c d : DiskState) (s t u v : StoreView) (j k m n : ℕ) → IsDisk b → IsDisk c
-    → Endures limits number [] a s j b t k → Endures own session xs b t k c u m → Endures limits number [] c u m d v n → Endures limits number xs a s j d v n
-session_endures limits own same number session is xs a b c d s t u v j k m n disk_b disk_c begins asks ends =
-    endures_still limits number xs a c d s u v j m n disk_c
-    (endures_both limits number [] xs a b c s t u j k m disk_b begins (subst (λ (x : ℕ). Endures limits x xs b t k c u m) is (subst (λ (l : LimitsView). Endures l session xs b t k c u m) same asks))) ends
 
 -- ---- one step
 
@@ -187,7 +175,7 @@ module _ (limits : LimitsView) (session : ℕ) (exchanges : List Exchange) (befo
     ]
 
   stepped : ((pending : Option PlainEntry) → Keeps disk before pending → LeavesOnly disk disk' (HoldsStep before pending step))
-      → ((pending : Option PlainEntry) → Keeps disk before pending → KeepsStep before pending step after answer disk') → LeavesOthers Log disk disk' → Endures limits session exchanges disk before m disk' after n
+      → ((pending : Option PlainEntry) → Keeps disk before pending → KeepsStep before pending step after answer disk') → LeavesBut is_log disk disk' → Endures limits session exchanges disk before m disk' after n
   stepped any keeps others = record {
     grows = grows;
     never_falls = rises;
@@ -222,12 +210,12 @@ end_grows before after session answers.NoSession rose step = stayed before after
 end_grows before after session other rose step = absurd step
 
 pub endures_begin : (limits : LimitsView) (session : ℕ) (before after : StoreView) (disk disk' : DiskState) (m n : ℕ) (answer : StepAnswer) (rose : Bool) → m ≤ n → IsStep before steps.Begin after answer rose
-    → Any before disk disk' steps.Begin → Kept before after disk disk' steps.Begin answer → LeavesOthers Log disk disk' → Endures limits session [] disk before m disk' after n
+    → Any before disk disk' steps.Begin → Kept before after disk disk' steps.Begin answer → LeavesBut is_log disk disk' → Endures limits session [] disk before m disk' after n
 endures_begin limits session before after disk disk' m n answer rose rises step =
     stepped limits session [] before after disk disk' m n steps.Begin answer (begin_grows before after answer rose step) rises (λ earlier entry none. absurd none) (λ earlier entry none. absurd none)
 
 pub endures_end : (limits : LimitsView) (session other : ℕ) (before after : StoreView) (disk disk' : DiskState) (m n : ℕ) (answer : StepAnswer) (rose : Bool) → m ≤ n → IsStep before (steps.End other) after answer rose
-    → Any before disk disk' (steps.End other) → Kept before after disk disk' (steps.End other) answer → LeavesOthers Log disk disk' → Endures limits session [] disk before m disk' after n
+    → Any before disk disk' (steps.End other) → Kept before after disk disk' (steps.End other) answer → LeavesBut is_log disk disk' → Endures limits session [] disk before m disk' after n
 endures_end limits session other before after disk disk' m n answer rose rises step =
     stepped limits session [] before after disk disk' m n (steps.End other) answer (end_grows before after other answer rose step) rises (λ earlier entry none. absurd none) (λ earlier entry none. absurd none)
 
@@ -242,7 +230,7 @@ background_is_still before after answers.Memory rose step = as_it_was before aft
 background_is_still before after other rose step = absurd step
 
 pub endures_background : (limits : LimitsView) (session : ℕ) (before after : StoreView) (disk disk' : DiskState) (m n : ℕ) (answer : StepAnswer) (rose : Bool) → m ≤ n → IsStep before steps.Background after answer rose
-    → Any before disk disk' steps.Background → Kept before after disk disk' steps.Background answer → LeavesOthers Log disk disk' → Endures limits session [] disk before m disk' after n
+    → Any before disk disk' steps.Background → Kept before after disk disk' steps.Background answer → LeavesBut is_log disk disk' → Endures limits session [] disk before m disk' after n
 endures_background limits session before after disk disk' m n answer rose rises step =
     stepped limits session [] before after disk disk' m n steps.Background answer ([], (background_is_still before after answer rose step).history ∙ sym (append-nil before.history)) rises (λ earlier entry none. absurd none)
     (λ earlier entry none. absurd none)
@@ -279,7 +267,7 @@ one_of limits session request reply before after rose s = record { request = req
 
 pub endures_ask : (session : ℕ) (request : Request) (reply : Reply) (point : ℕ) (before after : StoreView) (disk disk' : DiskState) (m n : ℕ) → m ≤ n → IsRequest (plain_request request)
     → (s : Steps before.limits session before.history (plain_request request) (plain_reply reply) after.history (has_risen m n)) → Any before disk disk' (steps.Ask session request)
-    → Kept before after disk disk' (steps.Ask session request) (answers.Reply reply point) → LeavesOthers Log disk disk'
+    → Kept before after disk disk' (steps.Ask session request) (answers.Reply reply point) → LeavesBut is_log disk disk'
     → Endures before.limits session (one_of before.limits session (plain_request request) (plain_reply reply) before.history after.history (has_risen m n) s ∷ []) disk before m disk' after n
 endures_ask session request reply point before after disk disk' m n rises valid s =
     let one = one_of before.limits session (plain_request request) (plain_reply reply) before.history after.history (has_risen m n) s in

@@ -111,7 +111,7 @@ all_if_same xs ys first e =
 
 -- ---- the session over an input in memory
 
-module _ (start : ℕ) (input left taken₀ taken : List ℕ) (k k' m n : ℕ) (is : IsInputOf (generated_requests start) input) (none : taken₀ ≡ []) (opened history : List PlainEntry) (exchanges : List Exchange) (points : List ℕ) (count : ℕ) where
+module _ (start : ℕ) (input left taken₀ taken : List ℕ) (k k' m n : ℕ) (is : IsInputOf (generated_requests start) input) (none : taken₀ ≡ []) (session : ℕ) (history : List PlainEntry) (exchanges : List Exchange) (points : List ℕ) (count : ℕ) where
   abbrev from : IoState
   from = io_state (Some input) 0 (Some taken₀) k m
 
@@ -155,19 +155,17 @@ module _ (start : ℕ) (input left taken₀ taken : List ℕ) (k k' m n : ℕ) (
       output_is : written ≡ taken
       output_is = sym (appended ∙ ap (λ (bytes : List ℕ). bytes ++ written) none)
 
-      whole_answered : (end : SessionEnd) (s : IsEndedSession standard_limits opened end read written history exchanges points m n) → s.answered ≡ generated_requests start → written ≡ s.output → IsAnswered start opened history exchanges points taken m n
+      whole_answered : (end : SessionEnd) (s : IsEndedSession standard_limits session end read written history exchanges points) → s.answered ≡ generated_requests start → written ≡ s.output → IsAnswered start session history exchanges points taken
       whole_answered end s all same = record {
-        session = s.session;
-        number_is = s.number_is;
+        numbered = s.numbered;
         has_number = s.has_number;
-        over = subst (λ (requests : List PlainRequest). IsOver standard_limits opened s.session history exchanges points requests taken m n) all
-            (subst (λ (output : List ℕ). IsOver standard_limits opened s.session history exchanges points s.answered output m n) (sym same ∙ output_is) s.over);
+        over = subst (λ (requests : List PlainRequest). IsOver standard_limits session history exchanges points requests taken) all
+            (subst (λ (output : List ℕ). IsOver standard_limits session history exchanges points s.answered output) (sym same ∙ output_is) s.over);
       }
 
-      cut_short : (end : SessionEnd) (s : IsEndedSession standard_limits opened end read written history exchanges points m n) → HasRequestPrefix read s.answered → HasNoSummary start ends.Memory opened history exchanges points m n
+      cut_short : (end : SessionEnd) (s : IsEndedSession standard_limits session end read written history exchanges points) → HasRequestPrefix read s.answered → HasNoSummary start session ends.Memory history exchanges points
       cut_short end s p = inr (record {
-        session = s.session;
-        number_is = s.number_is;
+        numbered = s.numbered;
         has_number = s.has_number;
         answered = s.answered;
         output = s.output;
@@ -175,10 +173,10 @@ module _ (start : ℕ) (input left taken₀ taken : List ℕ) (k k' m n : ℕ) (
         answered_and_summed = (first_answered s.answered p, refl);
       })
 
-      no_session : NoSession opened history exchanges points written → NoSession opened history exchanges points []
-      no_session s = record { history_is = s.history_is; none_answered = s.none_answered; no_points = s.no_points; nothing = refl }
+      no_session : NoSession session exchanges points written → NoSession session exchanges points []
+      no_session s = record { unnumbered = s.unnumbered; none_answered = s.none_answered; no_points = s.no_points; nothing = refl }
 
-      comes_to : (end : SessionEnd) → Cause end read from to → Leaves standard_limits opened end read written history exchanges points m n → IsInnerRun start (outcome_of end) opened history exchanges points taken m n
+      comes_to : (end : SessionEnd) → Cause end read from to → Leaves standard_limits session end read written history exchanges points → IsInnerRun start session (outcome_of end) history exchanges points taken
       comes_to ends.Quit cause (inl l) = absurd l.0
       comes_to ends.Quit cause (inr s) =
           let a = s.answered_and_written in
@@ -197,10 +195,10 @@ module _ (start : ℕ) (input left taken₀ taken : List ℕ) (k k' m n : ℕ) (
       comes_to ends.NoNumber cause (inl l) = (l.0.0, no_session l.1)
       comes_to ends.NoNumber cause (inr s) = absurd s.answered_and_written
 
-  pub can_end : (end : SessionEnd) → IsRun standard_limits opened from to history exchanges points count end → CanEnd end
+  pub can_end : (end : SessionEnd) → IsRun standard_limits session from to history exchanges points count end → CanEnd end
   can_end end r = can_end_so r.read r.moves.consumed end r.cause
 
-  pub inner_run : (end : SessionEnd) → IsRun standard_limits opened from to history exchanges points count end → IsInnerRun start (outcome_of end) opened history exchanges points taken m n
+  pub inner_run : (end : SessionEnd) → IsRun standard_limits session from to history exchanges points count end → IsInnerRun start session (outcome_of end) history exchanges points taken
   inner_run end r = comes_to r.read r.moves.consumed r.written r.moves.appended end r.cause r.leaves
 
 -- ---- its summary
@@ -213,8 +211,8 @@ all_valid : (exchanges : List Exchange) → AllByRecursion HasValidReply exchang
 all_valid [] valid = tt
 all_valid (e ∷ exchanges) valid = (valid.0, all_valid exchanges valid.1)
 
-pub is_output : (start : ℕ) (opened history : List PlainEntry) (exchanges : List Exchange) (points output : List ℕ) (m n : ℕ) (a : IsAnswered start opened history exchanges points output m n) → IsOutput output (replies_of exchanges)
-is_output start opened history exchanges points output m n a =
+pub is_output : (start session : ℕ) (history : List PlainEntry) (exchanges : List Exchange) (points output : List ℕ) (a : IsAnswered start session history exchanges points output) → IsOutput output (replies_of exchanges)
+is_output start session history exchanges points output a =
     let t = a.over.transcript in
     record { parts = t.output_is ∙ ap (λ (bytes : List ℕ). greeting ++ bytes) (replies_are exchanges); valid = all_valid exchanges t.valid_replies }
 
@@ -224,17 +222,17 @@ spells_behind output bytes replies is o = record { spelled = is ∙ ap (drop 3) 
 pub greeted_output : (output : List ℕ) (replies : List PlainReply) → IsOutput output replies → 3 ≤ length output
 greeted_output output replies o = omega (arith, ap length o.parts, length-append greeting (flat_map spell_reply replies))
 
-module _ (start : ℕ) (opened history : List PlainEntry) (exchanges : List Exchange) (points : List ℕ) (left taken taken' : Option (List ℕ)) (faults k k' m n : ℕ) (rises : m ≤ n) where
+module _ (start session : ℕ) (history : List PlainEntry) (exchanges : List Exchange) (points : List ℕ) (left taken taken' : Option (List ℕ)) (faults k k' m n : ℕ) (rises : m ≤ n) where
   abbrev before : IoState
   before = io_state left faults taken k m
 
   abbrev after : IoState
   after = io_state left faults taken' k' n
 
-  pub summed : (end : SessionEnd) (output : List ℕ) (a : IsAnswered start opened history exchanges points output m n) → Tells (summary_of start (replies_of exchanges) (world_of history)) taken taken' k k' end → IsGeneratedRun start opened before after history exchanges points end
+  pub summed : (end : SessionEnd) (output : List ℕ) (a : IsAnswered start session history exchanges points output) → Tells (summary_of start (replies_of exchanges) (world_of history)) taken taken' k k' end → IsGeneratedRun start session before after history exchanges points end
   summed end output a t = by end t
     where
-      by : (end : SessionEnd) → Tells (summary_of start (replies_of exchanges) (world_of history)) taken taken' k k' end → IsGeneratedRun start opened before after history exchanges points end
+      by : (end : SessionEnd) → Tells (summary_of start (replies_of exchanges) (world_of history)) taken taken' k k' end → IsGeneratedRun start session before after history exchanges points end
       by ends.Quit t = record {
         written = t.written;
         left_stays = refl;
@@ -243,7 +241,7 @@ module _ (start : ℕ) (opened history : List PlainEntry) (exchanges : List Exch
         sink_never_falls = t.never_falls;
         disk_never_falls = rises;
         cause = tt;
-        leaves = inr (record { session = a.session; number_is = a.number_is; has_number = a.has_number; answered = generated_requests start; output = output; over = a.over; answered_and_summed = (refl, t.told) });
+        leaves = inr (record { numbered = a.numbered; has_number = a.has_number; answered = generated_requests start; output = output; over = a.over; answered_and_summed = (refl, t.told) });
       }
       by ends.WriteFault t = record {
         written = t.written;
@@ -253,7 +251,7 @@ module _ (start : ℕ) (opened history : List PlainEntry) (exchanges : List Exch
         sink_never_falls = t.never_falls;
         disk_never_falls = rises;
         cause = t.told.1;
-        leaves = inr (record { session = a.session; number_is = a.number_is; has_number = a.has_number; answered = generated_requests start; output = output; over = a.over; answered_and_summed = (refl, t.told.0) });
+        leaves = inr (record { numbered = a.numbered; has_number = a.has_number; answered = generated_requests start; output = output; over = a.over; answered_and_summed = (refl, t.told.0) });
       }
       by ends.Memory t = record {
         written = t.written;
@@ -263,7 +261,7 @@ module _ (start : ℕ) (opened history : List PlainEntry) (exchanges : List Exch
         sink_never_falls = t.never_falls;
         disk_never_falls = rises;
         cause = tt;
-        leaves = inr (record { session = a.session; number_is = a.number_is; has_number = a.has_number; answered = generated_requests start; output = output; over = a.over; answered_and_summed = (([], sym (append-nil (generated_requests start))), t.told) });
+        leaves = inr (record { numbered = a.numbered; has_number = a.has_number; answered = generated_requests start; output = output; over = a.over; answered_and_summed = (([], sym (append-nil (generated_requests start))), t.told) });
       }
       by ends.End t = absurd t.told
       by (ends.Malformed at) t = absurd t.told
@@ -273,12 +271,13 @@ module _ (start : ℕ) (opened history : List PlainEntry) (exchanges : List Exch
       by ends.NoNumber t = absurd t.told
 
   -- the trees were put right meanwhile
-  pub summed_later : (later : List PlainEntry) (last : ℕ) → later ≡ history → last ≡ n → (end : SessionEnd) (output : List ℕ) (a : IsAnswered start opened history exchanges points output m n)
-      → Tells (summary_of start (replies_of exchanges) (world_of later)) taken taken' k k' end → IsGeneratedRun start opened before (io_state left faults taken' k' last) later exchanges points end
-  summed_later later last same still end output a t =
-      subst (λ (h : List PlainEntry). IsGeneratedRun start opened before (io_state left faults taken' k' last) h exchanges points end) (sym same)
-      (subst (λ (x : ℕ). IsGeneratedRun start opened before (io_state left faults taken' k' x) history exchanges points end) (sym still)
-      (summed end output a (subst (λ (h : List PlainEntry). Tells (summary_of start (replies_of exchanges) (world_of h)) taken taken' k k' end) same t)))
+  pub summed_later : (number : ℕ) (later : List PlainEntry) (last : ℕ) → number ≡ session → later ≡ history → last ≡ n → (end : SessionEnd) (output : List ℕ) (a : IsAnswered start session history exchanges points output)
+      → Tells (summary_of start (replies_of exchanges) (world_of later)) taken taken' k k' end → IsGeneratedRun start number before (io_state left faults taken' k' last) later exchanges points end
+  summed_later number later last is same still end output a t =
+      subst (λ (i : ℕ). IsGeneratedRun start i before (io_state left faults taken' k' last) later exchanges points end) (sym is)
+      (subst (λ (h : List PlainEntry). IsGeneratedRun start session before (io_state left faults taken' k' last) h exchanges points end) (sym same)
+      (subst (λ (x : ℕ). IsGeneratedRun start session before (io_state left faults taken' k' x) history exchanges points end) (sym still)
+      (summed end output a (subst (λ (h : List PlainEntry). Tells (summary_of start (replies_of exchanges) (world_of h)) taken taken' k k' end) same t))))
 
 pub tells_whole : (summary bytes : List ℕ) (taken taken' : Option (List ℕ)) (k k' : ℕ) → bytes ≡ summary → IsPut taken taken' k k' bytes puts.Done → Tells summary taken taken' k k' ends.Quit
 tells_whole summary bytes taken taken' k k' is p = record { written = p.written; appended = p.appended; never_falls = p.never_falls; told = p.put ∙ is }
@@ -290,11 +289,11 @@ pub tells_nothing : (summary : List ℕ) (taken : Option (List ℕ)) (k : ℕ) �
 tells_nothing summary taken k = record { written = []; appended = appends_nothing taken; never_falls = omega arith; told = refl }
 
 -- there is no summary, and nothing was written
-pub unsummed : (start : ℕ) (opened history : List PlainEntry) (exchanges : List Exchange) (points : List ℕ) (left taken : Option (List ℕ)) (faults k m n : ℕ) (end : SessionEnd) → m ≤ n → HasNoSummary start end opened history exchanges points m n
-    → IsGeneratedRun start opened (io_state left faults taken k m) (io_state left faults taken k n) history exchanges points end
-unsummed start opened history exchanges points left taken faults k m n end rises none = by end none
+pub unsummed : (start session : ℕ) (history : List PlainEntry) (exchanges : List Exchange) (points : List ℕ) (left taken : Option (List ℕ)) (faults k m n : ℕ) (end : SessionEnd) → m ≤ n → HasNoSummary start session end history exchanges points
+    → IsGeneratedRun start session (io_state left faults taken k m) (io_state left faults taken k n) history exchanges points end
+unsummed start session history exchanges points left taken faults k m n end rises none = by end none
   where
-    by : (end : SessionEnd) → HasNoSummary start end opened history exchanges points m n → IsGeneratedRun start opened (io_state left faults taken k m) (io_state left faults taken k n) history exchanges points end
+    by : (end : SessionEnd) → HasNoSummary start session end history exchanges points → IsGeneratedRun start session (io_state left faults taken k m) (io_state left faults taken k n) history exchanges points end
     by ends.Memory (inl never) = record {
       written = [];
       left_stays = refl;

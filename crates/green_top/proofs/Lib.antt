@@ -1,6 +1,8 @@
 pub mod Streams
 pub mod Rises
 pub mod Endurings
+pub mod Liveness
+pub mod Chains
 pub mod Progresses
 pub mod Serials
 pub mod Turns
@@ -15,3 +17,8 @@ pub mod Drawn
 pub mod Summings
 pub mod Replying
 pub mod Generateds
+pub mod Alone
+pub mod Others
+pub mod LockPlays
+pub mod SatActs
+pub mod BesideSteps

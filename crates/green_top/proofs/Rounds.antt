@@ -1,11 +1,16 @@
 -- What comes of a round.
-use Rattle.std.proofs.Common.{◌≡◌, ℕ, List, [], Option, Some, Err, inl, refl, sym, subst}
+use Rattle.std.proofs.Common.{◌≡◌, ◌≢◌, ℕ, ◌≤◌, Bool, true, false, not, List, [], ◌∷◌, ◌++◌, Option, Err, inl, refl, ap, ◌∙◌, sym, subst}
+use Rattle.std.specs.Prelude.{IsTrue}
 use Rattle.febe_data.specs.LimitsView.{LimitsView}
-use Rattle.febe_data.specs.Plain.{PlainRequest, plain_request, quit, PlainEntry}
+use Rattle.febe_data.specs.Plain.{PlainRequest, plain_request, quit, PlainReply, PlainEntry}
+use Rattle.febe_data.specs.Validity.{IsReply}
 use Rattle.febe_data.specs.declared.request.Request.{Request}
 use Rattle.febe_feed.specs.FeedView.{FeedView}
-use Rattle.world_rules.specs.Legal.{Exchange}
+use Rattle.febe_reply.specs.ReplyGrammar.{spell_reply}
+use Rattle.world_rules.specs.History.{is_live}
+use Rattle.world_rules.specs.Legal.{IsLegal, Exchange}
 use Rattle.green_session.specs.declared.put.Put.{Put}
+use Rattle.green_session.specs.Putting.{IsPut}
 use Rattle.green_session.specs.Taking.{TurnsView, read_state, IsTaken}
 use Rattle.green_session.specs.declared.take.Taken.{Taken}
 use Rattle.green_session.specs.declared.take.Taken.TheVariants as take_answers
@@ -13,8 +18,12 @@ use Rattle.green_top.specs.declared.session_end.SessionEnd.{SessionEnd}
 use Rattle.green_top.specs.declared.session_end.SessionEnd.TheVariants as ends
 use Rattle.green_top.specs.inside.Next.{NextIs}
 use Rattle.green_top.specs.IoState.{io_state}
-use Rattle.green_top.specs.inside.Conversation.{SessionState, session_state, reading, answering, IsAsked, IsNotAsked, IsRound}
-use Rattle.green_top.specs.inside.Progress.{answer_state, HandlesRequest}
+use Rattle.green_top.specs.inside.Conversation.{SessionState, session_state, reading, answering, IsAsked, IsNotAsked, IsLastRound}
+use Rattle.green_top.specs.inside.Play.{HasReplied, Chain}
+use Rattle.green_top.specs.inside.Progress.{AnswerState, answer_state, HandlesRequest}
+use Rattle.green_store.proofs.Remaining.{remains_live}
+use Rattle.green_top.proofs.Chains.{chain_one}
+use Rattle.green_top.proofs.Liveness.{quit_ends}
 
 -- nothing but reading was done
 pub record OnlyReads (before after : SessionState) : Type 0 where
@@ -27,7 +36,7 @@ pub record OnlyReads (before after : SessionState) : Type 0 where
 not_asked : (before after : SessionState) (answer : Taken) → OnlyReads before after → IsTaken (reading before) (reading after) answer → IsNotAsked before after [] answer
 not_asked before after answer o t = record { read = t.read; reads = t.reads; comes = t.comes; no_exchange = refl; history_stays = o.history; points_stay = o.points; taken_stays = o.taken; faults_stay = o.faults; disk_faults_stay = o.disk_faults }
 
-pub ended : (limits : LimitsView) (session : ℕ) (before after : SessionState) (end : SessionEnd) → OnlyReads before after → NextIs (IsTaken (reading before) (reading after)) (Err end) → IsRound limits session before after [] (Some end)
+pub ended : (limits : LimitsView) (session : ℕ) (before after : SessionState) (end : SessionEnd) → OnlyReads before after → NextIs (IsTaken (reading before) (reading after)) (Err end) → IsLastRound limits session before after [] end
 ended limits session before after ends.Quit o t = absurd t
 ended limits session before after ends.End o t = not_asked before after take_answers.End o t
 ended limits session before after (ends.Malformed at) o t = not_asked before after (take_answers.Malformed at) o t
@@ -41,9 +50,9 @@ ended limits session before after ends.NoNumber o t = absurd t
 -- ---- a request came
 
 -- A request was taken, and then answered; and what was done behind that left the history and the count of disk faults as they were.
-module _ (limits : LimitsView) (session : ℕ) (before : SessionState) (exchanges : List Exchange) (request : Request) (put : Put) (h h' : List PlainEntry) (points : List ℕ) (feed : FeedView) (turns : TurnsView) (left taken : Option (List ℕ)) (source_faults sink_faults faults faults' : ℕ)
-    (same : h' ≡ h) (still : faults' ≡ faults) (t : IsTaken (reading before) (read_state left source_faults feed turns) (take_answers.Request request))
-    (handled : HandlesRequest limits session (answering before) (answer_state h points taken sink_faults faults) (plain_request request) put exchanges) where
+module _ (limits : LimitsView) (session : ℕ) (before : SessionState) (exchanges : List Exchange) (request : Request) (given put : Put) (is_put : given ≡ put) (h h' : List PlainEntry) (points : List ℕ) (feed : FeedView) (turns : TurnsView) (left taken : Option (List ℕ))
+    (source_faults sink_faults faults faults' : ℕ) (same : h' ≡ h) (still : faults' ≡ faults) (t : IsTaken (reading before) (read_state left source_faults feed turns) (take_answers.Request request))
+    (handled : HandlesRequest limits session (answering before) (answer_state h points taken sink_faults faults) (plain_request request) given exchanges) where
   abbrev after : SessionState
   after = session_state h' points feed turns (io_state left source_faults taken sink_faults faults')
 
@@ -52,9 +61,60 @@ module _ (limits : LimitsView) (session : ℕ) (before : SessionState) (exchange
     read = t.read;
     reads = t.reads;
     gives = t.comes;
-    answered = subst (λ (x : List PlainEntry). HandlesRequest limits session (answering before) (answer_state x points taken sink_faults faults') (plain_request request) put exchanges) (sym same)
-        (subst (λ (n : ℕ). HandlesRequest limits session (answering before) (answer_state h points taken sink_faults n) (plain_request request) put exchanges) (sym still) handled);
+    answered = subst (λ (p : Put). HandlesRequest limits session (answering before) (answering after) (plain_request request) p exchanges) is_put
+        (subst (λ (x : List PlainEntry). HandlesRequest limits session (answering before) (answer_state x points taken sink_faults faults') (plain_request request) given exchanges) (sym same)
+        (subst (λ (n : ℕ). HandlesRequest limits session (answering before) (answer_state h points taken sink_faults n) (plain_request request) given exchanges) (sym still) handled));
   }
 
   pub asked_quit : plain_request request ≡ quit → IsAsked limits session before after exchanges quit put
   asked_quit is = subst (λ (r : PlainRequest). IsAsked limits session before after exchanges r put) is asked
+
+-- ---- a request was replied to, its point noted, and its reply written
+
+module _ {F S : Type 0} (Tells : F → S → Exchange → F → S → Type 0) (limits : LimitsView) (session : ℕ) (seen : List PlainEntry) (first first' : F) (second second' : S) (request : PlainRequest) (reply : PlainReply) (point : ℕ) (h : List PlainEntry)
+    (r : HasReplied Tells limits session seen first second request reply point h first' second') where
+  abbrev pub exchange_with : Exchange
+  exchange_with = record { request = request; reply = reply; point = point; added = r.added; rose = r.rose }
+
+  pub chained : (Tended : F → S → F → S → Type 0) → Chain Tells Tended first second (exchange_with ∷ []) first' second'
+  chained Tended = chain_one Tells Tended first second exchange_with first' second' r.told
+
+  pub handled : (before : AnswerState) (points : List ℕ) (taken : Option (List ℕ)) (sink_faults faults : ℕ) (put : Put) → before.history ≡ seen → IsReply reply → before.disk_faults ≤ faults → points ≡ before.points ++ point ∷ []
+      → IsPut before.taken taken before.faults sink_faults (spell_reply reply) put → HandlesRequest limits session before (answer_state h points taken sink_faults faults) request put (exchange_with ∷ [])
+  handled before points taken sink_faults faults put is valid rises noted is_put = inl (record {
+    output = spell_reply reply;
+    answers = record {
+      reply = reply;
+      valid = valid;
+      past = r.past;
+      added = r.added;
+      rose = r.rose;
+      others = r.others;
+      legal = subst (λ (x : List PlainEntry). IsLegal limits session (x ++ r.past) request reply r.added r.rose) (sym is) r.legal;
+      grows = r.grows ∙ ap (λ (x : List PlainEntry). (x ++ r.past) ++ r.added) (sym is);
+      never_falls = rises;
+      points_are = noted ∙ ap (λ (n : ℕ). before.points ++ n ∷ []) r.point_is;
+      output_is = refl;
+    };
+    exchanges_are = ap (λ (n : ℕ). record { request = request; reply = reply; point = n; added = r.added; rose = r.rose } ∷ []) r.point_is;
+    put = is_put;
+  })
+
+  -- it is live unless it quits
+  pub live_unless : (quits : Bool) → (IsTrue quits → request ≡ quit) × (request ≡ quit → IsTrue quits) → (mine : ℕ) → mine ≡ session → is_live h mine ≡ not quits
+  live_unless true told mine same = subst (λ (n : ℕ). is_live h n ≡ false) (sym same) (over (told.0 refl))
+    where
+      over : request ≡ quit → is_live h session ≡ false
+      over is =
+          ap (λ (x : List PlainEntry). is_live x session) r.grows
+          ∙ quit_ends limits session (seen ++ r.past) reply r.added r.rose (subst (λ (q : PlainRequest). IsLegal limits session (seen ++ r.past) q reply r.added r.rose) is r.legal)
+  live_unless false told mine same =
+      subst (λ (n : ℕ). is_live h n ≡ true) (sym same) (remains_live limits session (seen ++ r.past) request reply r.added h r.rose r.legal (λ is. absurd (let e = told.1 is in cc)) r.grows)
+
+pub not_quits : (request : PlainRequest) (quits : Bool) → (IsTrue quits → request ≡ quit) × (request ≡ quit → IsTrue quits) → request ≢ quit → not quits ≡ true
+not_quits request true told asks = absurd (asks (told.0 refl))
+not_quits request false told asks = refl
+
+-- the session is as live as it was
+pub live_still : (h h' : List PlainEntry) (mine session : ℕ) (live : Bool) → h' ≡ h → mine ≡ session → is_live h session ≡ live → is_live h' mine ≡ live
+live_still h h' mine session live same is_same is = ap (λ (x : List PlainEntry). is_live x mine) same ∙ ap (λ (n : ℕ). is_live h n) is_same ∙ is

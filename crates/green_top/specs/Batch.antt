@@ -14,7 +14,7 @@ use Rattle.green_top.specs.declared.session_end.SessionEnd.{SessionEnd}
 use Rattle.green_top.specs.declared.session_end.SessionEnd.TheVariants as ends
 use Rattle.green_top.specs.GeneratedRun.{IsGeneratedRun}
 use Rattle.green_top.specs.IoState.{IoState, with_disk_faults}
-use Rattle.green_top.specs.Outcome.{IsRun}
+use Rattle.green_top.specs.Outcome.{IsRun, HasServedAlone}
 use Rattle.green_top.specs.Words.{AreWords, AreGenerateWords, AreNoWords, HasLimits}
 
 -- the status of a run whose session ended so
@@ -79,24 +79,27 @@ pub record NothingOpened (words : List (List ℕ)) (reads left : Option Areas) (
   pub no_points : report.points.items ≡ []
   pub counted : report.bytes_read ≡ 0
 
--- A back end opened with the entries of the log as it was read and a restart, under the limits of the words, and its session
--- ended so.
+-- A back end opened with the entries of the log as it was read and a restart, under the limits of the words, and its session,
+-- which it served alone, ended so.
 pub record Opened (words : List (List ℕ)) (reads : Option Areas) (before after : IoState) (report : Report) (exchanges : List Exchange) (status : ℕ) : Type 0 where
   pub limits : LimitsView
   pub opened : List PlainEntry
+  pub session : ℕ
   pub end : SessionEnd
   pub words_are : AreWords words limits
   pub from : IsOpenedFrom reads opened
   pub status_is : status ≡ status_of end
   pub place_is : report.place ≡ place_of end
   pub opened_is : report.opened ≡ length opened
-  pub run : IsRun limits opened before after (plain_history report.history.items) exchanges report.points.items report.bytes_read end
+  pub run : IsRun limits session before after (plain_history report.history.items) exchanges report.points.items report.bytes_read end
+  pub alone : HasServedAlone opened session (plain_history report.history.items) exchanges before.disk_faults after.disk_faults
 
--- A back end opened so under the standard limits, and the session that the words' start generates ended so. No byte of the source
--- was read.
+-- A back end opened so under the standard limits, and the session that the words' start generates, which it served alone, ended so.
+-- No byte of the source was read.
 pub record OpenedGenerated (words : List (List ℕ)) (reads : Option Areas) (before after : IoState) (report : Report) (exchanges : List Exchange) (status : ℕ) : Type 0 where
   pub start : ℕ
   pub opened : List PlainEntry
+  pub session : ℕ
   pub end : SessionEnd
   pub words_are : AreGenerateWords words start
   pub from : IsOpenedFrom reads opened
@@ -104,7 +107,8 @@ pub record OpenedGenerated (words : List (List ℕ)) (reads : Option Areas) (bef
   pub place_is : report.place ≡ 0
   pub opened_is : report.opened ≡ length opened
   pub counted : report.bytes_read ≡ 0
-  pub run : IsGeneratedRun start opened before after (plain_history report.history.items) exchanges report.points.items end
+  pub run : IsGeneratedRun start session before after (plain_history report.history.items) exchanges report.points.items end
+  pub alone : HasServedAlone opened session (plain_history report.history.items) exchanges before.disk_faults after.disk_faults
 
 -- A call from this source, sink and disk to those left the report, answered requests in these exchanges, and then the status. The
 -- areas of the disk read this before, and that after, where it tells that.

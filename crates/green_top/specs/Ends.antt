@@ -43,12 +43,12 @@ AnsweredAndWritten other read answered output written = AreWholeRequests read an
 abbrev pub AllNumbersTaken : List PlainEntry → Type 0
 AllNumbersTaken history = greatest_session history + 1 ≡ 2 ^ 64
 
--- A session that ended so never began, on the history with which the back end opened: nothing came, or no greeting, or
--- there was no memory, or the greeting came and no number was left.
+-- A session that ended so never began, and left this history: nothing came, or no greeting, or there was no memory, or the
+-- greeting came and no number was left.
 abbrev pub NeverBegan : List PlainEntry → SessionEnd → List ℕ → Type 0
-NeverBegan opened ends.Quit read = ⊥
-NeverBegan opened ends.End read = read ≡ []
-NeverBegan opened ends.WriteFault read = ⊥
-NeverBegan opened ends.Memory read = Unit {0}
-NeverBegan opened ends.NoNumber read = AllNumbersTaken opened × IsGreetedFirst read
-NeverBegan opened other read = IsNotGreeted read
+NeverBegan history ends.Quit read = ⊥
+NeverBegan history ends.End read = read ≡ []
+NeverBegan history ends.WriteFault read = ⊥
+NeverBegan history ends.Memory read = Unit {0}
+NeverBegan history ends.NoNumber read = AllNumbersTaken history × IsGreetedFirst read
+NeverBegan history other read = IsNotGreeted read

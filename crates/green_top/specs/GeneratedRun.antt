@@ -1,12 +1,11 @@
 -- What a run does that makes its session's requests itself.
-use Rattle.std.specs.Prelude.{◌≡◌, ◌⊎◌, ℕ, ◌+◌, ◌^◌, ◌<◌, ◌≤◌, List, [], ◌++◌}
+use Rattle.std.specs.Prelude.{◌≡◌, ◌≢◌, ◌⊎◌, ℕ, ◌^◌, ◌<◌, ◌≤◌, List, [], ◌++◌}
 use Rattle.std.specs.Io.KnownBytes.{Appends}
 use Rattle.febe_data.specs.LimitsView.{standard_limits}
 use Rattle.febe_data.specs.Plain.{PlainRequest, PlainEntry}
 use Rattle.green_io.specs.Outside.{HasRisen}
 use Rattle.world_rules.specs.Apply.{world_of}
 use Rattle.world_rules.specs.Legal.{Exchange}
-use Rattle.green_store.specs.Sessions.{greatest_session}
 use Rattle.green_top.specs.declared.session_end.SessionEnd.{SessionEnd}
 use Rattle.green_top.specs.declared.session_end.SessionEnd.TheVariants as ends
 use Rattle.green_top.specs.Ends.{AllNumbersTaken}
@@ -34,26 +33,25 @@ abbrev pub SinkFailed : SessionEnd → IoState → IoState → Type 0
 SinkFailed ends.WriteFault before after = HasRisen before.sink_faults after.sink_faults
 SinkFailed other before after = Unit {0}
 
--- no session began, for want of a number or of memory
+-- no session began, for want of a number or of memory, and this history was left
 abbrev pub CouldNotBegin : SessionEnd → List PlainEntry → Type 0
-CouldNotBegin ends.NoNumber opened = AllNumbersTaken opened
-CouldNotBegin ends.Memory opened = Unit {0}
-CouldNotBegin other opened = ⊥
+CouldNotBegin ends.NoNumber history = AllNumbersTaken history
+CouldNotBegin ends.Memory history = Unit {0}
+CouldNotBegin other history = ⊥
 
--- The session with the next number began, answered the requests that this start generates, or the first of them, and ended so;
+-- The session of this number began, answered the requests that this start generates, or the first of them, and ended so;
 -- and the summary of its replies and of the world that it left was written.
-pub record IsSummedSession (start : ℕ) (opened : List PlainEntry) (end : SessionEnd) (written : List ℕ) (history : List PlainEntry) (exchanges : List Exchange) (points : List ℕ) (faults_before faults_after : ℕ) : Type 0 where
-  pub session : ℕ
-  pub number_is : session ≡ greatest_session opened + 1
+pub record IsSummedSession (start session : ℕ) (end : SessionEnd) (written : List ℕ) (history : List PlainEntry) (exchanges : List Exchange) (points : List ℕ) : Type 0 where
+  pub numbered : session ≢ 0
   pub has_number : session < 2 ^ 64
   pub answered : List PlainRequest
   pub output : List ℕ
-  pub over : IsOver standard_limits opened session history exchanges points answered output faults_before faults_after
+  pub over : IsOver standard_limits session history exchanges points answered output
   pub answered_and_summed : AnsweredAndSummed end (generated_requests start) answered (summary_of start (replies_of exchanges) (world_of history)) written
 
--- A back end that opened with this history held a session that this start generates, with the standard limits, and left this history
--- and these points after these exchanges. The source was left alone, and the sink took of the summary what was written.
-pub record IsGeneratedRun (start : ℕ) (opened : List PlainEntry) (before after : IoState) (history : List PlainEntry) (exchanges : List Exchange) (points : List ℕ) (end : SessionEnd) : Type 0 where
+-- A session that this start generates was held with the standard limits, of this number or of none, and left this history and these
+-- points after these exchanges. The source was left alone, and the sink took of the summary what was written.
+pub record IsGeneratedRun (start session : ℕ) (before after : IoState) (history : List PlainEntry) (exchanges : List Exchange) (points : List ℕ) (end : SessionEnd) : Type 0 where
   pub written : List ℕ
   pub left_stays : after.left ≡ before.left
   pub source_faults_stay : after.source_faults ≡ before.source_faults
@@ -61,4 +59,4 @@ pub record IsGeneratedRun (start : ℕ) (opened : List PlainEntry) (before after
   pub sink_never_falls : before.sink_faults ≤ after.sink_faults
   pub disk_never_falls : before.disk_faults ≤ after.disk_faults
   pub cause : SinkFailed end before after
-  pub leaves : (CouldNotBegin end opened × NoSession opened history exchanges points written) ⊎ IsSummedSession start opened end written history exchanges points before.disk_faults after.disk_faults
+  pub leaves : (CouldNotBegin end history × NoSession session exchanges points written) ⊎ IsSummedSession start session end written history exchanges points

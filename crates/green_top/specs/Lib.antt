@@ -44,6 +44,8 @@ pub mod IoState
 pub mod Ends
 pub mod Outcome
 pub mod Words
+pub mod Served
+pub mod Round
 pub mod Crash
 pub mod Generated
 pub mod Summary

@@ -65,15 +65,13 @@ pub record EntriesAre (session : ℕ) (history : List PlainEntry) (exchanges : L
   pub serials : CountFromOne (entries_of session history)
   pub in_turn : InTurn session history (begin_entry session ∷ []) exchanges
 
--- In these exchanges the requests were answered at these points, with this output, while the count of disk faults rose from this
--- to that: each exchange took place in the history, its reply is one that can be spelled, no more of them met a disk fault than there were,
--- the points never fall, and the session's entries are those of its accepted changes.
-pub record Transcript (limits : LimitsView) (session : ℕ) (history : List PlainEntry) (exchanges : List Exchange) (requests : List PlainRequest) (points output : List ℕ) (faults_before faults_after : ℕ) : Type 0 where
+-- In these exchanges the requests were answered at these points, with this output: each exchange took place in the history, its
+-- reply is one that can be spelled, the points never fall, and the session's entries are those of its accepted changes.
+pub record Transcript (limits : LimitsView) (session : ℕ) (history : List PlainEntry) (exchanges : List Exchange) (requests : List PlainRequest) (points output : List ℕ) : Type 0 where
   pub requests_are : requests ≡ map (λ (e : Exchange). e.request) exchanges
   pub points_are : points ≡ map (λ (e : Exchange). e.point) exchanges
   pub output_is : output ≡ output_of exchanges
   pub each : AllByRecursion (TookPlace limits session history) exchanges
-  pub rises : RisesWithin exchanges faults_before faults_after
   pub valid_replies : AllByRecursion HasValidReply exchanges
   pub rising : IsNonDecreasing points
   pub begun : BeginsBefore session history points

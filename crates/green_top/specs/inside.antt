@@ -1,5 +1,8 @@
 -- What only private functions cite.
 pub mod Opening
+pub mod Play
+pub mod Stored
+pub mod Behind
 pub mod Next
 pub mod Progress
 pub mod Conversation

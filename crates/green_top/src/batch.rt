@@ -1,26 +1,29 @@
 //! One run of the program.
-ghost use Rattle.std.specs.Prelude.{◌≡◌, ◌+◌, ◌≤◌, [], ℕ, List, map, string_bytes};
+ghost use Rattle.std.specs.Prelude.{◌≡◌, ◌+◌, ◌≤◌, ℕ, List, map, string_bytes};
 ghost use Rattle.febe_data.specs.Plain.{PlainEntry};
-ghost use Rattle.green_io.specs.Disk.{LeavesOthers};
+ghost use Rattle.green_io.specs.Areas.{is_log};
+ghost use Rattle.green_io.specs.Disk.{LeavesBut};
 ghost use Rattle.edit_log.specs.Images.{AsRead};
 ghost use Rattle.edit_log.specs.Log.{IsWhole};
 ghost use Rattle.world_rules.specs.Placed.{AllPlaced};
 ghost use Rattle.world_rules.specs.World.{empty_world};
 ghost use Rattle.world_rules.specs.Legal.{Exchange};
 ghost use Rattle.green_store.specs.Sessions.{greatest_session};
-ghost use Rattle.green_top.specs.IoState.{io_state};
+ghost use Rattle.green_top.specs.Outcome.{HasServedAlone};
 ghost use Rattle.green_top.specs.Batch.{BeginsWith, fault_status, fault_place};
 ghost use Rattle.green_top.specs.Call.{IsCall};
 ghost use Rattle.green_top.specs.Words.{AreNoWords, AreGenerateWords};
+ghost use Rattle.green_top.specs.inside.Conversation.{io_by};
 ghost use Rattle.green_top.specs.inside.Enduring.{Endures};
 ghost use Rattle.green_top.specs.inside.Forms.{limits_of, IsFormRun, IsGenerated};
 
+use crate::beside::{Serves, serve_beside};
 use crate::generate::serve_generated;
 use crate::report::Report;
-use crate::session::serve;
+use crate::session::Served;
 use crate::session_end::SessionEnd;
 use crate::words::{Form, form_in};
-use green_io::{Area, Disk, Sink, Source};
+use green_io::{Disk, Sink, Source};
 use green_store::laws::images_are_kept;
 use green_store::{OpenFault, Store};
 use std::alloc::Global;
@@ -53,25 +56,24 @@ fn place_of(fault: OpenFault) -> u64
 fn serve_form<S: Source, K: Sink, D: Disk>(
     alloc: Global,
     form: &Form,
-    store: &mut Store,
+    serves: &mut Serves,
     source: &mut S,
     sink: &mut K,
     disk: &mut D,
-    report: &mut Report,
-) -> SessionEnd
-    requires placed { AllPlaced empty_world store.old.history }
-    requires no_points { report.old.points.items ≡ [] }
-    requires limits { store.old.limits ≡ limits_of form.now }
-    ensures run { (exchanges : List Exchange) × IsFormRun form.now store.old.history
-        (io_state (S.left source.old) (S.fault_count source.old) (K.taken sink.old) (K.fault_count sink.old) (D.fault_count disk.old))
-        (io_state (S.left source.new) (S.fault_count source.new) (K.taken sink.new) (K.fault_count sink.new) (D.fault_count disk.new))
-        store.new.history exchanges report.new.points.items report.new.bytes_read result
-        × Endures store.old.limits (greatest_session store.old.history + 1) exchanges (D.state disk.old) store.old (D.fault_count disk.old) (D.state disk.new) store.new (D.fault_count disk.new) }
+) -> Served
+    requires placed { AllPlaced empty_world serves.old.store.history }
+    requires unnumbered { serves.old.session ≡ 0 }
+    requires limits { serves.old.store.limits ≡ limits_of form.now }
+    ensures run { let io = io_by S.left S.fault_count K.taken K.fault_count in
+        (exchanges : List Exchange) × IsFormRun form.now serves.new.session (io source.old sink.old (D.fault_count disk.old)) (io source.new sink.new (D.fault_count disk.new))
+        serves.new.store.history exchanges result.points.items result.bytes_read result.end
+        × HasServedAlone serves.old.store.history serves.new.session serves.new.store.history exchanges (D.fault_count disk.old) (D.fault_count disk.new)
+        × Endures serves.old.store.limits (greatest_session serves.old.store.history + 1) exchanges (D.state disk.old) serves.old.store (D.fault_count disk.old) (D.state disk.new) serves.new.store (D.fault_count disk.new) }
     ensures source { IsGenerated form.now → source.new ≡ source.old }
 {
     match form {
-        Form::Session { .. } => serve(alloc, store, source, sink, disk, report),
-        Form::Generate { start } => serve_generated(alloc, *start, store, sink, disk, report),
+        Form::Session { .. } => serve_beside(alloc, serves, source, sink, disk),
+        Form::Generate { start } => serve_generated(alloc, *start, serves, sink, disk),
     }
 }
 
@@ -97,20 +99,19 @@ pub fn run_batch<S: Source, K: Sink, D: Disk>(
     disk: &mut D,
     report: &mut Report,
 ) -> u8
-    ensures call { IsCall (map string_bytes words.now) (D.state disk.old) (D.state disk.new)
-        (io_state (S.left source.old) (S.fault_count source.old) (K.taken sink.old) (K.fault_count sink.old) (D.fault_count disk.old))
-        (io_state (S.left source.new) (S.fault_count source.new) (K.taken sink.new) (K.fault_count sink.new) (D.fault_count disk.new)) report.new result }
+    ensures call { let io = io_by S.left S.fault_count K.taken K.fault_count in
+        IsCall (map string_bytes words.now) (D.state disk.old) (D.state disk.new) (io source.old sink.old (D.fault_count disk.old)) (io source.new sink.new (D.fault_count disk.new)) report.new result }
     ensures source { (start : ℕ) → AreGenerateWords (map string_bytes words.now) start → source.new ≡ source.old }
     ensures untouched { AreNoWords (map string_bytes words.now) → disk.new ≡ disk.old }
     ensures whole { (entries : List PlainEntry) → AsRead (D.state disk.old).reads (IsWhole entries) → BeginsWith entries report.new result }
-    ensures others { LeavesOthers Area.Log (D.state disk.old) (D.state disk.new) }
+    ensures others { LeavesBut is_log (D.state disk.old) (D.state disk.new) }
     ensures never_falls { D.fault_count disk.old ≤ D.fault_count disk.new }
 {
     *report = Report::new(alloc);
     let Some(form) = form_in(words) else {
         return USAGE;
     };
-    let mut store = match Store::open(alloc, disk, form.limits()) {
+    let store = match Store::open(alloc, disk, form.limits()) {
         Ok(store) => store,
         Err(fault) => {
             report.place = place_of(fault);
@@ -118,11 +119,19 @@ pub fn run_batch<S: Source, K: Sink, D: Disk>(
         }
     };
     let opened = store.history().len() as u64;
-    let end = serve_form(alloc, &form, &mut store, source, sink, disk, report);
+    let mut serves = Serves { store, session: 0 };
+    let Served {
+        end,
+        points,
+        bytes_read,
+    } = serve_form(alloc, &form, &mut serves, source, sink, disk);
     // So each image has what the store has.
-    images_are_kept(disk, &store);
-    report.opened = opened;
-    report.place = end.place();
+    images_are_kept(disk, &serves.store);
+    let Serves { store, session: _ } = serves;
     report.history = store.into_history();
+    report.opened = opened;
+    report.points = points;
+    report.bytes_read = bytes_read;
+    report.place = end.place();
     end.status()
 }

@@ -1,23 +1,43 @@
 //! One request of a session, and its reply.
-ghost use Rattle.std.specs.Prelude.{◌≡◌, ◌≢◌, ◌↔◌, ℕ, true, [], IsTrue};
-ghost use Rattle.febe_data.specs.LimitsView.{LimitsView};
+ghost use Rattle.std.specs.Prelude.{◌≡◌, ◌≢◌, ◌↔◌, true, IsTrue};
 ghost use Rattle.febe_data.specs.Plain.{plain_request, quit};
 ghost use Rattle.febe_data.specs.Validity.{IsRequest};
 ghost use Rattle.world_rules.specs.History.{is_live};
 ghost use Rattle.green_session.specs.Taking.{read_state, IsTaken};
 ghost use Rattle.green_top.specs.inside.Next.{NextIs};
-ghost use Rattle.green_top.specs.IoState.{io_state};
+ghost use Rattle.green_top.specs.inside.Play.{Chain};
 ghost use Rattle.green_top.specs.inside.Progress.{answer_state, HandlesRequest};
-ghost use Rattle.green_top.specs.inside.Conversation.{session_state, IsRound};
-ghost use Rattle.green_top.specs.inside.Enduring.{Endures};
+ghost use Rattle.green_top.specs.inside.Conversation.{state_by, IsRound};
 
+use crate::plays::{Plays, Replied};
 use crate::session_end::SessionEnd;
 use febe_data::{List, Request};
 use febe_feed::Feed;
-use green_io::{Disk, Sink, Source};
+use green_io::{Sink, Source};
 use green_session::{Put, Taken, Turns, put_reply, take_request};
-use green_store::{Step, StepAnswer, Store};
 use std::alloc::Global;
+
+/// What a session was given and has not answered yet, how much it may still be given, and the points of its replies.
+#[derive(Drop)]
+pub(crate) struct Talk {
+    pub(crate) feed: Feed,
+    pub(crate) turns: Turns,
+    pub(crate) points: List<u64>,
+}
+
+/// What came of a reply, and whether the session is live behind it.
+#[derive(Drop)]
+pub(crate) struct Answered {
+    pub(crate) put: Put,
+    pub(crate) live: bool,
+}
+
+/// How a conversation ended, and whether the session is still live.
+#[derive(Drop)]
+pub(crate) struct Closing {
+    pub(crate) end: SessionEnd,
+    pub(crate) live: bool,
+}
 
 /// What comes next: the greeting, a request, or what ends the session.
 pub(crate) fn take_next<S: Source>(
@@ -48,82 +68,94 @@ fn is_quit(request: &Request) -> bool
 
 /// Answers a request of the session, notes its point and writes its reply. Room for the point is taken first, so that no
 /// entry stands without its point.
-fn answer_one<K: Sink, D: Disk>(
+fn answer_one<P: Plays, K: Sink>(
     alloc: Global,
-    store: &mut Store,
-    session: u64,
+    player: &P,
+    first: &mut P::First,
+    second: &mut P::Second,
     request: Request,
     sink: &mut K,
-    disk: &mut D,
     points: &mut List<u64>,
-) -> Put
-    requires live { is_live store.old.history session ≡ true }
+) -> Answered
+    requires ready { P.ready player.now first.old second.old }
+    requires live { is_live (P.seen first.old second.old) (P.number first.old) ≡ true }
     requires valid { IsRequest (plain_request request) }
-    ensures answered { (exchanges : _) × HandlesRequest store.old.limits session
-        (answer_state store.old.history points.old.items (K.taken sink.old) (K.fault_count sink.old) (D.fault_count disk.old))
-        (answer_state store.new.history points.new.items (K.taken sink.new) (K.fault_count sink.new) (D.fault_count disk.new)) (plain_request request) result exchanges
-        × Endures store.old.limits session exchanges (D.state disk.old) store.old (D.fault_count disk.old) (D.state disk.new) store.new (D.fault_count disk.new) }
-    ensures limits { store.new.limits ≡ store.old.limits }
-    ensures stays { plain_request request ≢ quit → is_live store.new.history session ≡ true }
+    ensures ready { P.ready player.now first.new second.new }
+    ensures limits { P.limits first.new ≡ P.limits first.old }
+    ensures number { P.number first.new ≡ P.number first.old }
+    ensures answered { (exchanges : _) × HandlesRequest (P.limits first.old) (P.number first.old)
+        (answer_state (P.seen first.old second.old) points.old.items (K.taken sink.old) (K.fault_count sink.old) (P.faults first.old second.old))
+        (answer_state (P.seen first.new second.new) points.new.items (K.taken sink.new) (K.fault_count sink.new) (P.faults first.new second.new)) (plain_request request) result.put exchanges
+        × Chain P.tells P.tended first.old second.old exchanges first.new second.new }
+    ensures live { is_live (P.seen first.new second.new) (P.number first.new) ≡ result.live }
+    ensures stays { plain_request request ≢ quit → result.live ≡ true }
 {
+    let live = !is_quit(&request);
     if points.reserve(1).is_err() {
-        return Put::Memory;
+        return Answered {
+            put: Put::Memory,
+            live: true,
+        };
     }
-    let step = Step::Ask { session, request };
-    let StepAnswer::Reply { reply, point } = store.step(alloc, disk, step) else {
-        unreachable!();
-    };
+    let Replied { reply, point } = player.ask(alloc, first, second, request);
     points.push_reserved(point);
-    put_reply(alloc, sink, &reply)
-}
-
-/// Puts the store's trees right by one step, and tells whether something was done. Whatever comes of it, the session goes
-/// on as if it had not been made.
-pub(crate) fn tend<D: Disk>(alloc: Global, store: &mut Store, disk: &mut D) -> bool
-    ensures history { store.new.history ≡ store.old.history }
-    ensures limits { store.new.limits ≡ store.old.limits }
-    ensures untouched { disk.new ≡ disk.old }
-    ensures endures { (limits : LimitsView) (session : ℕ) → Endures limits session [] (D.state disk.old) store.old (D.fault_count disk.old) (D.state disk.new) store.new (D.fault_count disk.new) }
-{
-    let answer = store.step(alloc, disk, Step::Background);
-    matches!(&answer, StepAnswer::Balanced | StepAnswer::Swept)
+    let put = put_reply(alloc, sink, &reply);
+    Answered { put, live }
 }
 
 /// Takes one request of the session, answers it and writes its reply, or tells what ends the session. Once a reply is written
-/// the store's trees are put right by one step.
-pub(crate) fn answer_next<S: Source, K: Sink, D: Disk>(
+/// the player does what is then to be done.
+pub(crate) fn answer_next<P: Plays, S: Source, K: Sink>(
     alloc: Global,
-    store: &mut Store,
-    session: u64,
+    player: &P,
+    first: &mut P::First,
+    second: &mut P::Second,
     source: &mut S,
     sink: &mut K,
-    disk: &mut D,
-    feed: &mut Feed,
-    turns: &mut Turns,
-    points: &mut List<u64>,
-) -> Option<SessionEnd>
-    requires live { is_live store.old.history session ≡ true }
-    requires greeted { feed.old.greeted ≡ true }
-    ensures round { (exchanges : _) × IsRound store.old.limits session
-        (session_state store.old.history points.old.items feed.old turns.old (io_state (S.left source.old) (S.fault_count source.old) (K.taken sink.old) (K.fault_count sink.old) (D.fault_count disk.old)))
-        (session_state store.new.history points.new.items feed.new turns.new (io_state (S.left source.new) (S.fault_count source.new) (K.taken sink.new) (K.fault_count sink.new) (D.fault_count disk.new))) exchanges result
-        × Endures store.old.limits session exchanges (D.state disk.old) store.old (D.fault_count disk.old) (D.state disk.new) store.new (D.fault_count disk.new) }
-    ensures limits { store.new.limits ≡ store.old.limits }
+    talk: &mut Talk,
+) -> Option<Closing>
+    requires ready { P.ready player.now first.old second.old }
+    requires live { is_live (P.seen first.old second.old) (P.number first.old) ≡ true }
+    requires greeted { talk.old.feed.greeted ≡ true }
+    ensures ready { P.ready player.now first.new second.new }
+    ensures limits { P.limits first.new ≡ P.limits first.old }
+    ensures number { P.number first.new ≡ P.number first.old }
+    ensures round { let state = state_by P.seen P.faults S.left S.fault_count K.taken K.fault_count in
+        (exchanges : _) × IsRound (P.limits first.old) (P.number first.old) (state first.old second.old source.old sink.old talk.old) (state first.new second.new source.new sink.new talk.new) exchanges result
+        × Chain P.tells P.tended first.old second.old exchanges first.new second.new }
 {
-    let request = match take_next(alloc, source, feed, turns) {
+    let request = match take_next(alloc, source, &mut talk.feed, &mut talk.turns) {
         Ok(Some(request)) => request,
         Ok(None) => unreachable!(),
-        Err(end) => return Some(end),
+        Err(end) => return Some(Closing { end, live: true }),
     };
     let quits = is_quit(&request);
-    match answer_one(alloc, store, session, request, sink, disk, points) {
+    let Answered { put, live } = answer_one(
+        alloc,
+        player,
+        first,
+        second,
+        request,
+        sink,
+        &mut talk.points,
+    );
+    match put {
         Put::Done => {}
-        Put::WriteFault => return Some(SessionEnd::WriteFault),
-        Put::Memory => return Some(SessionEnd::Memory),
+        Put::WriteFault => return Some(Closing {
+            end: SessionEnd::WriteFault,
+            live,
+        }),
+        Put::Memory => return Some(Closing {
+            end: SessionEnd::Memory,
+            live,
+        }),
     }
-    tend(alloc, store, disk);
+    player.tend(alloc, first, second);
     if quits {
-        return Some(SessionEnd::Quit);
+        return Some(Closing {
+            end: SessionEnd::Quit,
+            live,
+        });
     }
     None
 }

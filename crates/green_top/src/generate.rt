@@ -1,27 +1,26 @@
 //! A session whose requests the program makes itself.
-ghost use Rattle.std.specs.Prelude.{◌≡◌, ◌+◌, [], List, ℕ, Option, IfOk};
+ghost use Rattle.std.specs.Prelude.{◌≡◌, ◌+◌, [], ℕ, IfOk};
 ghost use Rattle.febe_data.specs.LimitsView.{LimitsView, standard_limits};
 ghost use Rattle.febe_wire.specs.Sessions.{IsInputOf};
 ghost use Rattle.world_rules.specs.Apply.{world_of};
-ghost use Rattle.world_rules.specs.Legal.{Exchange};
 ghost use Rattle.world_rules.specs.Placed.{AllPlaced};
 ghost use Rattle.world_rules.specs.World.{empty_world};
 ghost use Rattle.green_store.specs.Sessions.{greatest_session};
 ghost use Rattle.green_top.specs.IoState.{io_state};
+ghost use Rattle.green_top.specs.Outcome.{HasServedAlone};
 ghost use Rattle.green_top.specs.Generated.{generated_requests};
 ghost use Rattle.green_top.specs.GeneratedRun.{IsGeneratedRun};
 ghost use Rattle.green_top.specs.inside.Enduring.{Endures};
 ghost use Rattle.green_top.specs.Summary.{summary_of};
 ghost use Rattle.green_top.specs.inside.Summing.{IsOutput, Tells, CanEnd, outcome_of, IsInnerRun};
 
+use crate::beside::{Serves, put_right, serve_beside};
 use crate::buffers::{KeptSink, ReadySource};
-use crate::exchange::tend;
 use crate::generating::generated;
-use crate::report::Report;
-use crate::session::serve;
+use crate::session::Served;
 use crate::session_end::SessionEnd;
 use crate::summary::summary_of;
-use febe_data::{Memory, Text};
+use febe_data::{List, Memory, Text};
 use febe_wire::write_request;
 use green_io::{Disk, Sink};
 use green_session::{Put, put_bytes};
@@ -60,38 +59,53 @@ fn outcome_of(end: SessionEnd) -> Result<(), SessionEnd>
     }
 }
 
+/// What came of a session whose output is in memory: a summary is to be written, or this ends the run; and the points of its replies.
+#[derive(Drop)]
+struct Summable {
+    outcome: Result<(), SessionEnd>,
+    points: List<u64>,
+}
+
 /// Serves the session that the start generates, whose output comes into memory.
 fn serve_input<D: Disk>(
     alloc: Global,
     start: u32,
-    store: &mut Store,
+    serves: &mut Serves,
     output: &mut KeptSink,
     disk: &mut D,
-    report: &mut Report,
-) -> Result<(), SessionEnd>
-    requires placed { AllPlaced empty_world store.old.history }
-    requires no_points { report.old.points.items ≡ [] }
-    requires limits { store.old.limits ≡ standard_limits }
+) -> Summable
+    requires placed { AllPlaced empty_world serves.old.store.history }
+    requires unnumbered { serves.old.session ≡ 0 }
+    requires limits { serves.old.store.limits ≡ standard_limits }
     requires none_yet { output.old.taken ≡ [] }
-    ensures run { (exchanges : List Exchange) × IsInnerRun start result store.old.history store.new.history exchanges report.new.points.items output.new.taken (D.fault_count disk.old) (D.fault_count disk.new)
-        × Endures store.old.limits (greatest_session store.old.history + 1) exchanges (D.state disk.old) store.old (D.fault_count disk.old) (D.state disk.new) store.new (D.fault_count disk.new) }
+    ensures run { (exchanges : _) × IsInnerRun start serves.new.session result.outcome serves.new.store.history exchanges result.points.items output.new.taken
+        × HasServedAlone serves.old.store.history serves.new.session serves.new.store.history exchanges (D.fault_count disk.old) (D.fault_count disk.new)
+        × Endures serves.old.store.limits (greatest_session serves.old.store.history + 1) exchanges (D.state disk.old) serves.old.store (D.fault_count disk.old) (D.state disk.new) serves.new.store (D.fault_count disk.new) }
 {
     let Ok(input) = input_of(alloc, start) else {
-        return Err(SessionEnd::Memory);
+        let outcome = Err(SessionEnd::Memory);
+        let points = List::new(alloc);
+        return Summable { outcome, points };
     };
     let mut source = ReadySource::new(input);
-    let end = serve(alloc, store, &mut source, output, disk, report);
-    outcome_of(end)
+    let Served {
+        end,
+        points,
+        bytes_read: _,
+    } = serve_beside(alloc, serves, &mut source, output, disk);
+    let outcome = outcome_of(end);
+    Summable { outcome, points }
 }
 
 /// Puts the store's trees right, one step after another, until there is nothing to be done.
-fn settle<D: Disk>(alloc: Global, store: &mut Store, disk: &mut D)
-    ensures history { store.new.history ≡ store.old.history }
+fn settle<D: Disk>(alloc: Global, serves: &mut Serves, disk: &mut D)
+    ensures number { serves.new.session ≡ serves.old.session }
+    ensures history { serves.new.store.history ≡ serves.old.store.history }
     ensures untouched { disk.new ≡ disk.old }
-    ensures endures { (limits : LimitsView) (session : ℕ) → Endures limits session [] (D.state disk.old) store.old (D.fault_count disk.old) (D.state disk.new) store.new (D.fault_count disk.new) }
+    ensures endures { (limits : LimitsView) (session : ℕ) → Endures limits session [] (D.state disk.old) serves.old.store (D.fault_count disk.old) (D.state disk.new) serves.new.store (D.fault_count disk.new) }
 {
     for _ in 0..MOST_STEPS {
-        if !tend(alloc, store, disk) {
+        if !put_right(alloc, serves, disk) {
             return;
         }
     }
@@ -124,29 +138,37 @@ fn write_summary<K: Sink>(
 pub(crate) fn serve_generated<K: Sink, D: Disk>(
     alloc: Global,
     start: u32,
-    store: &mut Store,
+    serves: &mut Serves,
     sink: &mut K,
     disk: &mut D,
-    report: &mut Report,
-) -> SessionEnd
-    requires placed { AllPlaced empty_world store.old.history }
-    requires no_points { report.old.points.items ≡ [] }
-    requires limits { store.old.limits ≡ standard_limits }
-    ensures run { (exchanges : List Exchange) × ((left : Option (List ℕ)) (faults : ℕ) → IsGeneratedRun start store.old.history
+) -> Served
+    requires placed { AllPlaced empty_world serves.old.store.history }
+    requires unnumbered { serves.old.session ≡ 0 }
+    requires limits { serves.old.store.limits ≡ standard_limits }
+    ensures run { (exchanges : _) × ((left : _) (faults : ℕ) → IsGeneratedRun start serves.new.session
         (io_state left faults (K.taken sink.old) (K.fault_count sink.old) (D.fault_count disk.old))
         (io_state left faults (K.taken sink.new) (K.fault_count sink.new) (D.fault_count disk.new))
-        store.new.history exchanges report.new.points.items result)
-        × Endures store.old.limits (greatest_session store.old.history + 1) exchanges (D.state disk.old) store.old (D.fault_count disk.old) (D.state disk.new) store.new (D.fault_count disk.new) }
-    ensures nothing_read { report.new.bytes_read ≡ 0 }
+        serves.new.store.history exchanges result.points.items result.end)
+        × HasServedAlone serves.old.store.history serves.new.session serves.new.store.history exchanges (D.fault_count disk.old) (D.fault_count disk.new)
+        × Endures serves.old.store.limits (greatest_session serves.old.store.history + 1) exchanges (D.state disk.old) serves.old.store (D.fault_count disk.old) (D.state disk.new) serves.new.store (D.fault_count disk.new) }
+    ensures nothing_read { result.bytes_read ≡ 0 }
 {
     let mut output = KeptSink::new(alloc);
-    let outcome = serve_input(alloc, start, store, &mut output, disk, report);
-    report.bytes_read = 0;
+    let Summable { outcome, points } = serve_input(alloc, start, serves, &mut output, disk);
     match outcome {
         Ok(()) => {
-            settle(alloc, store, disk);
-            write_summary(alloc, start, output.bytes(), store, sink)
+            settle(alloc, serves, disk);
+            let end = write_summary(alloc, start, output.bytes(), &serves.store, sink);
+            Served {
+                end,
+                points,
+                bytes_read: 0,
+            }
         }
-        Err(end) => end,
+        Err(end) => Served {
+            end,
+            points,
+            bytes_read: 0,
+        },
     }
 }

@@ -2,12 +2,16 @@
 #![tactic(auto)]
 
 mod batch;
+mod beside;
 mod buffers;
 mod exchange;
 mod generate;
 mod generating;
 pub mod laws;
+mod plays;
 mod report;
+mod round;
+mod served;
 mod session;
 mod session_end;
 mod summary;
@@ -16,5 +20,7 @@ mod words;
 pub use batch::run_batch;
 pub use generating::generated;
 pub use report::Report;
+pub use round::{Round, background_round};
+pub use served::serve_session;
 pub use session::MOST_INPUT;
 pub use session_end::SessionEnd;

@@ -1,124 +1,148 @@
 //! One session from a source to a sink.
-ghost use Rattle.std.specs.Prelude.{◌≡◌, ◌+◌, []};
-ghost use Rattle.world_rules.specs.Placed.{AllPlaced};
-ghost use Rattle.world_rules.specs.World.{empty_world};
-ghost use Rattle.green_store.specs.Sessions.{greatest_session};
-ghost use Rattle.green_top.specs.IoState.{io_state};
+ghost use Rattle.std.specs.Prelude.{◌≡◌, []};
+ghost use Rattle.world_rules.specs.History.{is_live};
 ghost use Rattle.green_top.specs.Outcome.{IsRun};
-ghost use Rattle.green_top.specs.inside.Conversation.{session_state, IsGreeted, HasBegun, IsConversed, IsSession};
-ghost use Rattle.green_top.specs.inside.Enduring.{Endures};
+ghost use Rattle.green_top.specs.inside.Conversation.{io_by, state_by, IsGreeted, HasBegun, IsConversed, IsSession};
+ghost use Rattle.green_top.specs.inside.Play.{Chain, HasSat, HasServed};
 
-use crate::exchange::{answer_next, take_next};
-use crate::report::Report;
+use crate::exchange::{Closing, Talk, answer_next, take_next};
+use crate::plays::{Beginning, Plays};
 use crate::session_end::SessionEnd;
 use febe_data::List;
 use febe_feed::Feed;
-use green_io::{Disk, Sink, Source};
+use green_io::{Sink, Source};
 use green_session::{Put, Turns, put_bytes};
-use green_store::{Step, StepAnswer, Store};
 use std::alloc::Global;
 
 /// Once a session has given so many bytes, no more are read.
 pub const MOST_INPUT: u64 = 1_099_511_627_776;
 
+/// What a session came to.
+#[derive(Drop)]
+pub(crate) struct Served {
+    pub(crate) end: SessionEnd,
+    /// The number of entries after each reply, one point a reply.
+    pub(crate) points: List<u64>,
+    /// How many bytes the source gave.
+    pub(crate) bytes_read: u64,
+}
+
 /// Greets the session, and answers its requests as they come, up to a quit or what else ends it.
-fn converse<S: Source, K: Sink, D: Disk>(
+fn converse<P: Plays, S: Source, K: Sink>(
     alloc: Global,
-    store: &mut Store,
-    session: u64,
+    player: &P,
+    first: &mut P::First,
+    second: &mut P::Second,
     source: &mut S,
     sink: &mut K,
-    disk: &mut D,
-    feed: &mut Feed,
-    turns: &mut Turns,
-    points: &mut List<u64>,
-) -> SessionEnd
-    requires begun { HasBegun session (session_state store.old.history points.old.items feed.old turns.old (io_state (S.left source.old) (S.fault_count source.old) (K.taken sink.old) (K.fault_count sink.old) (D.fault_count disk.old))) }
-    ensures conversed { (exchanges : _) × IsConversed store.old.limits session
-        (session_state store.old.history points.old.items feed.old turns.old (io_state (S.left source.old) (S.fault_count source.old) (K.taken sink.old) (K.fault_count sink.old) (D.fault_count disk.old)))
-        (session_state store.new.history points.new.items feed.new turns.new (io_state (S.left source.new) (S.fault_count source.new) (K.taken sink.new) (K.fault_count sink.new) (D.fault_count disk.new))) exchanges result
-        × Endures store.old.limits session exchanges (D.state disk.old) store.old (D.fault_count disk.old) (D.state disk.new) store.new (D.fault_count disk.new) }
-    ensures limits { store.new.limits ≡ store.old.limits }
+    talk: &mut Talk,
+) -> Closing
+    requires ready { P.ready player.now first.old second.old }
+    requires begun { HasBegun (P.number first.old) (state_by P.seen P.faults S.left S.fault_count K.taken K.fault_count first.old second.old source.old sink.old talk.old) }
+    ensures ready { P.ready player.now first.new second.new }
+    ensures limits { P.limits first.new ≡ P.limits first.old }
+    ensures number { P.number first.new ≡ P.number first.old }
+    ensures conversed { let state = state_by P.seen P.faults S.left S.fault_count K.taken K.fault_count in
+        (exchanges : _) × IsConversed (P.limits first.old) (P.number first.old) (state first.old second.old source.old sink.old talk.old) (state first.new second.new source.new sink.new talk.new) exchanges result.end
+        × Chain P.tells P.tended first.old second.old exchanges first.new second.new }
+    ensures live { is_live (P.seen first.new second.new) (P.number first.new) ≡ result.live }
 {
     match put_bytes(sink, b"P0~") {
         Put::Done => {}
-        Put::WriteFault => return SessionEnd::WriteFault,
+        Put::WriteFault => return Closing {
+            end: SessionEnd::WriteFault,
+            live: true,
+        },
         Put::Memory => unreachable!(),
     }
     loop {
-        let end = answer_next(
-            alloc, store, session, source, sink, disk, feed, turns, points,
-        );
-        if let Some(end) = end {
-            return end;
+        let closing = answer_next(alloc, player, first, second, source, sink, talk);
+        if let Some(closing) = closing {
+            return closing;
         }
     }
 }
 
 /// Begins a session that has sent its greeting, and ends it whatever came of it.
-fn run_session<S: Source, K: Sink, D: Disk>(
+fn run_session<P: Plays, S: Source, K: Sink>(
     alloc: Global,
-    store: &mut Store,
+    player: &P,
+    first: &mut P::First,
+    second: &mut P::Second,
     source: &mut S,
     sink: &mut K,
-    disk: &mut D,
-    feed: &mut Feed,
-    turns: &mut Turns,
-    points: &mut List<u64>,
+    talk: &mut Talk,
 ) -> SessionEnd
-    requires placed { AllPlaced empty_world store.old.history }
-    requires no_points { points.old.items ≡ [] }
-    requires greeted { IsGreeted (session_state store.old.history points.old.items feed.old turns.old (io_state (S.left source.old) (S.fault_count source.old) (K.taken sink.old) (K.fault_count sink.old) (D.fault_count disk.old))) }
-    ensures session { (exchanges : _) × IsSession store.old.limits
-        (session_state store.old.history points.old.items feed.old turns.old (io_state (S.left source.old) (S.fault_count source.old) (K.taken sink.old) (K.fault_count sink.old) (D.fault_count disk.old)))
-        (session_state store.new.history points.new.items feed.new turns.new (io_state (S.left source.new) (S.fault_count source.new) (K.taken sink.new) (K.fault_count sink.new) (D.fault_count disk.new))) exchanges result
-        × Endures store.old.limits (greatest_session store.old.history + 1) exchanges (D.state disk.old) store.old (D.fault_count disk.old) (D.state disk.new) store.new (D.fault_count disk.new) }
+    requires ready { P.ready player.now first.old second.old }
+    requires unnumbered { P.number first.old ≡ 0 }
+    requires no_points { talk.old.points.items ≡ [] }
+    requires greeted { IsGreeted (state_by P.seen P.faults S.left S.fault_count K.taken K.fault_count first.old second.old source.old sink.old talk.old) }
+    ensures ready { P.ready player.now first.new second.new }
+    ensures session { let state = state_by P.seen P.faults S.left S.fault_count K.taken K.fault_count in
+        (exchanges : _) × IsSession (P.limits first.old) (P.number first.new) (state first.old second.old source.old sink.old talk.old) (state first.new second.new source.new sink.new talk.new) exchanges result
+        × HasSat P.seen P.number P.begun P.tells P.tended P.ended first.old second.old exchanges first.new second.new }
 {
-    let session = match store.step(alloc, disk, Step::Begin) {
-        StepAnswer::Begun { session } => session,
-        StepAnswer::NoNumber => return SessionEnd::NoNumber,
-        StepAnswer::Memory => return SessionEnd::Memory,
-        _ => unreachable!(),
-    };
-    let end = converse(
-        alloc, store, session, source, sink, disk, feed, turns, points,
-    );
-    // After a quit the session is not live, and nothing is left to be done.
-    let _ended = store.step(alloc, disk, Step::End { session });
+    match player.begin(alloc, first, second) {
+        Beginning::Begun => {}
+        Beginning::NoNumber => return SessionEnd::NoNumber,
+        Beginning::Memory => return SessionEnd::Memory,
+    }
+    let Closing { end, live } = converse(alloc, player, first, second, source, sink, talk);
+    // A quit has ended the session: nothing is left to be done.
+    let over = !live;
+    if over {
+        return end;
+    }
+    player.end(alloc, first, second);
     end
 }
 
-/// Serves one session over a store that has just opened.
-pub(crate) fn serve<S: Source, K: Sink, D: Disk>(
+/// Serves one session, which has no number yet.
+pub(crate) fn serve<P: Plays, S: Source, K: Sink>(
     alloc: Global,
-    store: &mut Store,
+    player: &P,
+    first: &mut P::First,
+    second: &mut P::Second,
     source: &mut S,
     sink: &mut K,
-    disk: &mut D,
-    report: &mut Report,
-) -> SessionEnd
-    requires placed { AllPlaced empty_world store.old.history }
-    requires no_points { report.old.points.items ≡ [] }
-    ensures run { (exchanges : _) × IsRun store.old.limits store.old.history
-        (io_state (S.left source.old) (S.fault_count source.old) (K.taken sink.old) (K.fault_count sink.old) (D.fault_count disk.old))
-        (io_state (S.left source.new) (S.fault_count source.new) (K.taken sink.new) (K.fault_count sink.new) (D.fault_count disk.new))
-        store.new.history exchanges report.new.points.items report.new.bytes_read result
-        × Endures store.old.limits (greatest_session store.old.history + 1) exchanges (D.state disk.old) store.old (D.fault_count disk.old) (D.state disk.new) store.new (D.fault_count disk.new) }
+) -> Served
+    requires ready { P.ready player.now first.old second.old }
+    requires unnumbered { P.number first.old ≡ 0 }
+    ensures ready { P.ready player.now first.new second.new }
+    ensures run { let io = io_by S.left S.fault_count K.taken K.fault_count in
+        (exchanges : _) × IsRun (P.limits first.old) (P.number first.new) (io source.old sink.old (P.faults first.old second.old)) (io source.new sink.new (P.faults first.new second.new)) (P.seen first.new second.new) exchanges result.points.items result.bytes_read result.end
+        × HasServed P.seen P.number P.begun P.tells P.tended P.ended first.old second.old exchanges first.new second.new }
 {
     let mut feed = Feed::new(alloc);
     let mut turns = Turns::new(MOST_INPUT);
+    let points = List::new(alloc);
     match take_next(alloc, source, &mut feed, &mut turns) {
         Ok(None) => {}
         Ok(Some(_)) => unreachable!(),
         Err(end) => {
-            report.bytes_read = turns.taken();
-            return end;
+            let bytes_read = turns.taken();
+            return Served {
+                end,
+                points,
+                bytes_read,
+            };
         }
     }
-    let points = &mut report.points;
-    let end = run_session(
-        alloc, store, source, sink, disk, &mut feed, &mut turns, points,
-    );
-    report.bytes_read = turns.taken();
-    end
+    let mut talk = Talk {
+        feed,
+        turns,
+        points,
+    };
+    let end = run_session(alloc, player, first, second, source, sink, &mut talk);
+    let Talk {
+        feed: _feed,
+        turns,
+        points,
+    } = talk;
+    let bytes_read = turns.taken();
+    Served {
+        end,
+        points,
+        bytes_read,
+    }
 }

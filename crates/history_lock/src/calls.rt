@@ -45,19 +45,25 @@ impl<T: Kept> HistoryLock<T> {
     }
 
     /// Waits until it has the lock, and makes a play for the pass's number.
-    pub fn act<R: Wait>(&self, rt: &R, pass: &mut Pass<T>, job: T::Job) -> Acted<T::Answer>
+    pub fn act<R: Wait>(
+        &self,
+        rt: &R,
+        alloc: Global,
+        pass: &mut Pass<T>,
+        job: T::Job,
+    ) -> Acted<T::Answer>
         requires { IsPassOf self.now pass.old }
         ensures same_lock { IsPassOf self.now pass.new }
         ensures acted { (n : ℕ) × HasActed T.owner T.plays (known pass.old) job result.answer result.point (replicate n 1 ++ 0 ∷ []) (known pass.new) }
     {
         self.wait_for_lock(rt, &mut pass.seat);
-        let (acted, number) = self.finish(&mut pass.seat, pass.number, job);
+        let (acted, number) = self.finish(alloc, &mut pass.seat, pass.number, job);
         pass.number = number;
         acted
     }
 
     /// The same, unless its one exchange finds the lock held: then the job comes back. It does not wait.
-    pub fn try_act(&self, pass: &mut Pass<T>, job: T::Job) -> Tried<T>
+    pub fn try_act(&self, alloc: Global, pass: &mut Pass<T>, job: T::Job) -> Tried<T>
         requires { IsPassOf self.now pass.old }
         ensures same_lock { IsPassOf self.now pass.new }
         ensures tried { MatchTried result (λ acted. HasActed T.owner T.plays (known pass.old) job acted.answer acted.point (0 ∷ []) (known pass.new)) (λ back. (back ≡ job) × (known pass.new ≡ finding (known pass.old) (1 ∷ []))) }
@@ -65,7 +71,7 @@ impl<T: Kept> HistoryLock<T> {
         if !self.try_lock(&mut pass.seat) {
             return Trial::Busy(job);
         }
-        let (acted, number) = self.finish(&mut pass.seat, pass.number, job);
+        let (acted, number) = self.finish(alloc, &mut pass.seat, pass.number, job);
         pass.number = number;
         Trial::Done(acted)
     }

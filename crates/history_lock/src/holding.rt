@@ -9,6 +9,7 @@ use crate::steps::{Acquire, CloseOff, Fork, Free, Look, Recount, TakeIn};
 use crate::tried::Acted;
 use crate::view::View;
 use atomic_table::Seat;
+use std::alloc::Global;
 use std::sync::Wait;
 
 const FREE: u64 = 0;
@@ -57,6 +58,7 @@ impl<T: Kept> HistoryLock<T> {
     // Makes a play, puts the value back, stores the length of its history, and frees the lock. The number after the play is answered beside.
     pub(crate) fn finish(
         &self,
+        alloc: Global,
         seat: &mut Seat<Option<T>, View<T::Entry>>,
         number: u64,
         job: T::Job,
@@ -70,7 +72,7 @@ impl<T: Kept> HistoryLock<T> {
     {
         let shared = &self.table.shared;
         let mut kept = shared.exchange(seat, SLOT, None).unwrap();
-        let Played { answer, number } = kept.play(number, job);
+        let Played { answer, number } = kept.play(alloc, number, job);
         let point = kept.count();
         let empty = shared.exchange(seat, SLOT, Some(kept));
         let None = empty else { unreachable!() };

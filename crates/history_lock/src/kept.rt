@@ -2,6 +2,8 @@
 ghost use Rattle.std.specs.Prelude.{◌≡◌, ◌^◌, ◌<◌, ℕ, List, length};
 ghost use Rattle.history_lock.specs.Histories.{Grows};
 
+use std::alloc::Global;
+
 /// What came of a play: its answer, and the number after it.
 #[derive(Drop)]
 pub struct Played<A> {
@@ -37,7 +39,7 @@ pub trait Kept {
         ensures { (result ≡ length (history self.now)) × (result < 2 ^ 63) };
 
     /// Does the job for this number. One entry comes to the history at most.
-    fn play(&mut self, number: u64, job: Self::Job) -> Played<Self::Answer>
+    fn play(&mut self, alloc: Global, number: u64, job: Self::Job) -> Played<Self::Answer>
         ensures fixed { fixed self.new ≡ fixed self.old }
         ensures grows { Grows owner number (history self.old) result.number (history self.new) }
         ensures plays { plays (fixed self.old) (history self.old) number job result.answer result.number (history self.new) (marks self.old) (marks self.new) };

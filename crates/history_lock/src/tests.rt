@@ -18,11 +18,17 @@ use std::thread::{Threads, join};
 use sums::Sums;
 
 // An answer and its point.
-fn act<R: Wait>(rt: &R, lock: &HistoryLock<Sums>, pass: &mut Pass<Sums>, job: u64) -> (u64, u64)
+fn act<R: Wait>(
+    rt: &R,
+    alloc: Global,
+    lock: &HistoryLock<Sums>,
+    pass: &mut Pass<Sums>,
+    job: u64,
+) -> (u64, u64)
     requires { IsPassOf lock.now pass.old }
     ensures { IsPassOf lock.now pass.new }
 {
-    let acted = lock.act(rt, pass, job);
+    let acted = lock.act(rt, alloc, pass, job);
     (acted.answer, acted.point)
 }
 
@@ -32,8 +38,8 @@ fn answers_come_with_their_points(rt: HostRuntime) -> Result<(), Fail> {
         panic!(rt; "there is memory for a lock")
     };
     assert_eq!(rt; (pass.number(), lock.front(&mut pass)), (0, 0));
-    assert_eq!(rt; act(&rt, &lock, &mut pass, 5), (5, 1));
-    assert_eq!(rt; act(&rt, &lock, &mut pass, 7), (12, 2));
+    assert_eq!(rt; act(&rt, rt.alloc(), &lock, &mut pass, 5), (5, 1));
+    assert_eq!(rt; act(&rt, rt.alloc(), &lock, &mut pass, 7), (12, 2));
     assert_eq!(rt; (pass.number(), lock.front(&mut pass)), (1, 2));
     let Ok(sums) = lock.into_inner(pass) else {
         panic!(rt; "nobody holds the lock")
@@ -49,10 +55,10 @@ fn a_pass_from_a_pass_ends_into_another(rt: HostRuntime) -> Result<(), Fail> {
     };
     let mut second = lock.new_pass(&mut first);
     let mut third = lock.new_pass(&mut second);
-    assert_eq!(rt; act(&rt, &lock, &mut third, 5), (5, 1));
+    assert_eq!(rt; act(&rt, rt.alloc(), &lock, &mut third, 5), (5, 1));
     assert_eq!(rt; (third.number(), second.number()), (1, 0));
     lock.end_pass(&mut first, third);
-    let Trial::Done(acted) = lock.try_act(&mut second, 7) else {
+    let Trial::Done(acted) = lock.try_act(rt.alloc(), &mut second, 7) else {
         panic!(rt; "nobody holds the lock")
     };
     assert_eq!(rt; (acted.answer, acted.point), (12, 2));
@@ -66,15 +72,21 @@ fn a_pass_from_a_pass_ends_into_another(rt: HostRuntime) -> Result<(), Fail> {
 }
 
 // Holds the lock until the gate opens.
-fn wait_at_gate<R: Wait>(rt: &R, lock: &HistoryLock<Gated>, mut pass: Pass<Gated>) -> u64
+fn wait_at_gate<R: Wait>(
+    rt: &R,
+    alloc: Global,
+    lock: &HistoryLock<Gated>,
+    mut pass: Pass<Gated>,
+) -> u64
     requires { IsPassOf lock.now pass }
 {
-    lock.act(rt, &mut pass, 3).answer
+    lock.act(rt, alloc, &mut pass, 3).answer
 }
 
 // Waits until the play is made, tries another, and opens the gate. True if it was busy, and the job came back.
 fn is_busy<R: Wait>(
     rt: &R,
+    alloc: Global,
     lock: &HistoryLock<Gated>,
     mut pass: Pass<Gated>,
     entered: &AtomicU64,
@@ -87,7 +99,7 @@ fn is_busy<R: Wait>(
             break;
         }
     }
-    let busy = match lock.try_act(&mut pass, 9) {
+    let busy = match lock.try_act(alloc, &mut pass, 9) {
         Trial::Busy(job) => job == 9,
         Trial::Done(_) => false,
     };
@@ -115,10 +127,10 @@ fn held_and_tried<R: Threads + Wait + Sync>(
         rt,
         || -> u64
             requires { IsSync R.row × IsPassOf shared.now first }
-        { wait_at_gate(rt, shared, first) },
+        { wait_at_gate(rt, alloc, shared, first) },
         || -> bool
             requires { IsSync R.row × IsPassOf shared.now second }
-        { is_busy(rt, shared, second, entered, gate) },
+        { is_busy(rt, alloc, shared, second, entered, gate) },
     )))
 }
 
@@ -129,18 +141,24 @@ fn a_try_is_busy_while_another_thread_plays(rt: HostRuntime) -> Result<(), Fail>
 }
 
 // Adds 1, a hundred times.
-fn hundred<R: Wait>(rt: &R, lock: &HistoryLock<Sums>, mut pass: Pass<Sums>) -> Pass<Sums>
+fn hundred<R: Wait>(
+    rt: &R,
+    alloc: Global,
+    lock: &HistoryLock<Sums>,
+    mut pass: Pass<Sums>,
+) -> Pass<Sums>
     requires { IsPassOf lock.now pass }
     ensures { IsPassOf lock.now result }
 {
     for _ in 0..100 {
-        lock.act(rt, &mut pass, 1);
+        lock.act(rt, alloc, &mut pass, 1);
     }
     pass
 }
 
 fn two_hundred<R: Threads + Wait + Sync>(
     rt: &R,
+    alloc: Global,
     lock: &HistoryLock<Sums>,
     first: Pass<Sums>,
     second: Pass<Sums>,
@@ -153,11 +171,11 @@ fn two_hundred<R: Threads + Wait + Sync>(
         || -> Pass<Sums>
             requires { IsSync R.row × IsPassOf lock.now first }
             ensures { IsPassOf lock.entry.now result }
-        { hundred(rt, lock, first) },
+        { hundred(rt, alloc, lock, first) },
         || -> Pass<Sums>
             requires { IsSync R.row × IsPassOf lock.now second }
             ensures { IsPassOf lock.entry.now result }
-        { hundred(rt, lock, second) },
+        { hundred(rt, alloc, lock, second) },
     )
 }
 
@@ -172,11 +190,11 @@ fn four_hundred<R: Threads + Wait + Sync>(rt: &R, alloc: Global) -> Option<Sums>
         || -> (Pass<Sums>, Pass<Sums>)
             requires { IsSync R.row × IsPassOf shared.now first × IsPassOf shared.now second }
             ensures { IsPassOf shared.entry.now result.0 × IsPassOf shared.entry.now result.1 }
-        { two_hundred(rt, shared, first, second) },
+        { two_hundred(rt, alloc, shared, first, second) },
         || -> (Pass<Sums>, Pass<Sums>)
             requires { IsSync R.row × IsPassOf shared.now third × IsPassOf shared.now fourth }
             ensures { IsPassOf shared.entry.now result.0 × IsPassOf shared.entry.now result.1 }
-        { two_hundred(rt, shared, third, fourth) },
+        { two_hundred(rt, alloc, shared, third, fourth) },
     );
     lock.end_pass(&mut first, second);
     lock.end_pass(&mut first, third);

@@ -1,5 +1,5 @@
 -- What a world's condition says of each of its trees.
-use Rattle.std.proofs.Common.{◌≡◌, ℕ, ◌<◌, ◌||◌, not, Bool, true, false, List, [], ◌∷◌, length, refl, sym, true≢false}
+use Rattle.std.proofs.Common.{◌≡◌, ℕ, ◌+◌, ◌<◌, ◌||◌, Bool, true, false, List, [], ◌∷◌, length, refl, true≢false, arith}
 use Rattle.std.specs.Prelude.{All}
 use Rattle.std.proofs.lemmas.Bool.{or_parts}
 use Rattle.std.proofs.lemmas.List.Elements.{All-nil, All-cons, All-head, All-tail}
@@ -7,8 +7,8 @@ use Rattle.enfilade_core.specs.declared.tree.Node.{Node}
 use Rattle.enfilade_core.specs.Rows.{Shape}
 use Rattle.enfilade_core.specs.Planes.{content_widths, text_widths, key_widths}
 use Rattle.enfilade_core.specs.Standing.{tree_allows}
-use Rattle.enfilade_sweep.specs.Sweep.{are_held}
-use Rattle.enfilade_sweep.specs.Laws.{HeldAreReached}
+use Rattle.enfilade_sweep.specs.Sweep.{unreached_count}
+use Rattle.enfilade_sweep.proofs.Counted.{none_left}
 use Rattle.enfilade_balance.specs.Laws.{SettledTreesAreFull}
 use Rattle.poom.specs.Laid.{IsRoot}
 use Rattle.doc_table.specs.declared.rows.DocumentRow.{DocumentRow}
@@ -17,24 +17,7 @@ use Rattle.tree_world.specs.Condition.{roots_in, documents_allow}
 use Rattle.tree_world.specs.Laws.{NodesAreReached, TreesAreFull, IsFull}
 use Rattle.tree_world.proofs.Roots.{RootsStand}
 
--- ---- six tests at once
-
-record AllTrue (a b c d e f : Bool) : Type 0 where
-  first : a ≡ true
-  second : b ≡ true
-  third : c ≡ true
-  fourth : d ≡ true
-  fifth : e ≡ true
-  sixth : f ≡ true
-
-none_not : (a b c d e f : Bool) → not (not a || not b || not c || not d || not e || not f) ≡ true → AllTrue a b c d e f
-none_not true true true true true true h = record { first = refl; second = refl; third = refl; fourth = refl; fifth = refl; sixth = refl }
-none_not false b c d e f h = absurd (true≢false (sym h))
-none_not true false c d e f h = absurd (true≢false (sym h))
-none_not true true false d e f h = absurd (true≢false (sym h))
-none_not true true true false e f h = absurd (true≢false (sym h))
-none_not true true true true false f h = absurd (true≢false (sym h))
-none_not true true true true true false h = absurd (true≢false (sym h))
+-- ---- six tests at once, and six counts
 
 record AllFalse (a b c d e f : Bool) : Type 0 where
   first : a ≡ false
@@ -53,23 +36,32 @@ no_one false false false true e f h = absurd (true≢false h)
 no_one false false false false true f h = absurd (true≢false h)
 no_one false false false false false true h = absurd (true≢false h)
 
+record AllZero (a b c d e f : ℕ) : Type 0 where
+  first : a ≡ 0
+  second : b ≡ 0
+  third : c ≡ 0
+  fourth : d ≡ 0
+  fifth : e ≡ 0
+  sixth : f ≡ 0
+
+none_over : (a b c d e f : ℕ) → a + b + c + d + e + f ≡ 0 → AllZero a b c d e f
+none_over a b c d e f h = record { first = omega (arith, h); second = omega (arith, h); third = omega (arith, h); fourth = omega (arith, h); fifth = omega (arith, h); sixth = omega (arith, h) }
+
 -- ---- nodes that are reached
 
-module _ (trees : Trees) (contents : HeldAreReached trees.contents.nodes) (index : HeldAreReached trees.index.nodes) (from : HeldAreReached trees.links.from.nodes) (to : HeldAreReached trees.links.to.nodes) (three : HeldAreReached trees.links.three.nodes)
-    (documents : HeldAreReached trees.nodes) where
-  pub nodes_are_reached : NodesAreReached trees
-  nodes_are_reached said =
-      let held =
-      none_not (are_held trees.contents.nodes (trees.contents.root ∷ [])) (are_held trees.index.nodes (trees.index.root.0 ∷ [])) (are_held trees.links.from.nodes (trees.links.from.root.0 ∷ []))
-      (are_held trees.links.to.nodes (trees.links.to.root.0 ∷ [])) (are_held trees.links.three.nodes (trees.links.three.root.0 ∷ [])) (are_held trees.nodes (roots_in trees.documents)) said in
-      record {
-        contents = contents (trees.contents.root ∷ []) held.first;
-        index = index (trees.index.root.0 ∷ []) held.second;
-        from = from (trees.links.from.root.0 ∷ []) held.third;
-        to = to (trees.links.to.root.0 ∷ []) held.fourth;
-        three = three (trees.links.three.root.0 ∷ []) held.fifth;
-        documents = documents (roots_in trees.documents) held.sixth;
-      }
+pub nodes_are_reached : (trees : Trees) → NodesAreReached trees
+nodes_are_reached trees said =
+    let none =
+    none_over (unreached_count trees.contents.nodes (trees.contents.root ∷ [])) (unreached_count trees.index.nodes (trees.index.root.0 ∷ [])) (unreached_count trees.links.from.nodes (trees.links.from.root.0 ∷ []))
+    (unreached_count trees.links.to.nodes (trees.links.to.root.0 ∷ [])) (unreached_count trees.links.three.nodes (trees.links.three.root.0 ∷ [])) (unreached_count trees.nodes (roots_in trees.documents)) said in
+    record {
+      contents = none_left trees.contents.nodes (trees.contents.root ∷ []) none.first;
+      index = none_left trees.index.nodes (trees.index.root.0 ∷ []) none.second;
+      from = none_left trees.links.from.nodes (trees.links.from.root.0 ∷ []) none.third;
+      to = none_left trees.links.to.nodes (trees.links.to.root.0 ∷ []) none.fourth;
+      three = none_left trees.links.three.nodes (trees.links.three.root.0 ∷ []) none.fifth;
+      documents = none_left trees.nodes (roots_in trees.documents) none.sixth;
+    }
 
 -- ---- trees in which no step is allowed
 

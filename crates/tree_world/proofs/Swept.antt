@@ -1,5 +1,5 @@
 -- What trees hold after each was copied into an arena of its own.
-use Rattle.std.proofs.Common.{◌≡◌, ◌∙◌, ℕ, zero, suc, ◌+◌, ◌<◌, ◌||◌, not, Bool, true, false, cond, List, [], ◌∷◌, ◌++◌, length, take, map, get_or, slice_get, max, fold, Option, Some, None, refl, sym, ap, subst, true≢false, arith}
+use Rattle.std.proofs.Common.{◌≡◌, ◌∙◌, ℕ, zero, suc, ◌+◌, ◌<◌, ◌||◌, Bool, true, false, cond, List, [], ◌∷◌, ◌++◌, length, take, map, get_or, slice_get, max, fold, Option, Some, None, refl, sym, ap, subst, true≢false, arith}
 use Rattle.std.specs.Prelude.{All}
 use Rattle.std.specs.List.{find, list_any, Contains}
 use Rattle.std.specs.Option.{option_map, unwrap_or}
@@ -12,7 +12,7 @@ use Rattle.enfilade_core.specs.Rows.{Shape, rows_of}
 use Rattle.enfilade_core.specs.Planes.{text_widths, key_widths}
 use Rattle.enfilade_core.specs.Standing.{tree_debt, tree_allows}
 use Rattle.enfilade_core.specs.Summary.{depth_of}
-use Rattle.enfilade_sweep.specs.Sweep.{is_root, IsSwept, numbers, are_held}
+use Rattle.enfilade_sweep.specs.Sweep.{is_root, IsSwept, numbers, reached_count, unreached_count}
 use Rattle.granfilade.specs.Content.{ContentTree}
 use Rattle.spanfilade.specs.Index.{IndexTree, rows_in_index}
 use Rattle.links.specs.LinkLists.{LinkLists}
@@ -23,7 +23,7 @@ use Rattle.doc_table.specs.DocumentRows.{is_of, documents_in, content_in, root_i
 use Rattle.world_rules.specs.FlatView.{FlatView}
 use Rattle.tree_world.specs.Trees.{Trees, AreSound, text_at, links_at}
 use Rattle.tree_world.specs.Standing.{Stands}
-use Rattle.tree_world.specs.Condition.{roots_in, reached_of, documents_debt, documents_allow, documents_depth, Condition, condition_of, StaysInShape}
+use Rattle.tree_world.specs.Condition.{roots_in, nodes_of, reached_of, unreached_of, documents_debt, documents_allow, documents_depth, Condition, condition_of, StaysInShape}
 use Rattle.tree_world.specs.inside.SameRows.{SameRows}
 use Rattle.tree_world.specs.inside.Swept.{IsSweptContent, IsSweptIndex, AreSweptDocuments}
 use Rattle.tree_world.proofs.SameRows.{stands_over, sound_over}
@@ -128,8 +128,8 @@ same_roots old new (row ∷ rows) (m ∷ made) same stand below =
 -- the same, as `swept_pooms` has it
 pub copied_documents : (old arena new poom : List (Shape ℕ)) (rows : List (DocumentRow Node)) (roots made : List Node) → arena ≡ old → poom ≡ new → roots ≡ roots_taken rows → map (rows_of new) (numbers made) ≡ map (rows_of arena) (numbers roots)
     → map (tree_debt new) (numbers made) ≡ map (tree_debt arena) (numbers roots) → map (tree_allows new) (numbers made) ≡ map (tree_allows arena) (numbers roots)
-    → map (depth_of text_widths new) (numbers made) ≡ map (depth_of text_widths arena) (numbers roots) → IsSwept arena (numbers roots) new (numbers made) → are_held new (numbers made) ≡ true → RootsStand old rows → AreSweptDocuments old rows poom made
-copied_documents old arena new poom rows roots made lent installed are same owes allows deep swept held stand =
+    → map (depth_of text_widths new) (numbers made) ≡ map (depth_of text_widths arena) (numbers roots) → IsSwept arena (numbers roots) new (numbers made) → length new ≡ reached_count arena (numbers roots) → unreached_count new (numbers made) ≡ 0 → RootsStand old rows → AreSweptDocuments old rows poom made
+copied_documents old arena new poom rows roots made lent installed are same owes allows deep swept count none_left stand =
     let each : SameEach old poom rows made = ap (λ ns. map (rows_of ns) (numbers made)) installed ∙ same ∙ (λ i. map (rows_of (lent i)) ((ap numbers are ∙ numbers_taken rows) i)) in
     record {
       long = same_long old poom rows made each;
@@ -138,7 +138,8 @@ copied_documents old arena new poom rows roots made lent installed are same owes
       owed = ap (λ ns. map (tree_debt ns) (numbers made)) installed ∙ owes ∙ (λ i. map (tree_debt (lent i)) ((ap numbers are ∙ numbers_taken rows) i));
       deep = ap (λ ns. map (depth_of text_widths ns) (numbers made)) installed ∙ deep ∙ (λ i. map (depth_of text_widths (lent i)) ((ap numbers are ∙ numbers_taken rows) i));
       allowed = ap (λ ns. map (tree_allows ns) (numbers made)) installed ∙ allows ∙ (λ i. map (tree_allows (lent i)) ((ap numbers are ∙ numbers_taken rows) i));
-      held = ap (λ ns. are_held ns (numbers made)) installed ∙ held;
+      count = ap length installed ∙ count ∙ (λ i. reached_count (lent i) ((ap numbers are ∙ numbers_taken rows) i));
+      none_left = ap (λ ns. unreached_count ns (numbers made)) installed ∙ none_left;
     }
 
 -- ---- the table with the new roots
@@ -196,10 +197,13 @@ allows_are : (nodes : List (Shape ℕ)) (rows : List (DocumentRow Node)) → doc
 allows_are nodes [] = refl
 allows_are nodes (row ∷ rows) = ap (λ (b : Bool). tree_allows nodes row.root.0 || b) (allows_are nodes rows)
 
--- ---- all trees
+-- ---- all trees: before a call as its parts, or as one
 
 pub shape_from : (before old : Trees) (after : Condition) → before ≡ old → StaysInShape (condition_of before) after → StaysInShape (condition_of old) after
 shape_from before old after is shape = subst (λ (t : Trees). StaysInShape (condition_of t) after) is shape
+
+pub count_from : (before old : Trees) (now : ℕ) → before ≡ old → now ≡ (condition_of before).reached → now ≡ (condition_of old).reached
+count_from before old now is count = subst (λ (t : Trees). now ≡ (condition_of t).reached) is count
 
 -- as `set_roots` has it
 pub rooted_as : (rows : List (DocumentRow Node)) (made slice : List Node) (now : List (DocumentRow Node)) → now ≡ with_roots slice rows → slice ≡ made → now ≡ with_roots made rows
@@ -235,22 +239,28 @@ module _ (before : Trees) (contents : ContentTree) (index from to three : IndexT
       sound_over before (record before { contents = contents; index = index; nodes = nodes; documents = documents; links = links }) swept_same
       (due_swept before.nodes nodes before.documents documents made before.due now by_documents.allowed sound.4) sound
 
-  pub swept_reached : reached_of (record before { contents = contents; index = index; nodes = nodes; documents = documents; links = links }) ≡ true
-  swept_reached =
-      all_true by_contents.held by_index.held (ap (λ (lists : LinkLists). are_held lists.from.nodes (lists.from.root.0 ∷ [])) linked ∙ by_from.held) (ap (λ (lists : LinkLists). are_held lists.to.nodes (lists.to.root.0 ∷ [])) linked ∙ by_to.held)
-      (ap (λ (lists : LinkLists). are_held lists.three.nodes (lists.three.root.0 ∷ [])) linked ∙ by_three.held) (ap (are_held nodes) (ap roots_in now ∙ rooted_numbers before.documents made by_documents.long) ∙ by_documents.held)
-    where
-      all_true : {a b c d e f : Bool} → a ≡ true → b ≡ true → c ≡ true → d ≡ true → e ≡ true → f ≡ true → not (not a || not b || not c || not d || not e || not f) ≡ true
-      all_true ea eb ec ed ee ef = λ i. not (not (ea i) || not (eb i) || not (ec i) || not (ed i) || not (ee i) || not (ef i))
+  now_roots : roots_in documents ≡ numbers made
+  now_roots = ap roots_in now ∙ rooted_numbers before.documents made by_documents.long
+
+  pub swept_count : nodes_of (record before { contents = contents; index = index; nodes = nodes; documents = documents; links = links }) ≡ reached_of before
+  swept_count =
+      λ i. by_contents.count i + by_index.count i + (ap (λ (lists : LinkLists). length lists.from.nodes) linked ∙ by_from.count) i
+      + (ap (λ (lists : LinkLists). length lists.to.nodes) linked ∙ by_to.count) i + (ap (λ (lists : LinkLists). length lists.three.nodes) linked ∙ by_three.count) i + by_documents.count i
+
+  pub swept_none_left : unreached_of (record before { contents = contents; index = index; nodes = nodes; documents = documents; links = links }) ≡ 0
+  swept_none_left =
+      λ i. by_contents.none_left i + by_index.none_left i + (ap (λ (lists : LinkLists). unreached_count lists.from.nodes (lists.from.root.0 ∷ [])) linked ∙ by_from.none_left) i
+      + (ap (λ (lists : LinkLists). unreached_count lists.to.nodes (lists.to.root.0 ∷ [])) linked ∙ by_to.none_left) i
+      + (ap (λ (lists : LinkLists). unreached_count lists.three.nodes (lists.three.root.0 ∷ [])) linked ∙ by_three.none_left) i
+      + (ap (unreached_count nodes) now_roots ∙ by_documents.none_left) i
 
   pub swept_shape : StaysInShape (condition_of before) (condition_of (record before { contents = contents; index = index; nodes = nodes; documents = documents; links = links }))
   swept_shape =
-      let roots : roots_in documents ≡ numbers made = ap roots_in now ∙ rooted_numbers before.documents made by_documents.long in
-      let debts : documents_debt nodes documents ≡ documents_debt before.nodes before.documents = debts_are nodes documents ∙ ap (λ ks. fold (λ (a n : ℕ). a + n) 0 (map (tree_debt nodes) ks)) roots
+      let debts : documents_debt nodes documents ≡ documents_debt before.nodes before.documents = debts_are nodes documents ∙ ap (λ ks. fold (λ (a n : ℕ). a + n) 0 (map (tree_debt nodes) ks)) now_roots
       ∙ ap (fold (λ (a n : ℕ). a + n) 0) by_documents.owed ∙ sym (debts_are before.nodes before.documents) in
-      let allow : documents_allow nodes documents ≡ documents_allow before.nodes before.documents = allows_are nodes documents ∙ ap (λ ks. list_any (λ (b : Bool). b) (map (tree_allows nodes) ks)) roots
+      let allow : documents_allow nodes documents ≡ documents_allow before.nodes before.documents = allows_are nodes documents ∙ ap (λ ks. list_any (λ (b : Bool). b) (map (tree_allows nodes) ks)) now_roots
       ∙ ap (list_any (λ (b : Bool). b)) by_documents.allowed ∙ sym (allows_are before.nodes before.documents) in
-      let depth : documents_depth nodes documents ≡ documents_depth before.nodes before.documents = depths_are nodes documents ∙ ap (λ ks. fold max 0 (map (depth_of text_widths nodes) ks)) roots
+      let depth : documents_depth nodes documents ≡ documents_depth before.nodes before.documents = depths_are nodes documents ∙ ap (λ ks. fold max 0 (map (depth_of text_widths nodes) ks)) now_roots
       ∙ ap (fold max 0) by_documents.deep ∙ sym (depths_are before.nodes before.documents) in
       record {
         debt = λ i. by_contents.debt i + by_index.debt i + (ap (λ (lists : LinkLists). tree_debt lists.from.nodes lists.from.root.0) linked ∙ by_from.debt) i

@@ -1,24 +1,25 @@
 -- The condition of a world's trees: what they owe for their shape, how deep they are, and which nodes are there.
-use Rattle.std.specs.Prelude.{◌≡◌, ℕ, ◌+◌, ◌||◌, not, min, max, Bool, List, [], ◌∷◌, length, map, sum_by, fold}
+use Rattle.std.specs.Prelude.{◌≡◌, ℕ, ◌+◌, ◌||◌, min, max, Bool, List, [], ◌∷◌, length, map, sum_by, fold}
 use Rattle.std.specs.List.{list_any}
 use Rattle.enfilade_core.specs.declared.tree.Node.{Node}
 use Rattle.enfilade_core.specs.Rows.{Shape}
 use Rattle.enfilade_core.specs.Planes.{content_widths, text_widths, key_widths}
 use Rattle.enfilade_core.specs.Standing.{tree_debt, tree_allows}
 use Rattle.enfilade_core.specs.Summary.{depth_of, most_count}
-use Rattle.enfilade_sweep.specs.Sweep.{are_held}
+use Rattle.enfilade_sweep.specs.Sweep.{reached_count, unreached_count}
 use Rattle.doc_table.specs.declared.rows.DocumentRow.{DocumentRow}
 use Rattle.tree_world.specs.Trees.{Trees}
 
 -- what contracts see of trees, beside what they stand for: what all of them owe together; whether one of them allows a
--- step of the balancer; the depth of the deepest; how many nodes their arenas hold, up to the most that a count keeps;
--- and whether each of these nodes is reached from a tree's root
+-- step of the balancer; the depth of the deepest; how many nodes their arenas hold, and how many of these the trees' roots
+-- reach, each up to the most that a count keeps; and how many no root reaches
 pub record Condition : Type 0 where
   pub debt : ℕ
   pub allows : Bool
   pub depth : ℕ
   pub nodes : ℕ
-  pub reached : Bool
+  pub reached : ℕ
+  pub unreached : ℕ
 
 -- trees owe what they owed together, one allows a step where one did, and the deepest is as deep
 pub record StaysInShape (old new : Condition) : Type 0 where
@@ -66,11 +67,19 @@ nodes_of trees =
     length trees.contents.nodes + length trees.index.nodes + length trees.links.from.nodes + length trees.links.to.nodes
     + length trees.links.three.nodes + length trees.nodes
 
-abbrev pub reached_of : Trees → Bool
+-- how many nodes are reached in their arenas from the roots of the trees that stand there, each once however many trees
+-- share it, and how many are not
+abbrev pub reached_of : Trees → ℕ
 reached_of trees =
-    not (not (are_held trees.contents.nodes (trees.contents.root ∷ [])) || not (are_held trees.index.nodes (trees.index.root.0 ∷ []))
-    || not (are_held trees.links.from.nodes (trees.links.from.root.0 ∷ [])) || not (are_held trees.links.to.nodes (trees.links.to.root.0 ∷ []))
-    || not (are_held trees.links.three.nodes (trees.links.three.root.0 ∷ [])) || not (are_held trees.nodes (roots_in trees.documents)))
+    reached_count trees.contents.nodes (trees.contents.root ∷ []) + reached_count trees.index.nodes (trees.index.root.0 ∷ [])
+    + reached_count trees.links.from.nodes (trees.links.from.root.0 ∷ []) + reached_count trees.links.to.nodes (trees.links.to.root.0 ∷ [])
+    + reached_count trees.links.three.nodes (trees.links.three.root.0 ∷ []) + reached_count trees.nodes (roots_in trees.documents)
+
+abbrev pub unreached_of : Trees → ℕ
+unreached_of trees =
+    unreached_count trees.contents.nodes (trees.contents.root ∷ []) + unreached_count trees.index.nodes (trees.index.root.0 ∷ [])
+    + unreached_count trees.links.from.nodes (trees.links.from.root.0 ∷ []) + unreached_count trees.links.to.nodes (trees.links.to.root.0 ∷ [])
+    + unreached_count trees.links.three.nodes (trees.links.three.root.0 ∷ []) + unreached_count trees.nodes (roots_in trees.documents)
 
 abbrev pub condition_of : Trees → Condition
 condition_of trees = record {
@@ -78,5 +87,6 @@ condition_of trees = record {
   allows = allows_of trees;
   depth = depth_in trees;
   nodes = min (nodes_of trees) most_count;
-  reached = reached_of trees;
+  reached = min (reached_of trees) most_count;
+  unreached = unreached_of trees;
 }

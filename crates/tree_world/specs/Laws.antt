@@ -1,5 +1,5 @@
 -- Laws of the condition of a world's trees.
-use Rattle.std.specs.Prelude.{◌≡◌, ℕ, ◌^◌, ◌≤◌, true, false, List, [], ◌∷◌, length, All}
+use Rattle.std.specs.Prelude.{◌≡◌, ℕ, ◌^◌, ◌≤◌, false, List, [], ◌∷◌, length, All}
 use Rattle.enfilade_core.specs.declared.tree.Node.{Node}
 use Rattle.enfilade_core.specs.Rows.{Shape, rows_of}
 use Rattle.enfilade_core.specs.Axes.{Widths}
@@ -19,9 +19,9 @@ pub record EachReached (trees : Trees) : Type 0 where
   pub three : AllReached trees.links.three.nodes (trees.links.three.root.0 ∷ [])
   pub documents : AllReached trees.nodes (roots_in trees.documents)
 
--- each node is reached where the condition says so
+-- each node is reached where the condition counts none that is not
 abbrev pub NodesAreReached : Trees → Type 0
-NodesAreReached trees = (condition_of trees).reached ≡ true → EachReached trees
+NodesAreReached trees = (condition_of trees).unreached ≡ 0 → EachReached trees
 
 -- a tree of two levels or more has many leaves: twice as many for each level
 abbrev pub IsFull : {L : Type 0} → Widths L → List (Shape L) → ℕ → Type 0

@@ -1,9 +1,9 @@
 //! Nodes that no root reaches are let go: trees are copied into arenas of their own, which then take the place of the old.
-ghost use Rattle.std.specs.Prelude.{◌≡◌, ◌<◌, [], ◌∷◌, true, length, map, All, IfOk, OnOk, OnErr};
+ghost use Rattle.std.specs.Prelude.{◌≡◌, ◌<◌, [], ◌∷◌, length, map, All, IfOk, OnOk, OnErr};
 ghost use Rattle.enfilade_core.specs.Rows.{rows_of};
 ghost use Rattle.enfilade_core.specs.Standing.{tree_debt, tree_allows};
 ghost use Rattle.enfilade_core.specs.Summary.{depth_of};
-ghost use Rattle.enfilade_sweep.specs.Sweep.{are_held};
+ghost use Rattle.enfilade_sweep.specs.Sweep.{reached_count, unreached_count};
 ghost use Rattle.poom.specs.Laid.{IsRoot};
 ghost use Rattle.doc_table.specs.declared.rows.DocumentRow.{DocumentRow};
 ghost use Rattle.world_rules.specs.FlatView.{FlatView};
@@ -30,7 +30,8 @@ fn swept_tree<P: Plane>(arena: &Arena<P>, root: Node) -> Result<(Arena<P>, Node)
     ensures debt { IfOk result (λ made. tree_debt made.0 made.1.0 ≡ tree_debt arena.now root.0) }
     ensures allows { IfOk result (λ made. tree_allows made.0 made.1.0 ≡ tree_allows arena.now root.0) }
     ensures depth { IfOk result (λ made. depth_of P.widths made.0 made.1.0 ≡ depth_of P.widths arena.now root.0) }
-    ensures held { IfOk result (λ made. are_held made.0 (made.1.0 ∷ []) ≡ true) }
+    ensures count { IfOk result (λ made. length made.0 ≡ reached_count arena.now (root.0 ∷ [])) }
+    ensures none_left { IfOk result (λ made. unreached_count made.0 (made.1.0 ∷ []) ≡ 0) }
 {
     let mut roots = List::new(arena.allocator());
     roots.push(root)?;
@@ -103,7 +104,8 @@ impl TreeWorld {
     /// Lets go of all nodes that no tree's root reaches. All trees are copied before one takes the place of its old one.
     pub(crate) fn sweep_trees(&mut self, alloc: Global) -> Result<(), Memory>
         ensures stands { (view : FlatView) → Stands self.old view → Stands self.new view }
-        ensures swept { OnOk result ((condition_of self.new).reached ≡ true) }
+        ensures count { OnOk result ((condition_of self.new).nodes ≡ (condition_of self.old).reached) }
+        ensures none_left { OnOk result ((condition_of self.new).unreached ≡ 0) }
         ensures shape { OnOk result (StaysInShape (condition_of self.old) (condition_of self.new)) }
         ensures err { OnErr result (self.new ≡ self.old) }
     {

@@ -57,7 +57,8 @@ pub trait Tends: Applies {
     /// the trees stay as deep and as near to balance.
     fn sweep(&mut self, alloc: Global) -> Result<(), Memory>
         ensures stands { (view : FlatView) → Self.stands self.old view → Self.stands self.new view }
-        ensures swept { OnOk result ((condition self.new).reached ≡ true) }
+        ensures count { OnOk result ((condition self.new).nodes ≡ (condition self.old).reached) }
+        ensures none_left { OnOk result ((condition self.new).unreached ≡ 0) }
         ensures shape { OnOk result (StaysInShape (condition self.old) (condition self.new)) }
         ensures err { OnErr result (condition self.new ≡ condition self.old) };
 }

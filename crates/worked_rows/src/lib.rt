@@ -22,9 +22,13 @@ mod generated_rows;
 #[cfg(test)]
 mod history_rows;
 #[cfg(test)]
+mod protocol_rows;
+#[cfg(test)]
 mod rows;
 #[cfg(test)]
 mod runs;
+#[cfg(test)]
+mod served_rows;
 #[cfg(test)]
 mod sessions;
 #[cfg(test)]

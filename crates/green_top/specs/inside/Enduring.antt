@@ -2,8 +2,8 @@
 use Rattle.std.specs.Prelude.{◌≡◌, ℕ, ◌≤◌, List, ◌++◌, length, Option, None, Some}
 use Rattle.febe_data.specs.LimitsView.{LimitsView}
 use Rattle.febe_data.specs.Plain.{PlainEntry}
-use Rattle.green_io.specs.declared.disk.Area.TheVariants.{Log}
-use Rattle.green_io.specs.Disk.{DiskState, LeavesOnly, LeavesOthers}
+use Rattle.green_io.specs.Areas.{is_log}
+use Rattle.green_io.specs.Disk.{DiskState, LeavesOnly, LeavesBut}
 use Rattle.world_rules.specs.Legal.{Exchange}
 use Rattle.green_store.specs.Durable.{Keeps}
 use Rattle.green_store.specs.StoreView.{StoreView}
@@ -31,4 +31,4 @@ pub record Endures (limits : LimitsView) (session : ℕ) (exchanges : List Excha
       → LeavesOnly disk after_disk (HoldsFront limits session (earlier ++ exchanges) least after.history)
   pub stands : (earlier : List Exchange) (least faults_before : ℕ) → least ≤ length store.history → StandsOn limits session earlier least faults_before disk store faults
       → StandsOn limits session (earlier ++ exchanges) least faults_before after_disk after after_faults
-  pub others : LeavesOthers Log disk after_disk
+  pub others : LeavesBut is_log disk after_disk

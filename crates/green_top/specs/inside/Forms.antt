@@ -21,10 +21,10 @@ abbrev pub IsForm : List (List ℕ) → Form → Type 0
 IsForm words (forms.Session limits) = AreWords words limits
 IsForm words (forms.Generate start) = AreGenerateWords words start
 
--- a run of this form, over a store that opened with this history
-abbrev pub IsFormRun : Form → (opened : List PlainEntry) → (before after : IoState) → (history : List PlainEntry) → List Exchange → (points : List ℕ) → (bytes_read : ℕ) → SessionEnd → Type 0
-IsFormRun (forms.Session limits) opened before after history exchanges points bytes_read end = IsRun limits opened before after history exchanges points bytes_read end
-IsFormRun (forms.Generate start) opened before after history exchanges points bytes_read end = IsGeneratedRun start opened before after history exchanges points end × (bytes_read ≡ 0)
+-- a run of this form, whose session has this number or none
+abbrev pub IsFormRun : Form → (session : ℕ) → (before after : IoState) → (history : List PlainEntry) → List Exchange → (points : List ℕ) → (bytes_read : ℕ) → SessionEnd → Type 0
+IsFormRun (forms.Session limits) session before after history exchanges points bytes_read end = IsRun limits session before after history exchanges points bytes_read end
+IsFormRun (forms.Generate start) session before after history exchanges points bytes_read end = IsGeneratedRun start session before after history exchanges points end × (bytes_read ≡ 0)
 
 -- a run of this form makes its requests itself
 abbrev pub IsGenerated : Form → Type 0

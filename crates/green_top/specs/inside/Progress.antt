@@ -1,5 +1,5 @@
 -- What answering requests does to a session.
-use Rattle.std.specs.Prelude.{◌≡◌, ◌⊎◌, ℕ, ◌≤◌, List, [], ◌∷◌, ◌++◌, length, map, All, Option}
+use Rattle.std.specs.Prelude.{◌≡◌, ◌⊎◌, ℕ, ◌≤◌, Bool, List, [], ◌∷◌, ◌++◌, length, map, All, Option}
 use Rattle.std.specs.List.{flat_map, AllByRecursion}
 use Rattle.std.specs.List.Sorted.{IsNonDecreasing}
 use Rattle.febe_data.specs.LimitsView.{LimitsView}
@@ -7,17 +7,14 @@ use Rattle.febe_data.specs.Plain.{PlainRequest, PlainReply, PlainEntry}
 use Rattle.febe_data.specs.Validity.{IsReply}
 use Rattle.febe_reply.specs.ReplyGrammar.{spell_reply}
 use Rattle.world_rules.specs.History.{entries_of}
-use Rattle.world_rules.specs.World.{empty_world}
-use Rattle.world_rules.specs.Placed.{AllPlaced}
-use Rattle.world_rules.specs.Legal.{Exchange, TookPlace}
+use Rattle.world_rules.specs.Legal.{IsLegal, Exchange, TookPlace}
 use Rattle.green_store.specs.Sessions.{begin_entry}
-use Rattle.green_store.specs.Durable.{has_risen}
-use Rattle.green_store.specs.Steps.{Steps}
 use Rattle.green_session.specs.declared.put.Put.{Put}
 use Rattle.green_session.specs.declared.put.Put.TheVariants.{Memory}
 use Rattle.green_session.specs.Putting.{IsPut}
 use Rattle.world_rules.specs.Serials.{CountFromOne}
-use Rattle.green_top.specs.Transcript.{output_of, RisesWithin, HasValidReply, InTurn}
+use Rattle.green_top.specs.Transcript.{output_of, HasValidReply, InTurn}
+use Rattle.green_top.specs.inside.Play.{IsOthers}
 
 -- what the answer to a request changes: the history, the points, what the sink took, where it tells that, and its
 -- count of faults, and the disk's
@@ -31,26 +28,30 @@ pub record AnswerState : Type 0 where
 abbrev pub answer_state : List PlainEntry → List ℕ → Option (List ℕ) → ℕ → ℕ → AnswerState
 answer_state history points taken faults disk_faults = record { history = history; points = points; taken = taken; faults = faults; disk_faults = disk_faults }
 
--- One request was answered by a legal step from the history before it to the one after it, in which the count of disk faults
--- rose or not: its point is the length of that, and the output is its reply, which the grammar can spell.
+-- One request was answered by a legal step, behind what other sessions had added meanwhile: its point is the length of the history
+-- after it, and the output is its reply, which the grammar can spell.
 pub record Answers (limits : LimitsView) (session : ℕ) (before after : AnswerState) (request : PlainRequest) (output : List ℕ) : Type 0 where
   pub reply : PlainReply
   pub valid : IsReply reply
-  pub step : Steps limits session before.history request reply after.history (has_risen before.disk_faults after.disk_faults)
+  pub past : List PlainEntry
+  pub added : List PlainEntry
+  pub rose : Bool
+  pub others : IsOthers session past
+  pub legal : IsLegal limits session (before.history ++ past) request reply added rose
+  pub grows : after.history ≡ (before.history ++ past) ++ added
   pub never_falls : before.disk_faults ≤ after.disk_faults
   pub points_are : after.points ≡ before.points ++ length after.history ∷ []
   pub output_is : output ≡ spell_reply reply
 
--- its exchange, with this reply, in which this was added
-abbrev pub exchange_of : (before after : AnswerState) → PlainRequest → PlainReply → List PlainEntry → Exchange
-exchange_of before after request reply added =
-    record { request = request; reply = reply; point = length after.history; added = added; rose = has_risen before.disk_faults after.disk_faults }
+-- its exchange, with this reply, in which this was added, and the count of disk faults rose or not
+abbrev pub exchange_of : (after : AnswerState) → PlainRequest → PlainReply → List PlainEntry → Bool → Exchange
+exchange_of after request reply added rose = record { request = request; reply = reply; point = length after.history; added = added; rose = rose }
 
 -- the request was answered in this one exchange, and this came of writing its reply
 pub record AnswersAndWrites (limits : LimitsView) (session : ℕ) (before after : AnswerState) (request : PlainRequest) (result : Put) (exchanges : List Exchange) : Type 0 where
   pub output : List ℕ
   pub answers : Answers limits session before after request output
-  pub exchanges_are : exchanges ≡ exchange_of before after request answers.reply answers.step.added ∷ []
+  pub exchanges_are : exchanges ≡ exchange_of after request answers.reply answers.added answers.rose ∷ []
   pub put : IsPut before.taken after.taken before.faults after.faults output result
 
 -- there was no memory, and all is as it was
@@ -67,21 +68,18 @@ abbrev pub HandlesRequest : LimitsView → ℕ → AnswerState → AnswerState �
 HandlesRequest limits session before after request result exchanges =
     AnswersAndWrites limits session before after request result exchanges ⊎ IsOutOfMemory before after result exchanges
 
--- The session so far: the requests answered in these exchanges, with their points and the output, while the count of disk faults rose from this
--- to that. The history is the one with which the session had begun, and what the exchanges added.
-pub record Progress (limits : LimitsView) (session : ℕ) (begun history : List PlainEntry) (exchanges : List Exchange) (points : List ℕ) (answered : List PlainRequest) (output : List ℕ) (faults_before faults_after : ℕ) : Type 0 where
+-- The session so far: the requests answered in these exchanges, with their points and the output. The history begins with the one
+-- with which the session had begun, and the session's entries in it are its Begin and what the exchanges added.
+pub record Progress (limits : LimitsView) (session : ℕ) (begun history : List PlainEntry) (exchanges : List Exchange) (points : List ℕ) (answered : List PlainRequest) (output : List ℕ) : Type 0 where
   pub requests_are : answered ≡ map (λ (e : Exchange). e.request) exchanges
   pub points_are : points ≡ map (λ (e : Exchange). e.point) exchanges
   pub output_is : output ≡ output_of exchanges
   pub each : AllByRecursion (TookPlace limits session history) exchanges
-  pub rises : RisesWithin exchanges faults_before faults_after
   pub valid_replies : AllByRecursion HasValidReply exchanges
-  pub first : entries_of session begun ≡ begin_entry session ∷ []
-  pub history_is : history ≡ begun ++ flat_map (λ (e : Exchange). e.added) exchanges
-  pub own : entries_of session (flat_map (λ (e : Exchange). e.added) exchanges) ≡ flat_map (λ (e : Exchange). e.added) exchanges
+  pub starts_with : (more : List PlainEntry) × (history ≡ begun ++ more)
+  pub entries : entries_of session history ≡ begin_entry session ∷ flat_map (λ (e : Exchange). e.added) exchanges
   pub serials : CountFromOne (entries_of session history)
   pub in_turn : InTurn session history (begin_entry session ∷ []) exchanges
-  pub placed : AllPlaced empty_world history
   pub rising : IsNonDecreasing points
   pub within : All (λ point. point ≤ length history) points
   pub above : All (λ point. length begun ≤ point) points

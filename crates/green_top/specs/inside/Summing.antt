@@ -1,5 +1,5 @@
 -- How a generated session goes, up to its summary.
-use Rattle.std.specs.Prelude.{◌≡◌, ◌⊎◌, ℕ, ◌+◌, ◌^◌, ◌<◌, ◌≤◌, List, [], ◌++◌, codes, Option, Result, Ok, Err}
+use Rattle.std.specs.Prelude.{◌≡◌, ◌≢◌, ◌⊎◌, ℕ, ◌^◌, ◌<◌, ◌≤◌, List, [], ◌++◌, codes, Option, Result, Ok, Err}
 use Rattle.std.specs.Io.KnownBytes.{Appends}
 use Rattle.std.specs.List.{flat_map, AllByRecursion}
 use Rattle.febe_data.specs.LimitsView.{standard_limits}
@@ -8,7 +8,6 @@ use Rattle.febe_data.specs.Validity.{IsReply}
 use Rattle.febe_reply.specs.ReplyGrammar.{spell_reply}
 use Rattle.green_io.specs.Outside.{HasRisen}
 use Rattle.world_rules.specs.Legal.{Exchange}
-use Rattle.green_store.specs.Sessions.{greatest_session}
 use Rattle.green_top.specs.declared.session_end.SessionEnd.{SessionEnd}
 use Rattle.green_top.specs.declared.session_end.SessionEnd.TheVariants as ends
 use Rattle.green_top.specs.Ends.{AllNumbersTaken}
@@ -71,21 +70,19 @@ outcome_of ends.End = Ok tt
 outcome_of ends.NoNumber = Err ends.NoNumber
 outcome_of other = Err ends.Memory
 
--- the session with the next number is over, and all requests were answered with this output
-pub record IsAnswered (start : ℕ) (opened history : List PlainEntry) (exchanges : List Exchange) (points output : List ℕ) (faults_before faults_after : ℕ) : Type 0 where
-  pub session : ℕ
-  pub number_is : session ≡ greatest_session opened + 1
+-- the session of this number is over, and all requests were answered with this output
+pub record IsAnswered (start session : ℕ) (history : List PlainEntry) (exchanges : List Exchange) (points output : List ℕ) : Type 0 where
+  pub numbered : session ≢ 0
   pub has_number : session < 2 ^ 64
-  pub over : IsOver standard_limits opened session history exchanges points (generated_requests start) output faults_before faults_after
+  pub over : IsOver standard_limits session history exchanges points (generated_requests start) output
 
 -- there is no summary: no session began, or there was no memory before all requests were answered
-abbrev pub HasNoSummary : (start : ℕ) → SessionEnd → (opened history : List PlainEntry) → List Exchange → (points : List ℕ) → (faults_before faults_after : ℕ) → Type 0
-HasNoSummary start ends.NoNumber opened history exchanges points faults_before faults_after = AllNumbersTaken opened × NoSession opened history exchanges points []
-HasNoSummary start ends.Memory opened history exchanges points faults_before faults_after =
-    NoSession opened history exchanges points [] ⊎ IsSummedSession start opened ends.Memory [] history exchanges points faults_before faults_after
-HasNoSummary start other opened history exchanges points faults_before faults_after = ⊥
+abbrev pub HasNoSummary : (start session : ℕ) → SessionEnd → (history : List PlainEntry) → List Exchange → (points : List ℕ) → Type 0
+HasNoSummary start session ends.NoNumber history exchanges points = AllNumbersTaken history × NoSession session exchanges points []
+HasNoSummary start session ends.Memory history exchanges points = NoSession session exchanges points [] ⊎ IsSummedSession start session ends.Memory [] history exchanges points
+HasNoSummary start session other history exchanges points = ⊥
 
 -- all requests were answered with this output, or there is no summary, for the reason that ended the session
-abbrev pub IsInnerRun : (start : ℕ) → Result (Unit {0}) SessionEnd → (opened history : List PlainEntry) → List Exchange → (points output : List ℕ) → (faults_before faults_after : ℕ) → Type 0
-IsInnerRun start (Ok done) opened history exchanges points output faults_before faults_after = IsAnswered start opened history exchanges points output faults_before faults_after
-IsInnerRun start (Err end) opened history exchanges points output faults_before faults_after = HasNoSummary start end opened history exchanges points faults_before faults_after
+abbrev pub IsInnerRun : (start session : ℕ) → Result (Unit {0}) SessionEnd → (history : List PlainEntry) → List Exchange → (points output : List ℕ) → Type 0
+IsInnerRun start session (Ok done) history exchanges points output = IsAnswered start session history exchanges points output
+IsInnerRun start session (Err end) history exchanges points output = HasNoSummary start session end history exchanges points

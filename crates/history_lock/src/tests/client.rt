@@ -21,8 +21,8 @@ pub fn play_in_two<T: Kept<Job = u64, Answer = u64> + Drop, R: Wait>(
         return None;
     };
     let mut second = lock.new_pass(&mut first);
-    lock.act(rt, &mut first, 5);
-    lock.act(rt, &mut second, 7);
+    lock.act(rt, alloc, &mut first, 5);
+    lock.act(rt, alloc, &mut second, 7);
     lock.front(&mut first);
     lock.end_pass(&mut first, second);
     let Ok(left) = lock.into_inner(first) else {

@@ -2,6 +2,7 @@
 ghost use Rattle.std.specs.Prelude.{◌≡◌, ℕ, [], ◌∷◌};
 
 use crate::{Kept, Played};
+use std::alloc::Global;
 use std::sync::Arc;
 use std::sync::atomic::AtomicU64;
 use std::sync::atomic::Ordering::SeqCst;
@@ -33,7 +34,7 @@ impl Kept for Gated {
         0
     }
 
-    fn play(&mut self, number: u64, job: u64) -> Played<u64> {
+    fn play(&mut self, _alloc: Global, number: u64, job: u64) -> Played<u64> {
         self.entered.store(1, SeqCst);
         for _ in 0..u64::MAX {
             if self.gate.load(SeqCst) != 0 {

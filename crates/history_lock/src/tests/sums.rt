@@ -64,7 +64,7 @@ impl Kept for Sums {
         self.entries.len() as u64
     }
 
-    fn play(&mut self, number: u64, job: u64) -> Played<u64> {
+    fn play(&mut self, _alloc: Global, number: u64, job: u64) -> Played<u64> {
         let refused = Played {
             answer: self.sum,
             number,

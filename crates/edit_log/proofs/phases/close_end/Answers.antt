@@ -1,6 +1,6 @@
 -- A gate that is 0 stays as it is; another may have any byte until it is written.
 use Rattle.std.proofs.Common.{[], ◌∷◌, ◌++◌, sym, ◌∙◌, subst}
-use Rattle.green_io.specs.declared.disk.Area.TheVariants as area
+use Rattle.green_io.specs.Areas.{is_log}
 use Rattle.green_io.proofs.Beside.{untouched_others}
 use Rattle.green_io.specs.Disk.{Torn, Written}
 use Rattle.edit_log.specs.Images.{IsShut}
@@ -37,4 +37,4 @@ returns-clause-reads g c front at =
     written_reads c.write_and_sync.result front c.args.end.now c.args.at (g.D.Disk.state c.args.disk.now).reads (g.D.Disk.state c.write_and_sync.new.disk).reads at c.write_and_sync.ensures.written
 
 pub returns-then-is_closed-clause-others : goal.returns-then-is_closed-clause-others
-returns-then-is_closed-clause-others g c = untouched_others area.Log (g.D.Disk.state c.args.disk.now)
+returns-then-is_closed-clause-others g c = untouched_others is_log (g.D.Disk.state c.args.disk.now)

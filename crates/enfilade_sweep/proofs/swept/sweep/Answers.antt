@@ -3,8 +3,9 @@ use Rattle.std.specs.Prelude.{All}
 use Rattle.enfilade_core.specs.declared.tree.Node.{Node}
 use Rattle.enfilade_sweep.specs.Sweep.{numbers}
 use Rattle.enfilade_sweep.specs.Marks.{AreMarked, AreRanks, AreCopied}
-use Rattle.enfilade_sweep.proofs.Held.{all_reached, all_held}
-use Rattle.enfilade_sweep.proofs.Whole.{is_swept, same_rows, same_debts, same_allowed, same_depths, root_there, roots_there}
+use Rattle.enfilade_sweep.proofs.Counted.{marked_count, none_unreached}
+use Rattle.enfilade_sweep.proofs.StillReached.{all_reached, hangs_before}
+use Rattle.enfilade_sweep.proofs.Whole.{reached_marked, is_swept, same_rows, same_debts, same_allowed, same_depths, root_there, roots_there}
 use Rattle.enfilade_sweep.proofs.swept.sweep.Goals as goal
 
 pub renamed_roots-requires-clause-there : goal.renamed_roots-requires-clause-there
@@ -65,5 +66,13 @@ returns-clause-depths g c =
 pub returns-clause-reached : goal.returns-clause-reached
 returns-clause-reached g c = all_reached c.args.old.now (numbers c.args.roots.now.items) c.in_ok-new.new (numbers c.in_ok-roots.roots.items) (returns-clause-swept g c)
 
-pub returns-clause-held : goal.returns-clause-held
-returns-clause-held g c = all_held c.in_ok-new.new (numbers c.in_ok-roots.roots.items) (all_reached c.args.old.now (numbers c.args.roots.now.items) c.in_ok-new.new (numbers c.in_ok-roots.roots.items) (returns-clause-swept g c))
+pub returns-clause-count : goal.returns-clause-count
+returns-clause-count g c =
+    let old = c.args.old.now in
+    let marked = subst (λ (rs : List Node). AreMarked old (numbers rs) c.in_ok-marks.marks.items 0) c.as_slice.ensures c.in_ok-marks.ensures in
+    let copied = subst (λ (ms : List Bool). AreCopied ms old c.in_ok-new.new (length old)) c.as_slice-3.ensures.value c.in_ok-new.ensures in
+    copied.long ∙ marked_count old (numbers c.args.roots.now.items) (hangs_before g.P.Plane.widths old c.nodes_are_right.ensures) c.in_ok-marks.marks.items marked.long marked.sound (reached_marked old (numbers c.args.roots.now.items) c.in_ok-marks.marks.items marked)
+
+pub returns-clause-none_left : goal.returns-clause-none_left
+returns-clause-none_left g c =
+    none_unreached c.in_ok-new.new (numbers c.in_ok-roots.roots.items) (hangs_before g.P.Plane.widths c.in_ok-new.new c.nodes_are_right-2.ensures) (returns-clause-reached g c)

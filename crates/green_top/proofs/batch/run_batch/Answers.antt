@@ -1,5 +1,5 @@
 use Rattle.std.proofs.Common.{◌∙◌, [], map, refl, subst, sym, inl, inr, string_bytes, arith}
-use Rattle.green_io.specs.declared.disk.Area.TheVariants.{Log}
+use Rattle.green_io.specs.Areas.{is_log}
 use Rattle.green_io.proofs.Beside.{then_others}
 use Rattle.green_io.proofs.Crash.{none_called}
 use Rattle.green_top.specs.IoState.{io_state}
@@ -67,10 +67,10 @@ returns-clause-call g c =
     let run = c.serve_form-end.ensures.run in
     record {
       exchanges = run.0;
-      batch = batch_of _ c.in-Some.form _ _ before _ (g.D.Disk.fault_count c.open.new.disk) _ _ _ _ run.0 c.serve_form-end.result c.in-Some.ensures.some c.in-Ok.ensures.history c.status.ensures c.place-report.ensures count c.in-Ok.ensures.never_falls c.into_history.ensures run.1;
-      any_moment = λ entries whole. opened_moment _ c.in-Ok.store.limits limits _ _ _ _ _ run.0 _ _ _ c.in-Ok.ensures.never_falls c.in-Ok.ensures.keeps run.2 _ c.into_history.ensures entries whole (c.in-Ok.ensures.whole entries whole) (c.in-Ok.ensures.any_moment entries whole);
+      batch = batch_of _ c.in-Some.form _ _ before _ (g.D.Disk.fault_count c.open.new.disk) _ _ _ _ _ run.0 c.serve_form-end.result.end c.in-Some.ensures.some c.in-Ok.ensures.history c.status.ensures c.place-report.ensures count c.in-Ok.ensures.never_falls c.into_history.ensures run.1 run.2;
+      any_moment = λ entries whole. opened_moment _ c.in-Ok.store.limits limits _ _ _ _ _ run.0 _ _ _ c.in-Ok.ensures.never_falls c.in-Ok.ensures.keeps run.3 _ c.into_history.ensures entries whole (c.in-Ok.ensures.whole entries whole) (c.in-Ok.ensures.any_moment entries whole);
       kept = λ told some.
-          opened_kept _ c.in-Ok.store.limits limits (g.D.Disk.state c.args.disk.now) _ _ _ _ run.0 _ _ _ c.in-Ok.ensures.never_falls c.in-Ok.ensures.keeps run.2 _ c.into_history.ensures _ count told c.images_are_kept.ensures;
+          opened_kept _ c.in-Ok.store.limits limits (g.D.Disk.state c.args.disk.now) _ _ _ _ run.0 _ _ _ c.in-Ok.ensures.never_falls c.in-Ok.ensures.keeps run.3 _ c.into_history.ensures _ count told c.images_are_kept.ensures;
     }
 
 pub returns-clause-source : goal.returns-clause-source
@@ -80,7 +80,7 @@ pub returns-clause-untouched : goal.returns-clause-untouched
 returns-clause-untouched g c = λ none. absurd (no_form _ c.in-Some.form c.in-Some.ensures.some none)
 
 pub returns-clause-whole : goal.returns-clause-whole
-returns-clause-whole g c = λ entries whole. opened_begins c.serve_form-end.result entries _ _ _ _ (c.in-Ok.ensures.whole entries whole) c.serve_form-end.ensures.run.2.grows c.status.ensures c.into_history.ensures
+returns-clause-whole g c = λ entries whole. opened_begins c.serve_form-end.result.end entries _ _ _ _ (c.in-Ok.ensures.whole entries whole) c.serve_form-end.ensures.run.3.grows c.status.ensures c.into_history.ensures
 
 pub returns-clause-others : goal.returns-clause-others
-returns-clause-others g c = then_others Log _ _ _ (g.met.D.Disk.is_disk c.open.new.disk) c.in-Ok.ensures.others c.serve_form-end.ensures.run.2.others
+returns-clause-others g c = then_others is_log _ _ _ (g.met.D.Disk.is_disk c.open.new.disk) c.in-Ok.ensures.others c.serve_form-end.ensures.run.3.others

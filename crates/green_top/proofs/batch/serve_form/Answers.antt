@@ -5,8 +5,8 @@ use Rattle.green_top.proofs.batch.serve_form.Goals as goal
 
 pub returns-in-Session-clause-run : goal.returns-in-Session-clause-run
 returns-in-Session-clause-run g c =
-    let run = c.serve.ensures.run in
-    (run.0, session_runs _ _ _ _ _ _ _ run.0 _ _ _ c.in-Session.is c.requires.limits run.1, run.2)
+    let run = c.serve_beside.ensures.run in
+    (run.0, session_runs _ _ _ _ _ _ _ run.0 _ _ _ c.in-Session.is c.requires.limits run.1, run.2, run.3)
 
 pub returns-in-Session-clause-source : goal.returns-in-Session-clause-source
 returns-in-Session-clause-source g c = λ generated. absurd (subst IsGenerated c.in-Session.is generated)
@@ -17,4 +17,4 @@ serve_generated-requires-clause-limits g c = c.requires.limits ∙ ap limits_of 
 pub returns-in-Generate-clause-run : goal.returns-in-Generate-clause-run
 returns-in-Generate-clause-run g c =
     let run = c.serve_generated.ensures.run in
-    (run.0, generated_runs _ _ _ _ _ _ run.0 _ _ _ c.in-Generate.is (run.1 _ _) c.serve_generated.ensures.nothing_read, run.2)
+    (run.0, generated_runs _ _ _ _ _ _ run.0 _ _ _ c.in-Generate.is (run.1 _ _) c.serve_generated.ensures.nothing_read, run.2, run.3)

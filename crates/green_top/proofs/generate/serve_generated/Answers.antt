@@ -1,26 +1,36 @@
-use Rattle.std.proofs.Common.{List, ℕ, ap, sym, subst}
+use Rattle.std.proofs.Common.{List, ℕ, ap, sym, subst, Result}
+use Rattle.green_top.specs.declared.session_end.SessionEnd.{SessionEnd}
 use Rattle.green_top.specs.Summary.{replies_of}
-use Rattle.green_top.specs.inside.Summing.{IsOutput}
+use Rattle.green_top.specs.inside.Summing.{IsOutput, IsInnerRun}
+use Rattle.green_top.proofs.EndedSessions.{alone_on}
 use Rattle.green_top.proofs.Endurings.{endures_still}
 use Rattle.green_top.proofs.Generateds.{is_output, summed_later, unsummed}
 use Rattle.green_top.proofs.generate.serve_generated.Goals as goal
 
-pub write_summary-requires : goal.write_summary-requires
-write_summary-requires g c =
-    let run = c.in-Ok.ensures.run in
-    (replies_of run.0, subst (λ (output : List ℕ). IsOutput output (replies_of run.0)) (sym c.bytes.ensures) (is_output _ _ _ _ _ _ _ _ run.1))
+pub write_summary-end-requires : goal.write_summary-end-requires
+write_summary-end-requires g c =
+    let served = c.serve_input-outcome in
+    let run = served.ensures.run in
+    let answered = subst (λ (r : Result (Unit {0}) SessionEnd). IsInnerRun c.args.start served.new.serves.session r served.new.serves.store.history run.0 served.result.points.items served.new.output.taken) c.in-Ok.is run.1 in
+    (replies_of run.0, subst (λ (output : List ℕ). IsOutput output (replies_of run.0)) (sym c.bytes.ensures) (is_output _ _ _ _ _ _ answered))
 
 pub returns-in-Ok-clause-run : goal.returns-in-Ok-clause-run
 returns-in-Ok-clause-run g c =
-    let run = c.in-Ok.ensures.run in (
+    let served = c.serve_input-outcome in
+    let run = served.ensures.run in
+    let answered = subst (λ (r : Result (Unit {0}) SessionEnd). IsInnerRun c.args.start served.new.serves.session r served.new.serves.store.history run.0 served.result.points.items served.new.output.taken) c.in-Ok.is run.1 in
+    let still = ap g.D.Disk.fault_count c.settle.ensures.untouched in (
       run.0,
       (λ left faults.
-          summed_later c.args.start _ _ run.0 _ left _ _ faults _ _ _ _ run.2.never_falls _ _ c.settle.ensures.history (ap g.D.Disk.fault_count c.settle.ensures.untouched) c.write_summary.result c.serve_input-outcome.new.output.taken run.1
-          (c.write_summary.ensures (replies_of run.0) (subst (λ (output : List ℕ). IsOutput output (replies_of run.0)) (sym c.bytes.ensures) (is_output _ _ _ _ _ _ _ _ run.1)))),
-      endures_still _ _ run.0 _ _ _ _ _ _ _ _ _ (g.met.D.Disk.is_disk _) run.2 (c.settle.ensures.endures _ _),
+          summed_later c.args.start _ _ run.0 _ left _ _ faults _ _ _ _ run.3.never_falls _ _ _ c.settle.ensures.number c.settle.ensures.history still c.write_summary-end.result served.new.output.taken answered
+          (c.write_summary-end.ensures (replies_of run.0) (subst (λ (output : List ℕ). IsOutput output (replies_of run.0)) (sym c.bytes.ensures) (is_output _ _ _ _ _ _ answered)))),
+      alone_on _ _ _ _ _ run.0 _ _ _ c.settle.ensures.number c.settle.ensures.history still run.2,
+      endures_still _ _ run.0 _ _ _ _ _ _ _ _ _ (g.met.D.Disk.is_disk _) run.3 (c.settle.ensures.endures _ _),
     )
 
 pub returns-clause-run : goal.returns-clause-run
 returns-clause-run g c =
-    let run = c.in-Err.ensures.run in
-    (run.0, (λ left faults. unsummed _ _ _ run.0 _ left _ faults _ _ _ c.in-Err.end run.2.never_falls run.1), run.2)
+    let served = c.serve_input-outcome in
+    let run = served.ensures.run in
+    let none = subst (λ (r : Result (Unit {0}) SessionEnd). IsInnerRun c.args.start served.new.serves.session r served.new.serves.store.history run.0 served.result.points.items served.new.output.taken) c.in-Err.is run.1 in
+    (run.0, (λ left faults. unsummed _ _ _ run.0 _ left _ faults _ _ _ c.in-Err.end run.3.never_falls none), run.2, run.3)

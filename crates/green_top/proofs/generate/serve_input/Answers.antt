@@ -8,21 +8,24 @@ use Rattle.green_top.proofs.Generateds.{can_end, inner_run}
 use Rattle.green_top.proofs.generate.serve_input.Goals as goal
 
 pub returns-in_default : goal.returns-in_default
-returns-in_default g c = record { run = ([], inl (record { history_is = refl; none_answered = refl; no_points = c.requires.no_points; nothing = refl }), endures_nothing _ _ _ _ _) }
+returns-in_default g c = record {
+  run = ([], inl (record { unnumbered = c.requires.unnumbered; none_answered = refl; no_points = c.new-points.ensures.items; nothing = refl }), inl (c.requires.unnumbered, refl), endures_nothing _ _ _ _ _);
+}
 
-pub outcome_of-requires : goal.outcome_of-requires
-outcome_of-requires g c =
-    can_end c.args.start _ _ _ _ _ _ _ _ (subst (IsInputOf (generated_requests c.args.start)) (sym c.new-source.ensures) c.in-Ok.ensures) c.requires.none_yet _ _ _ _ _ c.serve-end.result (rw c.requires.limits at c.serve-end.ensures.run.1)
+pub outcome_of-outcome-requires : goal.outcome_of-outcome-requires
+outcome_of-outcome-requires g c =
+    can_end c.args.start _ _ _ _ _ _ _ _ (subst (IsInputOf (generated_requests c.args.start)) (sym c.new-source.ensures) c.in-Ok.ensures) c.requires.none_yet _ _ _ _ _ c.serve_beside-end.result.end (rw c.requires.limits at c.serve_beside-end.ensures.run.1)
 
 pub returns : goal.returns
 returns g c =
-    let run = c.serve-end.ensures.run in
+    let run = c.serve_beside-end.ensures.run in
     record {
       run = (
         run.0,
-        subst (λ (r : Result (Unit {0}) SessionEnd). IsInnerRun c.args.start r c.args.store.now.history c.serve-end.new.store.history run.0 c.serve-end.new.report.points.items c.serve-end.new.sink.taken (g.D.Disk.fault_count c.args.disk.now) (g.D.Disk.fault_count c.serve-end.new.disk))
-            (sym c.outcome_of.ensures)
-            (inner_run c.args.start _ _ _ _ _ _ _ _ (subst (IsInputOf (generated_requests c.args.start)) (sym c.new-source.ensures) c.in-Ok.ensures) c.requires.none_yet _ _ _ _ _ c.serve-end.result (rw c.requires.limits at run.1)),
+        subst (λ (r : Result (Unit {0}) SessionEnd). IsInnerRun c.args.start c.serve_beside-end.new.serves.session r c.serve_beside-end.new.serves.store.history run.0 c.serve_beside-end.result.points.items c.serve_beside-end.new.sink.taken)
+            (sym c.outcome_of-outcome.ensures)
+            (inner_run c.args.start _ _ _ _ _ _ _ _ (subst (IsInputOf (generated_requests c.args.start)) (sym c.new-source.ensures) c.in-Ok.ensures) c.requires.none_yet _ _ _ _ _ c.serve_beside-end.result.end (rw c.requires.limits at run.1)),
         run.2,
+        run.3,
       );
     }

@@ -5,7 +5,8 @@ use Rattle.green_top.proofs.generate.settle.Given as goal
 
 abbrev pub invariant-loop : goal.invariant-loop
 invariant-loop g l = record {
-  history : l.store.history ≡ l.fn.store.history;
+  number : l.serves.session ≡ l.fn.serves.session;
+  history : l.serves.store.history ≡ l.fn.serves.store.history;
   untouched : l.disk ≡ l.fn.disk;
-  endures : (limits : LimitsView) (session : ℕ) → Endures limits session [] (g.D.Disk.state l.fn.disk) l.fn.store (g.D.Disk.fault_count l.fn.disk) (g.D.Disk.state l.disk) l.store (g.D.Disk.fault_count l.disk);
+  endures : (limits : LimitsView) (session : ℕ) → Endures limits session [] (g.D.Disk.state l.fn.disk) l.fn.serves.store (g.D.Disk.fault_count l.fn.disk) (g.D.Disk.state l.disk) l.serves.store (g.D.Disk.fault_count l.disk);
 }

@@ -1,32 +1,49 @@
 use Rattle.std.proofs.Common.{◌∙◌, ◌++◌, [], refl}
-use Rattle.green_top.proofs.Conversations.{starts, greeting_fails, goes_on_under, less_under, comes_to_under}
-use Rattle.green_top.proofs.Endurings.{endures_nothing, endures_then}
+use Rattle.green_top.proofs.Chains.{chain_nothing, chain_both}
+use Rattle.green_top.proofs.Conversations.{starts, still_live, greeting_fails, goes_on_under, less_under, comes_to_under}
+use Rattle.green_top.proofs.Rounds.{live_still}
 use Rattle.green_top.proofs.session.converse.Goals as goal
 
 pub returns-in-WriteFault-clause-conversed : goal.returns-in-WriteFault-clause-conversed
-returns-in-WriteFault-clause-conversed g c = ([], greeting_fails _ _ _ _ _ _ _ _ _ _ _ _ _ c.requires.begun c.in-WriteFault.ensures.put, endures_nothing _ _ _ _ _)
+returns-in-WriteFault-clause-conversed g c = ([], greeting_fails _ _ _ _ _ _ _ _ _ _ _ _ _ c.requires.begun c.in-WriteFault.ensures.put, chain_nothing _ _ _ _)
 
-pub loop-end-init : goal.loop-end-init
-loop-end-init g c = (([], starts _ _ _ _ _ _ _ _ _ _ _ _ _ c.requires.begun c.in-Done.ensures.put, endures_nothing _ _ _ _ _), refl)
+pub returns-in-WriteFault-clause-live : goal.returns-in-WriteFault-clause-live
+returns-in-WriteFault-clause-live g c = still_live (g.P.Plays.limits c.args.first.now) _ _ _ _ _ _ _ (g.K.Sink.taken c.args.sink.now) (g.K.Sink.taken c.args.sink.now) _ (g.K.Sink.fault_count c.args.sink.now) _ c.requires.begun
+
+pub loop-closing-init : goal.loop-closing-init
+loop-closing-init g c = record {
+  ready = c.requires.ready;
+  limits = refl;
+  number = refl;
+  so_far = ([], starts _ _ _ _ _ _ _ _ _ _ _ _ _ c.requires.begun c.in-Done.ensures.put, chain_nothing _ _ _ _);
+}
+
+pub loop-closing-smaller : goal.loop-closing-smaller
+loop-closing-smaller g c =
+    let so_far = c.loop-closing.invariant in
+    less_under _ _ so_far.limits _ _ so_far.number _ _ _ _ _ so_far.so_far.1 c.in_default.ensures.round.1
+
+pub loop-closing-preserved : goal.loop-closing-preserved
+loop-closing-preserved g c =
+    let now = c.loop-closing.invariant in
+    let so_far = now.so_far in
+    let next = c.in_default.ensures in
+    record {
+      ready = next.ready;
+      limits = next.limits ∙ now.limits;
+      number = next.number ∙ now.number;
+      so_far = (so_far.0 ++ next.round.0, goes_on_under _ _ now.limits _ _ now.number _ _ _ _ _ so_far.1 next.round.1, chain_both _ _ _ _ _ _ _ so_far.2 _ _ _ next.round.2);
+    }
 
 pub returns-in-Some : goal.returns-in-Some
 returns-in-Some g c =
-    let so_far = c.loop-end.invariant.0 in
-    let same = c.loop-end.invariant.1 in
-    let round = c.in-Some.ensures.round in
+    let now = c.loop-closing.invariant in
+    let so_far = now.so_far in
+    let next = c.in-Some.ensures in
     record {
-      conversed = (so_far.0 ++ round.0, comes_to_under _ _ same _ _ _ _ _ _ so_far.1 c.in-Some.end round.1, endures_then _ _ same _ _ _ _ _ _ _ _ _ _ _ _ (g.met.D.Disk.is_disk _) so_far.2 round.2);
-      limits = c.in-Some.ensures.limits ∙ same;
+      ready = next.ready;
+      limits = next.limits ∙ now.limits;
+      number = next.number ∙ now.number;
+      conversed = (so_far.0 ++ next.round.0, comes_to_under _ _ now.limits _ _ now.number _ _ _ _ _ so_far.1 c.in-Some.closing.end next.round.1.0, chain_both _ _ _ _ _ _ _ so_far.2 _ _ _ next.round.2);
+      live = live_still (g.P.Plays.seen c.answer_next-closing.new.first c.answer_next-closing.new.second) (g.P.Plays.seen c.answer_next-closing.new.first c.answer_next-closing.new.second) _ _ _ refl next.number next.round.1.1;
     }
-
-pub loop-end-smaller : goal.loop-end-smaller
-loop-end-smaller g c = less_under _ _ c.loop-end.invariant.1 _ _ _ _ _ _ c.loop-end.invariant.0.1 c.in_default.ensures.round.1
-
-pub loop-end-preserved : goal.loop-end-preserved
-loop-end-preserved g c =
-    let so_far = c.loop-end.invariant.0 in
-    let same = c.loop-end.invariant.1 in
-    let round = c.in_default.ensures.round in (
-      (so_far.0 ++ round.0, goes_on_under _ _ same _ _ _ _ _ _ so_far.1 round.1, endures_then _ _ same _ _ _ _ _ _ _ _ _ _ _ _ (g.met.D.Disk.is_disk _) so_far.2 round.2),
-      c.in_default.ensures.limits ∙ same,
-    )

@@ -1,57 +1,83 @@
-use Rattle.std.proofs.Common.{ap, arith, refl, true, append_assoc, [], ◌++◌}
+use Rattle.std.proofs.Common.{◌≡◌, ℕ, true, false, append_assoc, refl, inl, inr, sym, subst, ◌∙◌, [], ◌++◌, le_refl}
 use Rattle.febe_wire.specs.Sessions.{greeting}
-use Rattle.green_store.specs.StoreView.{StoreView}
-use Rattle.green_store.specs.declared.step.StepAnswer.TheVariants as answers
 use Rattle.green_top.specs.declared.session_end.SessionEnd.TheVariants as ends
-use Rattle.green_top.specs.IoState.{io_state}
-use Rattle.green_top.specs.inside.Conversation.{session_state}
-use Rattle.green_top.proofs.EndedSessions.{begins_with, session_ends_under, did_not_begin}
-use Rattle.green_top.proofs.Endurings.{endures_begin, endures_end, session_endures}
+use Rattle.green_top.proofs.EndedSessions.{begins_at, is_numbered, ends_live_under, ends_over_under, did_not_begin}
+use Rattle.green_top.specs.inside.Conversation.{state_by}
+use Rattle.green_top.specs.inside.Play.{EndsAt}
+use Rattle.green_top.proofs.Rounds.{live_still}
 use Rattle.green_top.proofs.session.run_session.Goals as goal
 
-pub converse-end-requires : goal.converse-end-requires
-converse-end-requires g c = record {
-  begun = record {
-    greeted = record { greeted = c.requires.greeted.greeted; place = c.requires.greeted.place; turns_are = c.requires.greeted.turns_are; within = c.requires.greeted.within };
-    opened = c.args.store.now.history;
-    begins = begins_with _ _ _ c.requires.placed c.in-Begun.ensures.step;
-    no_points = c.requires.no_points;
-  };
-}
-
-pub returns-in-NoNumber : goal.returns-in-NoNumber
-returns-in-NoNumber g c = record {
-  session = (
-    [],
-    did_not_begin _ ends.NoNumber _ _ _ c.requires.greeted c.requires.no_points (ap (λ (v : StoreView). v.history) c.in-NoNumber.ensures.step.stays) c.in-NoNumber.ensures.never_falls (c.in-NoNumber.ensures.step.last_taken, (c.args.feed.now.held ++ [], append_assoc greeting c.args.feed.now.held [])) tt,
-    endures_begin _ _ _ _ _ _ _ _ answers.NoNumber true c.in-NoNumber.ensures.never_falls c.in-NoNumber.ensures.step c.in-NoNumber.ensures.any_moment c.in-NoNumber.ensures.keeps c.in-NoNumber.ensures.others,
-  );
-}
-
-pub returns-in-Memory : goal.returns-in-Memory
-returns-in-Memory g c = record {
-  session = (
-    [],
-    did_not_begin _ ends.Memory _ _ _ c.requires.greeted c.requires.no_points (ap (λ (v : StoreView). v.history) c.in-Memory.ensures.step.stays) c.in-Memory.ensures.never_falls tt tt,
-    endures_begin _ _ _ _ _ _ _ _ answers.Memory true c.in-Memory.ensures.never_falls c.in-Memory.ensures.step c.in-Memory.ensures.any_moment c.in-Memory.ensures.keeps c.in-Memory.ensures.others,
-  );
-}
-
-pub returns : goal.returns
-returns g c =
-    let begun = c.in-Begun.ensures in
-    let ended = c.step-ended.ensures in
-    let conversed = c.converse-end.ensures.conversed in
+pub converse-end-requires-clause-begun : goal.converse-end-requires-clause-begun
+converse-end-requires-clause-begun g c =
+    let begun = c.in-Begun.ensures.begins in
     record {
-      session = (
-        conversed.0,
-        session_ends_under _ _ begun.limits c.in-Begun.session
-            (session_state c.args.store.now.history c.args.points.now.items c.args.feed.now c.args.turns.now (io_state (g.S.Source.left c.args.source.now) (g.S.Source.fault_count c.args.source.now) (g.K.Sink.taken c.args.sink.now) (g.K.Sink.fault_count c.args.sink.now) (g.D.Disk.fault_count c.args.disk.now)))
-            (session_state c.converse-end.new.store.history c.converse-end.new.points.items c.converse-end.new.feed c.converse-end.new.turns (io_state (g.S.Source.left c.converse-end.new.source) (g.S.Source.fault_count c.converse-end.new.source) (g.K.Sink.taken c.converse-end.new.sink) (g.K.Sink.fault_count c.converse-end.new.sink) (g.D.Disk.fault_count c.converse-end.new.disk)))
-            c.step.new.self.history (g.D.Disk.fault_count c.step.new.disk) (g.D.Disk.fault_count c.step-ended.new.disk) begun.never_falls ended.never_falls
-            (begins_with _ _ _ c.requires.placed begun.step) begun.step.number_is (omega (arith, begun.step.number_is, begun.step.has_number)) _ conversed.0 conversed.1 c.converse-end.new.store c.step-ended.new.self c.step-ended.result _ refl ended.step,
-        session_endures _ _ begun.limits _ c.in-Begun.session begun.step.number_is conversed.0 _ _ _ _ _ _ _ _ _ _ _ _ (g.met.D.Disk.is_disk c.step.new.disk) (g.met.D.Disk.is_disk c.converse-end.new.disk)
-            (endures_begin _ _ _ _ _ _ _ _ (answers.Begun c.in-Begun.session) true begun.never_falls begun.step begun.any_moment begun.keeps begun.others) conversed.2
-            (endures_end _ _ c.in-Begun.session _ _ _ _ _ _ c.step-ended.result _ ended.never_falls ended.step ended.any_moment ended.keeps ended.others),
-      );
+      greeted = record { greeted = c.requires.greeted.greeted; place = c.requires.greeted.place; turns_are = c.requires.greeted.turns_are; within = c.requires.greeted.within };
+      opened = g.P.Plays.seen c.args.first.now c.args.second.now ++ begun.past;
+      begins = begins_at _ _ _ begun;
+      no_points = c.requires.no_points;
     }
+
+pub returns-in-NoNumber-clause-session : goal.returns-in-NoNumber-clause-session
+returns-in-NoNumber-clause-session g c =
+    let none = c.in-NoNumber.ensures in (
+      [],
+      did_not_begin _ _ ends.NoNumber _ _ _ c.requires.greeted c.requires.no_points none.begins.0 none.never_falls (none.begins.1, (c.args.talk.now.feed.held ++ [], append_assoc greeting c.args.talk.now.feed.held [])) tt,
+      inl (record { none_answered = refl; unnumbered = none.begins.0; begins = none.begun }),
+    )
+
+pub returns-in-Memory-clause-session : goal.returns-in-Memory-clause-session
+returns-in-Memory-clause-session g c =
+    let none = c.in-Memory.ensures in (
+      [],
+      did_not_begin _ _ ends.Memory _ _ _ c.requires.greeted c.requires.no_points none.begins none.never_falls tt tt,
+      inl (record { none_answered = refl; unnumbered = none.begins; begins = none.begun }),
+    )
+
+pub returns-then-over-clause-session : goal.returns-then-over-clause-session
+returns-then-over-clause-session g c =
+    let begun = c.in-Begun.ensures in
+    let conv = c.converse-end.ensures in
+    let dead : c.converse-end.result.live ≡ false = c.if-over.true in
+    let h = g.P.Plays.seen c.converse-end.new.first c.converse-end.new.second in (
+      conv.conversed.0,
+      ends_over_under _ _ begun.limits _ _ conv.number
+          (state_by g.P.Plays.seen g.P.Plays.faults g.S.Source.left g.S.Source.fault_count g.K.Sink.taken g.K.Sink.fault_count c.args.first.now c.args.second.now c.args.source.now c.args.sink.now c.args.talk.now)
+          (state_by g.P.Plays.seen g.P.Plays.faults g.S.Source.left g.S.Source.fault_count g.K.Sink.taken g.K.Sink.fault_count c.converse-end.new.first c.converse-end.new.second c.converse-end.new.source c.converse-end.new.sink c.converse-end.new.talk)
+          (g.P.Plays.seen c.begin.new.first c.begin.new.second) (g.P.Plays.faults c.begin.new.first c.begin.new.second) (g.P.Plays.faults c.converse-end.new.first c.converse-end.new.second) begun.never_falls (le_refl _) begun.begins _ conv.conversed.0 conv.conversed.1
+          (live_still h h _ _ _ refl (sym conv.number) (conv.live ∙ dead)),
+      inr (record {
+        begun = c.begin.new.first;
+        begun' = c.begin.new.second;
+        left = c.converse-end.new.first;
+        left' = c.converse-end.new.second;
+        begins = begun.begun;
+        numbered = is_numbered _ _ _ begun.begins;
+        chain = conv.conversed.2;
+        last = inr (conv.live ∙ dead, refl, refl);
+      }),
+    )
+
+pub returns-clause-session : goal.returns-clause-session
+returns-clause-session g c =
+    let begun = c.in-Begun.ensures in
+    let conv = c.converse-end.ensures in
+    let alive : c.converse-end.result.live ≡ true = c.if-over.false in
+    let h = g.P.Plays.seen c.converse-end.new.first c.converse-end.new.second in
+    let after = g.P.Plays.seen c.end.new.first c.end.new.second in (
+      conv.conversed.0,
+      ends_live_under _ _ begun.limits _ _ (c.end.ensures.number ∙ conv.number)
+          (state_by g.P.Plays.seen g.P.Plays.faults g.S.Source.left g.S.Source.fault_count g.K.Sink.taken g.K.Sink.fault_count c.args.first.now c.args.second.now c.args.source.now c.args.sink.now c.args.talk.now)
+          (state_by g.P.Plays.seen g.P.Plays.faults g.S.Source.left g.S.Source.fault_count g.K.Sink.taken g.K.Sink.fault_count c.converse-end.new.first c.converse-end.new.second c.converse-end.new.source c.converse-end.new.sink c.converse-end.new.talk)
+          (g.P.Plays.seen c.begin.new.first c.begin.new.second) (g.P.Plays.faults c.begin.new.first c.begin.new.second) (g.P.Plays.faults c.end.new.first c.end.new.second) begun.never_falls c.end.ensures.never_falls begun.begins _ conv.conversed.0 conv.conversed.1 after
+          (live_still h h _ _ _ refl (sym conv.number) (conv.live ∙ alive)) (subst (λ (n : ℕ). EndsAt n h after) conv.number c.end.ensures.ends),
+      inr (record {
+        begun = c.begin.new.first;
+        begun' = c.begin.new.second;
+        left = c.converse-end.new.first;
+        left' = c.converse-end.new.second;
+        begins = begun.begun;
+        numbered = is_numbered _ _ _ begun.begins;
+        chain = conv.conversed.2;
+        last = inl (conv.live ∙ alive, c.end.ensures.ended);
+      }),
+    )

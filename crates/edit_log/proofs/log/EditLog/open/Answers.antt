@@ -1,8 +1,8 @@
 -- The log is read as it stands, and its end gate is closed behind what was read.
 use Rattle.std.proofs.Common.{◌≡◌, ℕ, List, refl, sym, subst}
 use Rattle.febe_data.specs.Plain.{plain_history}
-use Rattle.green_io.specs.declared.disk.Area.TheVariants as area
 use Rattle.green_io.specs.Disk.{WhereTold}
+use Rattle.green_io.specs.Areas.{is_log}
 use Rattle.green_io.proofs.Beside.{looked_others, then_others}
 use Rattle.edit_log.specs.Log.{gated, HasEntries, IsEnd}
 use Rattle.edit_log.specs.inside.Scan.{HasScanned}
@@ -57,12 +57,12 @@ returns-clause-closed g c =
 
 pub returns-in_default-close_end-clause-others : goal.returns-in_default-close_end-clause-others
 returns-in_default-close_end-clause-others g c =
-    then_others area.Log _ (g.D.Disk.state c.read_stable.new.disk) _ (g.met.D.Disk.is_disk c.read_stable.new.disk)
-    (looked_others area.Log _ _ c.read_stable.ensures.reads c.read_stable.ensures.crash)
+    then_others is_log _ (g.D.Disk.state c.read_stable.new.disk) _ (g.met.D.Disk.is_disk c.read_stable.new.disk)
+    (looked_others is_log _ _ c.read_stable.ensures.reads c.read_stable.ensures.crash)
     c.in_default-close_end.ensures.others
 
 pub returns-clause-others : goal.returns-clause-others
 returns-clause-others g c =
-    then_others area.Log _ (g.D.Disk.state c.read_stable.new.disk) _ (g.met.D.Disk.is_disk c.read_stable.new.disk)
-    (looked_others area.Log _ _ c.read_stable.ensures.reads c.read_stable.ensures.crash)
+    then_others is_log _ (g.D.Disk.state c.read_stable.new.disk) _ (g.met.D.Disk.is_disk c.read_stable.new.disk)
+    (looked_others is_log _ _ c.read_stable.ensures.reads c.read_stable.ensures.crash)
     c.in-Ok-close_end.ensures.others

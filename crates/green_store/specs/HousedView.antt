@@ -1,0 +1,16 @@
+-- What contracts see of a store that is housed with its disk.
+use Rattle.std.specs.Prelude.{IsSome, Option}
+use Rattle.febe_data.specs.Plain.{PlainEntry}
+use Rattle.green_io.specs.Disk.{DiskState}
+use Rattle.green_store.specs.Durable.{Keeps}
+use Rattle.green_store.specs.StoreView.{StoreView}
+
+-- the store, and its disk
+pub record HousedView (D : Type 0) : Type 0 where
+  pub store : StoreView
+  pub disk : D
+
+-- The disk is the one over which the store was opened: where it tells what it reads, it has the store's kept entries, and
+-- behind them the edit that is pending, if one is.
+abbrev pub IsOneDisk : DiskState → StoreView → Type 0
+IsOneDisk disk store = IsSome disk.reads → (pending : Option PlainEntry) × Keeps disk store pending

@@ -1,0 +1,67 @@
+-- What the steps of a session tell where a store plays them beside its disk.
+use Rattle.std.specs.Prelude.{◌≡◌, ℕ, ◌≤◌, Option}
+use Rattle.febe_data.specs.declared.request.Request.{Request}
+use Rattle.febe_data.specs.declared.reply.Reply.{Reply}
+use Rattle.febe_data.specs.Plain.{PlainEntry, plain_request, plain_reply}
+use Rattle.febe_data.specs.Validity.{IsRequest}
+use Rattle.green_io.specs.Areas.{is_log}
+use Rattle.green_io.specs.Disk.{DiskState, LeavesOnly, LeavesBut}
+use Rattle.world_rules.specs.Legal.{Exchange}
+use Rattle.green_store.specs.declared.step.Step.{Step}
+use Rattle.green_store.specs.declared.step.Step.TheVariants as steps
+use Rattle.green_store.specs.declared.step.StepAnswer.{StepAnswer}
+use Rattle.green_store.specs.declared.step.StepAnswer.TheVariants as answers
+use Rattle.green_store.specs.Durable.{has_risen, Keeps, HoldsStep, KeepsStep}
+use Rattle.green_store.specs.IsStep.{IsStep}
+use Rattle.green_store.specs.Steps.{Steps}
+use Rattle.green_store.specs.StoreView.{StoreView}
+use Rattle.green_top.specs.declared.beside.Serves.{Serves}
+
+-- the store made this step over its disk, with this answer, while the count of faults went from this to that
+pub record HasStepped (step : Step) (answer : StepAnswer) (store : StoreView) (disk : DiskState) (faults : ℕ) (store' : StoreView) (disk' : DiskState) (faults' : ℕ) : Type 0 where
+  pub is_step : IsStep store step store' answer (has_risen faults faults')
+  pub limits_stay : store'.limits ≡ store.limits
+  pub any_moment : (pending : Option PlainEntry) → Keeps disk store pending → LeavesOnly disk disk' (HoldsStep store pending step)
+  pub keeps : (pending : Option PlainEntry) → Keeps disk store pending → KeepsStep store pending step store' answer disk'
+  pub others : LeavesBut is_log disk disk'
+  pub never_falls : faults ≤ faults'
+
+-- the number of the session that an answer names, or 0
+abbrev pub number_in : StepAnswer → ℕ
+number_in (answers.Begun session) = session
+number_in other = 0
+
+module _ {D : Type 0} (state : D → DiskState) (faults : D → ℕ) where
+  -- so the step led from one store and disk to another
+  abbrev pub Stepped : Step → StepAnswer → Serves → D → Serves → D → Type 0
+  Stepped step answer serves disk serves' disk' = HasStepped step answer serves.store (state disk) (faults disk) serves'.store (state disk') (faults disk')
+
+  -- a Begin was made, and the session has the number of the answer
+  pub record HasBegunIn (serves : Serves) (disk : D) (serves' : Serves) (disk' : D) : Type 0 where
+    pub answer : StepAnswer
+    pub stepped : Stepped steps.Begin answer serves disk serves' disk'
+    pub number_is : serves'.session ≡ number_in answer
+
+  -- a valid request of the session was replied to in this exchange
+  pub record HasAskedIn (serves : Serves) (disk : D) (exchange : Exchange) (serves' : Serves) (disk' : D) : Type 0 where
+    pub request : Request
+    pub reply : Reply
+    pub point : ℕ
+    pub valid : IsRequest (plain_request request)
+    pub stepped : Stepped (steps.Ask serves.session request) (answers.Reply reply point) serves disk serves' disk'
+    pub legal : Steps serves.store.limits serves.session serves.store.history (plain_request request) (plain_reply reply) serves'.store.history (has_risen (faults disk) (faults disk'))
+    pub exchange_is : exchange ≡ record { request = plain_request request; reply = plain_reply reply; point = point; added = legal.added; rose = has_risen (faults disk) (faults disk') }
+    pub number_stays : serves'.session ≡ serves.session
+
+  -- a background step was made, which left the disk alone
+  pub record HasTendedIn (serves : Serves) (disk : D) (serves' : Serves) (disk' : D) : Type 0 where
+    pub answer : StepAnswer
+    pub stepped : Stepped steps.Background answer serves disk serves' disk'
+    pub number_stays : serves'.session ≡ serves.session
+    pub untouched : disk' ≡ disk
+
+  -- an End of the session was made
+  pub record HasEndedIn (serves : Serves) (disk : D) (serves' : Serves) (disk' : D) : Type 0 where
+    pub answer : StepAnswer
+    pub stepped : Stepped (steps.End serves.session) answer serves disk serves' disk'
+    pub number_stays : serves'.session ≡ serves.session

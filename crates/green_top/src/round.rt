@@ -1,0 +1,47 @@
+//! Background steps behind a lock.
+ghost use Rattle.history_lock.specs.Passes.{known, IsPassOf};
+ghost use Rattle.green_top.specs.Round.{HasMadeRound};
+
+use green_io::Disk;
+use green_store::{HouseJob, Housed, StepAnswer};
+use history_lock::{HistoryLock, Pass};
+use std::alloc::Global;
+use std::sync::Wait;
+
+/// What a background round came to.
+#[derive(Clone, Copy, Debug, PartialEq, Eq)]
+pub enum Round {
+    /// One step of the balancer was made in a tree.
+    Balanced,
+    /// The pages hold what the log holds. A store without pages never answers this.
+    Flushed,
+    /// The nodes that no tree reaches are gone.
+    Swept,
+    /// Nothing was to be put right.
+    Idle,
+    /// The disk failed while pages were written. A store without pages never answers this.
+    Disk,
+    /// There was no memory for what is to be put right.
+    Memory,
+}
+
+/// Makes one background step behind the lock, once it has it. Whatever comes of it, sessions go on as if it had not been made.
+pub fn background_round<R: Wait, D: Disk>(
+    rt: &R,
+    alloc: Global,
+    lock: &HistoryLock<Housed<D>>,
+    pass: &mut Pass<Housed<D>>,
+) -> Round
+    requires { IsPassOf lock.now pass.old }
+    ensures same_lock { IsPassOf lock.now pass.new }
+    ensures round { HasMadeRound (known pass.old) result (known pass.new) }
+{
+    let answer = lock.act(rt, alloc, pass, HouseJob::Background).answer;
+    match answer {
+        StepAnswer::Balanced => Round::Balanced,
+        StepAnswer::Swept => Round::Swept,
+        StepAnswer::Idle => Round::Idle,
+        StepAnswer::Memory => Round::Memory,
+        _ => unreachable!(),
+    }
+}

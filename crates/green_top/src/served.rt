@@ -1,0 +1,114 @@
+//! A session that a pass plays behind a lock.
+ghost use Rattle.std.specs.Prelude.{◌≡◌, ℕ};
+ghost use Rattle.history_lock.specs.Histories.{StartsWith};
+ghost use Rattle.history_lock.specs.Passes.{known, IsPassOf};
+ghost use Rattle.green_store.specs.Marks.{limits_in};
+ghost use Rattle.green_top.specs.Outcome.{IsRun};
+ghost use Rattle.green_top.specs.Served.{HasSatActs};
+ghost use Rattle.green_top.specs.inside.Conversation.{io_by};
+
+use crate::plays::{Beginning, Plays, Replied};
+use crate::session::serve;
+use crate::session_end::SessionEnd;
+use febe_data::{List, Request};
+use green_io::{Disk, Sink, Source};
+use green_store::{HouseJob, Housed, StepAnswer};
+use history_lock::{HistoryLock, Pass};
+use std::alloc::Global;
+use std::sync::Wait;
+
+/// Plays through a lock, behind which others play too.
+pub(crate) struct Behind<'a, R, D: Disk> {
+    rt: &'a R,
+    lock: &'a HistoryLock<Housed<D>>,
+}
+
+impl<R: Wait, D: Disk> Plays for Behind<'_, R, D> {
+    ghost use Rattle.green_top.specs.inside.Behind.{HasBegunBehind, HasAskedBehind, HasEndedBehind};
+
+    type First = Pass<Housed<D>>;
+
+    type Second = ();
+
+    ghost ready = { λ behind pass _. IsPassOf behind.lock.now pass };
+
+    ghost seen = { λ pass _. (known pass).seen };
+
+    ghost faults = { λ _ _. 0 };
+
+    ghost number = { λ pass. (known pass).number };
+
+    ghost limits = { λ pass. limits_in (known pass).fixed };
+
+    ghost begun = { λ pass _ after _. HasBegunBehind (known pass) (known after) };
+
+    ghost tells = { λ pass _ exchange after _. HasAskedBehind (known pass) exchange (known after) };
+
+    ghost tended = { λ pass _ after _. after ≡ pass };
+
+    ghost ended = { λ pass _ after _. HasEndedBehind (known pass) (known after) };
+
+    fn begin(&self, alloc: Global, first: &mut Pass<Housed<D>>, _second: &mut ()) -> Beginning {
+        let answer = self.lock.act(self.rt, alloc, first, HouseJob::Begin).answer;
+        match answer {
+            StepAnswer::Begun { session: _ } => Beginning::Begun,
+            StepAnswer::NoNumber => Beginning::NoNumber,
+            StepAnswer::Memory => Beginning::Memory,
+            _ => unreachable!(),
+        }
+    }
+
+    fn ask(
+        &self,
+        alloc: Global,
+        first: &mut Pass<Housed<D>>,
+        _second: &mut (),
+        request: Request,
+    ) -> Replied {
+        let job = HouseJob::Ask(request);
+        let answer = self.lock.act(self.rt, alloc, first, job).answer;
+        let StepAnswer::Reply { reply, point } = answer else {
+            unreachable!();
+        };
+        Replied { reply, point }
+    }
+
+    fn tend(&self, _alloc: Global, _first: &mut Pass<Housed<D>>, _second: &mut ()) {}
+
+    fn end(&self, alloc: Global, first: &mut Pass<Housed<D>>, _second: &mut ()) {
+        let _ended = self.lock.act(self.rt, alloc, first, HouseJob::End);
+    }
+}
+
+/// Serves one session, from its greeting to its end, behind a lock through which others are served at the same time. It does
+/// for one connection what a run does once it has opened: what the source gives is answered, each reply is written before
+/// more is read, and a session that began has its End. It waits for the lock before each of its plays, and makes no background
+/// step.
+///
+/// The points are one for each reply: the number of entries in the history behind it. Those that are in the list before go.
+pub fn serve_session<R: Wait, S: Source, K: Sink, D: Disk>(
+    rt: &R,
+    alloc: Global,
+    lock: &HistoryLock<Housed<D>>,
+    pass: &mut Pass<Housed<D>>,
+    source: &mut S,
+    sink: &mut K,
+    points: &mut List<u64>,
+) -> SessionEnd
+    requires pass { IsPassOf lock.now pass.old }
+    requires unnumbered { (known pass.old).number ≡ 0 }
+    ensures same_lock { IsPassOf lock.now pass.new }
+    ensures starts_with { StartsWith (known pass.new).seen (known pass.old).seen }
+    ensures fixed { (known pass.new).fixed ≡ (known pass.old).fixed }
+    ensures served { let io = io_by S.left S.fault_count K.taken K.fault_count in
+        (exchanges : _) × (bytes_read : ℕ)
+        × IsRun (limits_in (known pass.old).fixed) (known pass.new).number (io source.old sink.old 0) (io source.new sink.new 0) (known pass.new).seen exchanges points.new.items bytes_read result
+        × HasSatActs exchanges (known pass.old) (known pass.new) }
+{
+    let behind = Behind { rt, lock };
+    let mut nothing = ();
+    let served = serve(alloc, &behind, pass, &mut nothing, source, sink);
+    let Behind { rt: _, lock: _ } = behind;
+    *points = served.points;
+    served.end
+}

@@ -1,0 +1,4 @@
+pub mod Decimals
+pub mod Joins
+pub mod Forms
+pub mod Walks

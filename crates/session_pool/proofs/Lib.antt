@@ -1,0 +1,3 @@
+pub mod Servings
+pub mod Balances
+pub mod Standings

@@ -1,0 +1,10 @@
+use Rattle.std.proofs.Common.{ap, ◌∙◌, sym, subst, ◌≡◌, ◌<◌, arith}
+use Rattle.crossbeam_channel.specs.Claims.{view}
+use Rattle.session_pool.specs.inside.Rule.{traffic, all_parts}
+use Rattle.session_pool.proofs.Balances.{takes, learns, even}
+use Rattle.session_pool.proofs.gather.left_over.Goals as goal
+
+pub try_recv_as-requires-clause-rule : goal.try_recv_as-requires-clause-rule
+try_recv_as-requires-clause-rule g c =
+    let parts = ap (λ h. h.parts) c.loop.invariant.1 ∙ c.requires.all in
+    (takes _ _ (omega (arith, parts)), learns _ _)
