@@ -1,0 +1,15 @@
+pub mod Amid
+pub mod Answering
+pub mod Commits
+pub mod Gives
+pub mod Joining
+pub mod Journals
+pub mod Keeping
+pub mod Opens
+pub mod PageMaps
+pub mod PageReads
+pub mod Ranges
+pub mod RecordTests
+pub mod Recorded
+pub mod Spelled
+pub mod Steps

@@ -1,0 +1,9 @@
+pub use Rattle.green_io.specs.Areas
+pub use Rattle.green_io.specs.Disk
+pub use Rattle.green_io.specs.Outside
+pub mod Answers
+pub mod Images
+pub mod inside
+pub mod JournalBytes
+pub mod JournalView
+pub mod Pages

@@ -1,0 +1,4 @@
+pub mod Reading
+pub mod Phases
+pub mod Courses
+pub mod Opening
