@@ -1,10 +1,9 @@
 //! A server on a listener.
-ghost use Rattle.std.specs.Prelude.{◌≡◌, ℕ};
+ghost use Rattle.std.specs.Prelude.{◌≡◌};
 ghost use Rattle.std.specs.Thread.{IsSync, IsSend};
 ghost use Rattle.history_lock.specs.Histories.{StartsWith};
 ghost use Rattle.history_lock.specs.Passes.{known, IsPassOf};
-ghost use Rattle.session_pool.specs.Serving.{HasPooled};
-ghost use Rattle.green_store.specs.Marks.{owner_of};
+ghost use Rattle.green_listener.specs.Listened.{HasListened};
 
 use crate::connections::Connections;
 use crate::rounds::{ENDED, SERVING, start_rounds};
@@ -23,22 +22,32 @@ use std::thread;
 use std::thread::Threads;
 use std::time::Clock;
 
+// What is to be served, and in how many threads.
+#[derive(Drop)]
+struct Service {
+    listener: TcpListener,
+    sessions: Option<u32>,
+    workers: u32,
+}
+
 // Serves the connections, with a round behind each session where no thread makes them.
 fn serve_connections<R: Threads + Wait + Log + Sync, D: Disk + Send + Sync, G: Gate + Sync>(
     rt: &R,
     alloc: Global,
-    listener: TcpListener,
-    sessions: Option<u32>,
-    workers: u32,
+    service: Service,
     lock: &HistoryLock<Housed<D>>,
     pass: &mut Pass<Housed<D>>,
     gate: &G,
     makes_rounds: bool,
 ) -> u64
     requires { IsPassOf lock.now pass.old }
-    ensures same_lock { IsPassOf lock.now pass.new }
-    ensures pooled { (given : ℕ) × HasPooled owner_of (known pass.old) given result (known pass.new) }
+    ensures { HasListened lock.now pass.old result pass.new }
 {
+    let Service {
+        listener,
+        sessions,
+        workers,
+    } = service;
     let mut connections = Connections::new(listener, sessions);
     let worker = Sessions {
         log: rt,
@@ -74,12 +83,14 @@ pub fn serve_listener<R: Threads + Wait + Log + Sync, D: Disk + Send + Sync, G: 
     gate: &G,
 ) -> u64
     requires { IsPassOf lock.now pass.old }
-    ensures same_lock { IsPassOf lock.now pass.new }
-    ensures pooled { (given : ℕ) × HasPooled owner_of (known pass.old) given result (known pass.new) }
+    ensures { HasListened lock.now pass.old result pass.new }
 {
-    serve_connections(
-        rt, alloc, listener, sessions, workers, lock, pass, gate, false,
-    )
+    let service = Service {
+        listener,
+        sessions,
+        workers,
+    };
+    serve_connections(rt, alloc, service, lock, pass, gate, false)
 }
 
 // What comes out of a scope in which sessions were served.
@@ -98,9 +109,7 @@ fn serve_beside_rounds<
 >(
     rt: &'a R,
     alloc: Global,
-    listener: TcpListener,
-    sessions: Option<u32>,
-    workers: u32,
+    service: Service,
     lock: &'a HistoryLock<Housed<D>>,
     pass: Pass<Housed<D>>,
     background: Pass<Housed<D>>,
@@ -109,8 +118,7 @@ fn serve_beside_rounds<
 ) -> Served<Pass<Housed<D>>>
     requires pass { IsPassOf lock.now pass }
     requires background { IsPassOf lock.now background }
-    ensures same_lock { IsPassOf lock.now result.pass }
-    ensures seen { StartsWith (known result.pass).seen (known pass).seen }
+    ensures { HasListened lock.now pass result.count result.pass }
 {
     thread::scope(
         thread::scope_env(),
@@ -119,22 +127,11 @@ fn serve_beside_rounds<
             requires rows { IsSync R.row × IsSync D.row × IsSend D.row × IsSync G.row }
             requires pass { IsPassOf lock.now pass }
             requires background { IsPassOf lock.now background }
-            ensures same_lock { IsPassOf lock.entry.now result.pass }
-            ensures seen { StartsWith (known result.pass).seen (known pass).seen }
+            ensures { HasListened lock.entry.now pass result.count result.pass }
         {
             let has_rounds = start_rounds(scope, rt, alloc, lock, background, state);
             let mut pass = pass;
-            let count = serve_connections(
-                rt,
-                alloc,
-                listener,
-                sessions,
-                workers,
-                lock,
-                &mut pass,
-                gate,
-                !has_rounds,
-            );
+            let count = serve_connections(rt, alloc, service, lock, &mut pass, gate, !has_rounds);
             state.store(ENDED, SeqCst);
             Served { pass, count }
         },
@@ -158,15 +155,18 @@ pub fn serve_with_rounds<
     gate: &G,
 ) -> u64
     requires { IsPassOf lock.now pass.old }
-    ensures same_lock { IsPassOf lock.now pass.new }
+    ensures served { HasListened lock.now pass.old result pass.new }
     ensures seen { StartsWith (known pass.new).seen (known pass.old).seen }
 {
     let own = lock.new_pass(pass);
     let background = lock.new_pass(pass);
     let state = AtomicU64::new(SERVING);
-    let served = serve_beside_rounds(
-        rt, alloc, listener, sessions, workers, lock, own, background, gate, &state,
-    );
+    let service = Service {
+        listener,
+        sessions,
+        workers,
+    };
+    let served = serve_beside_rounds(rt, alloc, service, lock, own, background, gate, &state);
     let Served { pass: own, count } = served;
     lock.end_pass(pass, own);
     count

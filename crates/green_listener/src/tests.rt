@@ -100,3 +100,25 @@ fn one_client_breaks_off(rt: HostRuntime) -> Result<(), Fail> {
     assert!(rt; clients.join(&rt)?.as_str() == WRITER_REPLIES);
     Ok(())
 }
+
+#[test]
+fn a_listener_that_gives_no_connection(rt: HostRuntime) -> Result<(), Fail> {
+    let Ok((lock, mut pass)) = HistoryLock::new(rt.alloc(), house(rt.alloc())?) else {
+        panic!(rt; "there is memory for a lock")
+    };
+    let listener = TcpListener::bind(&rt, "127.0.0.1:0")?;
+    // No client comes, and nothing is waited for.
+    listener.set_nonblocking(true)?;
+    let served = serve_listener(
+        &rt,
+        rt.alloc(),
+        listener,
+        Some(1),
+        1,
+        &lock,
+        &mut pass,
+        &OpenGate,
+    );
+    assert!(rt; served == 0);
+    Ok(())
+}

@@ -1,6 +1,8 @@
 //! Serves sessions over TCP, all on the files of one folder.
 #![tactic(auto)]
 
+ghost use Rattle.std.specs.Prelude.{◌≡◌, ◌≤◌, ◌↔◌, false, IsTrue, MatchOption};
+
 mod lines;
 mod refusal;
 
@@ -55,6 +57,22 @@ fn announce(rt: HostRuntime, listener: &TcpListener, address: &str) -> io::Resul
     rt.stdout().flush()
 }
 
+/// Tells that the address cannot be listened on, or not any longer.
+fn not_listening(log: &impl Log, address: &str) -> Refusal {
+    info!(log; "cannot listen on {address}");
+    Refusal::NotListening
+}
+
+/// Whether so many connections are all that the server was to serve. Where no number was asked for they never are.
+fn are_all(served: u64, sessions: Option<u32>) -> bool
+    ensures { MatchOption sessions (result ≡ false) (λ number. IsTrue result ↔ (number ≤ served)) }
+{
+    match sessions {
+        Some(sessions) => served >= u64::from(sessions),
+        None => false,
+    }
+}
+
 /// Opens the store, listens, and serves until the server is done.
 fn serve<R: Threads + Wait + Clock + Log + Sync>(
     rt: HostRuntime,
@@ -67,12 +85,11 @@ fn serve<R: Threads + Wait + Clock + Log + Sync>(
     };
     let address = word_of(&words.address);
     let Ok(listener) = TcpListener::bind(&rt, address) else {
-        info!(runtime; "cannot listen on {address}");
-        return Err(Refusal::NotListening);
+        return Err(not_listening(runtime, address));
     };
     // There is nowhere left to tell of a line that cannot be written.
     let _ = announce(rt, &listener, address);
-    let _served = serve_with_rounds(
+    let served = serve_with_rounds(
         runtime,
         rt.alloc(),
         listener,
@@ -82,7 +99,11 @@ fn serve<R: Threads + Wait + Clock + Log + Sync>(
         &mut pass,
         &OpenGate,
     );
-    Ok(())
+    if are_all(served, words.sessions) {
+        Ok(())
+    } else {
+        Err(not_listening(runtime, address))
+    }
 }
 
 /// Reads the words and serves as they ask.

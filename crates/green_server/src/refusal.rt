@@ -1,17 +1,17 @@
-//! Why the server does not serve.
+//! Why the server does not serve, or no longer.
 
 use green_store::OpenFault;
 use server_words::WordsFault;
 use tumbler::Memory;
 
-/// Why the server ends before it serves.
+/// Why the server ends before it has served all.
 #[derive(Clone, Copy, Debug, PartialEq, Eq)]
 pub(crate) enum Refusal {
     /// The words are not the form of the program.
     Usage,
     /// The store could not be opened.
     Closed(OpenFault),
-    /// The address could not be listened on.
+    /// The address could not be listened on, or not any longer.
     NotListening,
 }
 

@@ -1,11 +1,12 @@
 -- Bytes that are read, pushed and counted, one piece after the other.
-use Rattle.std.proofs.Common.{inl, inr, ◌≡◌, ℕ, ◌+◌, ◌^◌, ◌<◌, ◌≤◌, Bool, true, false, List, [], ◌∷◌, ◌++◌, Option, length, refl, sym, ap, subst, ◌∙◌, append_assoc, arith}
+use Rattle.std.proofs.Common.{inl, inr, ◌≡◌, ℕ, ◌^◌, ◌<◌, ◌≤◌, Bool, true, false, List, [], ◌∷◌, ◌++◌, Option, length, refl, sym, ap, subst, ◌∙◌, append_assoc, arith}
 use Rattle.std.specs.Prelude.{◌==◌, if◌then◌else◌, Result, Ok, Err, is_err, OnErr}
 use Rattle.std.proofs.lemmas.Bool.{eqb-true, eqb-false}
 use Rattle.std.proofs.lemmas.List.{append-nil, length-append}
 use Rattle.std.specs.Io.KnownBytes.{Consumes, IsAtEnd}
-use Rattle.febe_feed.specs.FeedView.{with_piece, FeedView, later, Waits}
-use Rattle.green_session.specs.Taking.{TurnsView, ReadState, with_taken, IsWithin, EndsInRead, MayRead, IsCutOff, ReadsBytes, Comes}
+use Rattle.febe_fields.specs.Prefixes.{IsUnfinished}
+use Rattle.febe_feed.specs.FeedView.{with_piece, FeedView, later, Awaited, Waits}
+use Rattle.green_session.specs.Taking.{TurnsView, ReadState, with_taken, IsWithin, MayRead, IsCutOff, ReadsBytes, Comes}
 use Rattle.green_session.specs.inside.InputEnd.{answer_at_end}
 use Rattle.green_session.specs.declared.take.Taken.{Taken}
 use Rattle.green_session.specs.declared.take.Taken.TheVariants as take_answers
@@ -27,12 +28,13 @@ nothing_read now bound = record {
   pushed = ap (λ (bytes : List ℕ). record { greeted = now.feed.greeted; held = bytes; offset = now.feed.offset }) (sym (append-nil now.feed.held));
 }
 
--- the next read gave this piece, so many bytes, with turns that allow it
+-- the next read gave this piece, so many bytes, where the feed had nothing to give, with turns that allow it
 pub record NextRead (now : ReadState) (left : Option (List ℕ)) (faults : ℕ) (piece : List ℕ) (n : ℕ) : Type 0 where
   pub consumed : Consumes now.left left piece
   pub rises : now.faults ≤ faults
   pub count : n ≡ length piece
   pub most : n ≤ 4096
+  pub awaits_more : IsUnfinished (Awaited now.feed.greeted) now.feed.held
   pub allowed : now.turns.taken < now.turns.limit
   pub bound : now.turns.limit < 2 ^ 64
 
@@ -42,11 +44,12 @@ module _ (before now : ReadState) (h : HasRead before now) (left : Option (List 
       (omega (arith, ap (λ (t : TurnsView). t.taken) h.reads.counted, next.count, length-append h.read piece))
 
   -- below the limit the count is exact
-  within_more : IsWithin before.turns (h.read ++ piece)
+  within_more : IsWithin before.feed before.turns (h.read ++ piece)
   within_more = inr (record {
     earlier = h.read;
     last = piece;
     parts = refl;
+    awaits_more = subst (λ (f : FeedView). IsUnfinished (Awaited f.greeted) f.held) h.pushed next.awaits_more;
     below = omega (arith, next.allowed, next.bound, ap (λ (t : TurnsView). t.limit) h.reads.counted, ap (λ (t : TurnsView). t.taken) h.reads.counted);
     most = omega (arith, next.count, next.most);
   })

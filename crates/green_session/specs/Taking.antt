@@ -3,7 +3,8 @@ use Rattle.std.specs.Prelude.{◌≡◌, ◌≢◌, ℕ, ◌+◌, ◌⊎◌, ◌
 use Rattle.std.specs.Io.KnownBytes.{Consumes, IsAtEnd}
 use Rattle.green_io.specs.Outside.{HasRisen}
 use Rattle.febe_data.specs.Plain.{plain_request}
-use Rattle.febe_feed.specs.FeedView.{FeedView, later, with_piece, Greets, GivesRequest, IsWrong, Waits}
+use Rattle.febe_fields.specs.Prefixes.{IsUnfinished}
+use Rattle.febe_feed.specs.FeedView.{FeedView, later, with_piece, Awaited, Greets, GivesRequest, IsWrong, Waits}
 use Rattle.green_session.specs.declared.take.Taken.{Taken}
 use Rattle.green_session.specs.declared.take.Taken.TheVariants as take_answers
 
@@ -26,19 +27,20 @@ read_state left faults feed turns = record { left = left; faults = faults; feed 
 abbrev pub with_taken : TurnsView → ℕ → TurnsView
 with_taken turns n = record { limit = turns.limit; taken = later turns.taken n }
 
--- some bytes were read, the last of them by a read that was made where fewer than the limit were taken, and that
--- asks for at most 4,096
-pub record EndsInRead (turns : TurnsView) (read : List ℕ) : Type 0 where
+-- some bytes were read, the last of them by a read that was made where the feed had nothing to give and fewer than the
+-- limit were taken, and that asks for at most 4,096
+pub record EndsInRead (feed : FeedView) (turns : TurnsView) (read : List ℕ) : Type 0 where
   pub earlier : List ℕ
   pub last : List ℕ
   pub parts : read ≡ earlier ++ last
+  pub awaits_more : IsUnfinished (Awaited feed.greeted) (feed.held ++ earlier)
   pub below : turns.taken + length earlier < turns.limit
   pub most : length last ≤ 4096
 
--- These bytes may be read with the turns: none, or by reads that are made where fewer than the limit were taken.
--- What is below the limit at the last read was below it at those before.
-abbrev pub IsWithin : TurnsView → List ℕ → Type 0
-IsWithin turns read = (read ≡ []) ⊎ EndsInRead turns read
+-- These bytes may be read with the feed and the turns: none, or by reads that are made where the feed had nothing to give
+-- and fewer than the limit were taken. What waits, or is below the limit, at the last read did so at those before.
+abbrev pub IsWithin : FeedView → TurnsView → List ℕ → Type 0
+IsWithin feed turns read = (read ≡ []) ⊎ EndsInRead feed turns read
 
 -- fewer bytes than the limit were taken, so another read could be made
 abbrev pub MayRead : TurnsView → Type 0
@@ -56,7 +58,7 @@ pub record ReadsBytes (before after : ReadState) (read : List ℕ) : Type 0 wher
   pub consumed : Consumes before.left after.left read
   pub never_falls : before.faults ≤ after.faults
   pub counted : after.turns ≡ with_taken before.turns (length read)
-  pub within : IsWithin before.turns read
+  pub within : IsWithin before.feed before.turns read
 
 -- the cause of each answer, by what the feed gives once it has the bytes that were read
 abbrev pub Comes : Taken → ReadState → ReadState → List ℕ → Type 0

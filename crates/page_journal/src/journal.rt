@@ -75,6 +75,8 @@ impl PageJournal {
         let Ok(()) = carry_out(disk, &mut self.stage, record) else {
             return Err(PageFault::Disk);
         };
+        // So that the next commit does not hold two records.
+        self.kept = Text::new(alloc);
         Ok(())
     }
 

@@ -1,3 +1,4 @@
+use crate::words::command;
 use crate::{WordsFault, read_words, usage};
 use std::alloc::{AllocError, Global};
 use std::test::Fail;
@@ -31,7 +32,9 @@ fn too_many_workers(rt: HostRuntime) -> Result<(), Fail> {
 
 #[test]
 fn usage_text(rt: HostRuntime) -> Result<(), Fail> {
+    let mut reader = command(rt.alloc())?;
+    let rendered = reader.render_usage()?;
     let text = usage(rt.alloc())?;
-    assert!(rt; text.as_str() == "Usage: green_server <FOLDER> <ADDRESS> <WORKERS> [SESSIONS]");
+    assert!(rt; text.as_str() == rendered.as_str());
     Ok(())
 }

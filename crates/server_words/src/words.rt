@@ -1,5 +1,5 @@
 //! The words of a command line.
-ghost use Rattle.std.specs.Prelude.{◌≡◌, map, string_bytes, IfOk, IfErr, IfSome, IfNone};
+ghost use Rattle.std.specs.Prelude.{◌≡◌, map, codes, string_bytes, IfOk, IfErr, IfSome, IfNone};
 ghost use Rattle.server_words.specs.Words.{is_folder, AreWords, AreNoWords, NameServer};
 ghost use Rattle.server_words.specs.Read.{IsForm, NameNoServer, meaning_of};
 ghost use Rattle.server_words.specs.Command.{server_app, AreMatches};
@@ -10,6 +10,8 @@ use crate::number::number_within;
 use clap::{Arg, ArgMatches, Command, Error};
 use std::alloc::{AllocError, Global};
 use tumbler::{Memory, Text};
+
+const USAGE: &str = "Usage: green_server <FOLDER> <ADDRESS> <WORKERS> [SESSIONS]";
 
 /// What the words of a command line ask for.
 #[derive(Drop)]
@@ -86,7 +88,7 @@ fn form_in(words: &[String]) -> Option<Form>
 }
 
 /// The command that reads the words.
-fn command<'a>(alloc: Global) -> Result<Command<'a>, AllocError>
+pub(crate) fn command<'a>(alloc: Global) -> Result<Command<'a>, AllocError>
     ensures { IfOk result (λ command. app_of command ≡ server_app) }
 {
     let folder = Arg::new(alloc, "FOLDER").required(true);
@@ -151,12 +153,13 @@ pub fn read_words(alloc: Global, words: &[String]) -> Result<ServerWords, WordsF
     }
 }
 
-/// The usage text of the command.
+/// The usage text of the command. It is spelled here, since `clap` does not promise what its own says.
 ///
 /// # Errors
 ///
 /// `Memory` where there was none to write it.
-pub fn usage(alloc: Global) -> Result<String, Memory> {
-    let mut reader = command(alloc)?;
-    Ok(reader.render_usage()?)
+pub fn usage(alloc: Global) -> Result<String, Memory>
+    ensures { IfOk result (λ text. string_bytes text ≡ codes "Usage: green_server <FOLDER> <ADDRESS> <WORKERS> [SESSIONS]") }
+{
+    Ok(String::from_str(alloc, USAGE)?)
 }

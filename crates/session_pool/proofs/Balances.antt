@@ -6,7 +6,6 @@ use lib.ListN.{get_elem?}
 use Rattle.atomic_table.proofs.Lists.{at_set, at_snoc}
 use Rattle.crossbeam_channel.specs.Fifo.{Pushes, Pops, Forks, Merges, Learns, Held}
 use Rattle.session_pool.specs.declared.traffic.Message.{Message}
-use Rattle.session_pool.specs.declared.traffic.Message.TheVariants.{Stop}
 use Rattle.session_pool.specs.declared.traffic.Traffic.{Traffic}
 use Rattle.session_pool.specs.inside.Rule.{all_parts, traffic, united, total, weight, jobs_in, sending, taking, KnowsAll, IsBalanced}
 

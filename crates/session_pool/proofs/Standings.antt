@@ -1,5 +1,5 @@
 -- How far the pool has come after each of its steps.
-use Rattle.std.proofs.Common.{◌≡◌, ℕ, ◌+◌, List, [], ◌∷◌, ◌++◌, length, sym, refl, ap, ◌∙◌, subst, arith}
+use Rattle.std.proofs.Common.{◌≡◌, ℕ, ◌+◌, [], ◌∷◌, length, sym, refl, ap, ◌∙◌, subst, arith}
 use Rattle.history_lock.specs.declared.view.View.{View}
 use Rattle.history_lock.specs.Passes.{newcomer, HasTakenIn}
 use Rattle.session_pool.specs.declared.traffic.Traffic.{Traffic}
@@ -7,7 +7,7 @@ use Rattle.session_pool.specs.Counts.{saturated, raised}
 use Rattle.session_pool.specs.Serving.{HasServed, HasTold, HasPooled}
 use Rattle.session_pool.specs.inside.Rule.{traffic, united, all_parts}
 use Rattle.session_pool.specs.inside.Work.{HasWorked, Stands}
-use Rattle.session_pool.proofs.Servings.{served_none, served_by_another, served_both, told_none, told_one, told_both}
+use Rattle.session_pool.proofs.Servings.{served_none, served_by_another, told_none, told_one, told_both}
 
 module _ {E : Type 0} (owner : E → ℕ) where
   as_many : (v w : View E) (jobs jobs' count : ℕ) → jobs ≡ jobs' → HasTold owner v jobs count w → HasTold owner v jobs' count w

@@ -1,5 +1,5 @@
 -- What a pass knows after jobs were served with passes of their own, which it took in.
-use Rattle.std.specs.Prelude.{◌≡◌, ◌+◌, ℕ, List, [], ◌++◌, length, All, flat_map}
+use Rattle.std.specs.Prelude.{◌≡◌, ℕ, List, ◌++◌, length, All, flat_map}
 use Rattle.history_lock.specs.declared.view.View.{View}
 use Rattle.history_lock.specs.Histories.{StartsWith, Extends}
 use Rattle.history_lock.specs.Passes.{all_ended}

@@ -4,7 +4,7 @@ ghost use Rattle.crossbeam_channel.specs.Claims.{view, IsSeatAt};
 ghost use Rattle.crossbeam_channel.specs.Ends.{sends_on, receives_on};
 ghost use Rattle.session_pool.specs.Counts.{raised};
 ghost use Rattle.session_pool.specs.inside.Rule.{traffic, all_parts};
-ghost use Rattle.session_pool.specs.inside.Work.{HasWorked, GoesOn};
+ghost use Rattle.session_pool.specs.inside.Work.{IsPlaced, IsWorkers, GoesOn};
 
 use crate::accept::Accept;
 use crate::gate::Gate;
@@ -84,13 +84,11 @@ fn send_or_serve<R: Wait, L: Passes<Pass = P>, J: Drop, W: Serve<L, J, Tally = Y
     number: u64,
     job: J,
 ) -> Worked<P, Seat<J>, Y>
-    requires lock { L.is_of lock.now own.pass }
-    requires channel { IsSeatAt (sends_on to.now) own.seat }
+    requires placed { IsPlaced (L.is_of lock.now) (IsSeatAt (sends_on to.now)) own }
     requires part { 0 < (view own.seat).parts }
-    ensures same_lock { L.is_of lock.now result.pass }
-    ensures channel { IsSeatAt (sends_on to.now) result.seat }
+    ensures placed { IsPlaced (L.is_of lock.now) (IsSeatAt (sends_on to.now)) result }
     ensures parts { (view result.seat).parts ≡ (view own.seat).parts }
-    ensures one { (given more : ℕ) → more ≡ raised given → GoesOn L.owner (L.knows own.pass) given (W.count own.tally) (view own.seat) (L.knows result.pass) more (W.count result.tally) (view result.seat) }
+    ensures one { (given more : ℕ) → more ≡ raised given → GoesOn L.owner L.knows W.count own given result more }
 {
     let Worked {
         mut pass,
@@ -128,14 +126,12 @@ fn feed<
     mut own: Worked<P, Seat<J>, Y>,
     running: bool,
 ) -> Worked<P, Seat<J>, Y>
-    requires lock { L.is_of lock.now own.pass }
-    requires channel { IsSeatAt (sends_on to.now) own.seat }
+    requires placed { IsPlaced (L.is_of lock.now) (IsSeatAt (sends_on to.now)) own }
     requires part { 0 < (view own.seat).parts }
-    ensures same_lock { L.is_of lock.now result.pass }
-    ensures channel { IsSeatAt (sends_on to.now) result.seat }
+    ensures placed { IsPlaced (L.is_of lock.now) (IsSeatAt (sends_on to.now)) result }
     ensures parts { (view result.seat).parts ≡ (view own.seat).parts }
     ensures ended { A.has_ended accept.new ≡ true }
-    ensures all { GoesOn L.owner (L.knows own.pass) (A.given_count accept.old) (W.count own.tally) (view own.seat) (L.knows result.pass) (A.given_count accept.new) (W.count result.tally) (view result.seat) }
+    ensures all { GoesOn L.owner L.knows W.count own (A.given_count accept.old) result (A.given_count accept.new) }
 {
     for _ in rt.forever() {
         let (number, job) = match next_given::<R, J, A>(rt, alloc, accept) {
@@ -168,14 +164,12 @@ pub(crate) fn feed_and_stop<
     own: Worked<P, Seat<J>, Y>,
     workers: u32,
 ) -> Worked<P, Seat<J>, Y>
-    requires lock { L.is_of lock.now own.pass }
-    requires channel { IsSeatAt (sends_on to.now) own.seat }
+    requires placed { IsPlaced (L.is_of lock.now) (IsSeatAt (sends_on to.now)) own }
     requires part { 0 < (view own.seat).parts }
-    ensures same_lock { L.is_of lock.now result.pass }
-    ensures channel { IsSeatAt (sends_on to.now) result.seat }
+    ensures placed { IsPlaced (L.is_of lock.now) (IsSeatAt (sends_on to.now)) result }
     ensures parts { (view result.seat).parts ≡ (view own.seat).parts }
     ensures ended { A.has_ended accept.new ≡ true }
-    ensures all { GoesOn L.owner (L.knows own.pass) (A.given_count accept.old) (W.count own.tally) (view own.seat) (L.knows result.pass) (A.given_count accept.new) (W.count result.tally) (view result.seat) }
+    ensures all { GoesOn L.owner L.knows W.count own (A.given_count accept.old) result (A.given_count accept.new) }
 {
     let running = workers > 0;
     let fed = feed(rt, alloc, lock, to, worker, gate, accept, own, running);
@@ -196,15 +190,13 @@ pub(crate) fn take_in<L: Passes<Pass = P>, J: Drop, W: Serve<L, J, Tally = Y>, P
     own: Worked<P, Seat<J>, Y>,
     other: Worked<P, Seat<J>, Y>,
 ) -> Worked<P, Seat<J>, Y>
-    requires lock { L.is_of lock.now own.pass × L.is_of lock.now other.pass }
-    requires channel { IsSeatAt (sends_on to.now) own.seat }
-    requires other_channel { IsSeatAt (sends_on to.now) other.seat }
+    requires placed { IsPlaced (L.is_of lock.now) (IsSeatAt (sends_on to.now)) own }
+    requires other { IsPlaced (L.is_of lock.now) (IsSeatAt (sends_on to.now)) other }
     requires part { 0 < (view own.seat).parts }
-    requires worked { HasWorked L.owner (L.knows other.pass) (W.count other.tally) (view other.seat) }
-    ensures same_lock { L.is_of lock.now result.pass }
-    ensures channel { IsSeatAt (sends_on to.now) result.seat }
+    requires worked { IsWorkers L.owner L.knows W.count other }
+    ensures placed { IsPlaced (L.is_of lock.now) (IsSeatAt (sends_on to.now)) result }
     ensures parts { (view result.seat).parts ≡ (view own.seat).parts + 1 }
-    ensures all { (given : ℕ) → GoesOn L.owner (L.knows own.pass) given (W.count own.tally) (view own.seat) (L.knows result.pass) given (W.count result.tally) (view result.seat) }
+    ensures all { (given : ℕ) → GoesOn L.owner L.knows W.count own given result given }
 {
     let Worked {
         mut pass,
@@ -257,12 +249,11 @@ pub(crate) fn drain<
     gate: &G,
     own: Worked<P, Seat<J>, Y>,
 ) -> Worked<P, Seat<J>, Y>
-    requires lock { L.is_of lock.now own.pass }
-    requires channel { IsSeatAt (receives_on from.now) own.seat }
+    requires placed { IsPlaced (L.is_of lock.now) (IsSeatAt (receives_on from.now)) own }
     requires parts { (view own.seat).parts ≡ all_parts }
     ensures same_lock { L.is_of lock.now result.pass }
     ensures even { (view result.seat).sent ≡ (view result.seat).taken }
-    ensures all { (given : ℕ) → GoesOn L.owner (L.knows own.pass) given (W.count own.tally) (view own.seat) (L.knows result.pass) given (W.count result.tally) (view result.seat) }
+    ensures all { (given : ℕ) → GoesOn L.owner L.knows W.count own given result given }
 {
     let Worked {
         mut pass,

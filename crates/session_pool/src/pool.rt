@@ -1,9 +1,9 @@
 //! The pool.
-ghost use Rattle.std.specs.Prelude.{◌≡◌, ◌+◌, ◌<◌, ℕ, true};
+ghost use Rattle.std.specs.Prelude.{◌≡◌, ◌+◌, ◌<◌, true};
 ghost use Rattle.crossbeam_channel.specs.Claims.{view, IsSeatAt};
 ghost use Rattle.crossbeam_channel.specs.Ends.{sends_on, receives_on};
-ghost use Rattle.history_lock.specs.declared.view.View.{View};
 ghost use Rattle.session_pool.specs.inside.Rule.{traffic, all_parts};
+ghost use Rattle.session_pool.specs.inside.Work.{IsPlaced};
 ghost use Rattle.session_pool.specs.Serving.{HasPooled};
 
 use crate::accept::Accept;
@@ -80,9 +80,8 @@ fn pool<
     accept: &mut A,
     own: Worked<P, Seat<J>, Y>,
 ) -> Worked<P, Seat<J>, Y>
-    requires lock { L.is_of lock.now own.pass }
     requires ends { receives_on from.now ≡ sends_on to.now }
-    requires channel { IsSeatAt (sends_on to.now) own.seat }
+    requires placed { IsPlaced (L.is_of lock.now) (IsSeatAt (sends_on to.now)) own }
     requires seat { view own.seat ≡ traffic all_parts 0 0 }
     requires count { W.count own.tally ≡ 0 }
     requires given { A.given_count accept.old ≡ 0 }

@@ -1,5 +1,5 @@
 //! Jobs that one thread serves.
-ghost use Rattle.std.specs.Prelude.{◌≡◌, ℕ, [], ◌∷◌};
+ghost use Rattle.std.specs.Prelude.{◌≡◌, [], ◌∷◌};
 ghost use Rattle.session_pool.specs.Counts.{raised};
 ghost use Rattle.session_pool.specs.Serving.{HasServed};
 

@@ -1,9 +1,9 @@
 //! What a worker does, and what it brings back.
-ghost use Rattle.std.specs.Prelude.{◌≡◌, ◌+◌, ℕ, MatchOption};
+ghost use Rattle.std.specs.Prelude.{◌≡◌, ◌+◌, MatchOption};
 ghost use Rattle.crossbeam_channel.specs.Claims.{view, IsSeatAt};
 ghost use Rattle.crossbeam_channel.specs.Ends.{receives_on};
 ghost use Rattle.session_pool.specs.inside.Rule.{traffic};
-ghost use Rattle.session_pool.specs.inside.Work.{HasWorked};
+ghost use Rattle.session_pool.specs.inside.Work.{IsPlaced, IsWorkers};
 
 use crate::gate::Gate;
 use crate::passes::Passes;
@@ -40,11 +40,11 @@ pub(crate) struct OfThese<L, C, W> {
 
 impl<L: Passes<Pass = P>, J: Drop, W: Serve<L, J, Tally = Y>, P, Y> Promise<Worked<P, Seat<J>, Y>>
     for OfThese<L, Incoming<J>, W> {
-    ghost use Rattle.crossbeam_channel.specs.Claims.{view, IsSeatAt};
+    ghost use Rattle.crossbeam_channel.specs.Claims.{IsSeatAt};
     ghost use Rattle.crossbeam_channel.specs.Ends.{receives_on};
-    ghost use Rattle.session_pool.specs.inside.Work.{HasWorked};
+    ghost use Rattle.session_pool.specs.inside.Work.{IsPlaced, IsWorkers};
 
-    ghost kept_by = { λ p r. L.is_of p.lock.value r.pass × IsSeatAt (receives_on p.from.value) r.seat × HasWorked L.owner (L.knows r.pass) (W.count r.tally) (view r.seat) };
+    ghost kept_by = { λ p r. IsPlaced (L.is_of p.lock.value) (IsSeatAt (receives_on p.from.value)) r × IsWorkers L.owner L.knows W.count r };
 }
 
 // The next job from the channel, for which it waits. `None` where the worker is to stop.
@@ -70,12 +70,10 @@ pub(crate) fn work<R: Wait, L: Passes<Pass = P>, J: Drop, W: Serve<L, J, Tally =
     gate: &G,
     own: Worked<P, Seat<J>, Y>,
 ) -> Worked<P, Seat<J>, Y>
-    requires lock { L.is_of lock.now own.pass }
-    requires channel { IsSeatAt (receives_on from.now) own.seat }
-    requires worked { HasWorked L.owner (L.knows own.pass) (W.count own.tally) (view own.seat) }
-    ensures same_lock { L.is_of lock.now result.pass }
-    ensures channel { IsSeatAt (receives_on from.now) result.seat }
-    ensures worked { HasWorked L.owner (L.knows result.pass) (W.count result.tally) (view result.seat) }
+    requires placed { IsPlaced (L.is_of lock.now) (IsSeatAt (receives_on from.now)) own }
+    requires worked { IsWorkers L.owner L.knows W.count own }
+    ensures placed { IsPlaced (L.is_of lock.now) (IsSeatAt (receives_on from.now)) result }
+    ensures worked { IsWorkers L.owner L.knows W.count result }
 {
     let Worked {
         mut pass,

@@ -4,7 +4,7 @@ ghost use Rattle.std.specs.Thread.{IsSync, IsSend};
 ghost use Rattle.crossbeam_channel.specs.Claims.{view, IsSeatAt};
 ghost use Rattle.crossbeam_channel.specs.Ends.{sends_on, receives_on};
 ghost use Rattle.session_pool.specs.inside.Rule.{traffic, all_parts};
-ghost use Rattle.session_pool.specs.inside.Work.{HasWorked, GoesOn};
+ghost use Rattle.session_pool.specs.inside.Work.{IsPlaced, IsWorkers, GoesOn};
 
 use crate::accept::Accept;
 use crate::gate::Gate;
@@ -51,12 +51,10 @@ fn work_unless_refused<
     index: u32,
     own: Worked<P, Seat<J>, Y>,
 ) -> Worked<P, Seat<J>, Y>
-    requires lock { L.is_of lock.now own.pass }
-    requires channel { IsSeatAt (receives_on from.now) own.seat }
-    requires worked { HasWorked L.owner (L.knows own.pass) (W.count own.tally) (view own.seat) }
-    ensures same_lock { L.is_of lock.now result.pass }
-    ensures channel { IsSeatAt (receives_on from.now) result.seat }
-    ensures worked { HasWorked L.owner (L.knows result.pass) (W.count result.tally) (view result.seat) }
+    requires placed { IsPlaced (L.is_of lock.now) (IsSeatAt (receives_on from.now)) own }
+    requires worked { IsWorkers L.owner L.knows W.count own }
+    ensures placed { IsPlaced (L.is_of lock.now) (IsSeatAt (receives_on from.now)) result }
+    ensures worked { IsWorkers L.owner L.knows W.count result }
 {
     if refused.load(SeqCst) == u64::from(index) {
         return own;
@@ -90,13 +88,11 @@ fn start_worker<
     PromisedHandle<Worked<P, Seat<J>, Y>, OfThese<L, Incoming<J>, W>>,
     Worked<P, Seat<J>, Y>,
 >
-    requires lock { L.is_of lock.now own.pass }
-    requires channel { IsSeatAt (receives_on from.now) own.seat }
-    requires worked { HasWorked L.owner (L.knows own.pass) (W.count own.tally) (view own.seat) }
+    requires placed { IsPlaced (L.is_of lock.now) (IsSeatAt (receives_on from.now)) own }
+    requires worked { IsWorkers L.owner L.knows W.count own }
     ensures ok { IfOk result (λ h. (h.promise.lock.value ≡ lock.now) × (h.promise.from.value ≡ from.now)) }
-    ensures same_lock { IfErr result (λ back. L.is_of lock.now back.pass) }
-    ensures channel { IfErr result (λ back. IsSeatAt (receives_on from.now) back.seat) }
-    ensures worked { IfErr result (λ back. HasWorked L.owner (L.knows back.pass) (W.count back.tally) (view back.seat)) }
+    ensures placed { IfErr result (IsPlaced (L.is_of lock.now) (IsSeatAt (receives_on from.now))) }
+    ensures worked { IfErr result (IsWorkers L.owner L.knows W.count) }
 {
     let promise = OfThese {
         lock: Snapshot::of(lock),
@@ -106,12 +102,10 @@ fn start_worker<
     let started = scope.spawn_with(
         promise,
         move || -> Worked<P, Seat<J>, Y>
-            requires lock { L.is_of lock.now own.pass }
-            requires channel { IsSeatAt (receives_on from.now) own.seat }
-            requires worked { HasWorked L.owner (L.knows own.pass) (W.count own.tally) (view own.seat) }
-            ensures same_lock { L.is_of lock.entry.now result.pass }
-            ensures channel { IsSeatAt (receives_on from.entry.now) result.seat }
-            ensures worked { HasWorked L.owner (L.knows result.pass) (W.count result.tally) (view result.seat) }
+            requires placed { IsPlaced (L.is_of lock.now) (IsSeatAt (receives_on from.now)) own }
+            requires worked { IsWorkers L.owner L.knows W.count own }
+            ensures placed { IsPlaced (L.is_of lock.entry.now) (IsSeatAt (receives_on from.entry.now)) result }
+            ensures worked { IsWorkers L.owner L.knows W.count result }
         { work_unless_refused(rt, alloc, lock, from, worker, gate, refused, index, own) },
     );
     match started {
@@ -130,15 +124,13 @@ fn new_worker<L: Passes<Pass = P>, J: Drop, W: Serve<L, J, Tally = Y>, P, Y>(
     worker: &W,
     own: &mut Worked<P, Seat<J>, Y>,
 ) -> Worked<P, Seat<J>, Y>
-    requires lock { L.is_of lock.now own.old.pass }
-    requires channel { IsSeatAt (sends_on to.now) own.old.seat }
+    requires placed { IsPlaced (L.is_of lock.now) (IsSeatAt (sends_on to.now)) own.old }
     requires parts { 1 < (view own.old.seat).parts }
-    ensures same_lock { L.is_of lock.now result.pass × L.is_of lock.now own.new.pass }
-    ensures same_channel { IsSeatAt (sends_on to.now) own.new.seat }
-    ensures channel { IsSeatAt (sends_on to.now) result.seat }
-    ensures worked { HasWorked L.owner (L.knows result.pass) (W.count result.tally) (view result.seat) }
+    ensures same { IsPlaced (L.is_of lock.now) (IsSeatAt (sends_on to.now)) own.new }
+    ensures placed { IsPlaced (L.is_of lock.now) (IsSeatAt (sends_on to.now)) result }
+    ensures worked { IsWorkers L.owner L.knows W.count result }
     ensures parts { (view own.new.seat).parts + 1 ≡ (view own.old.seat).parts }
-    ensures all { (given : ℕ) → GoesOn L.owner (L.knows own.old.pass) given (W.count own.old.tally) (view own.old.seat) (L.knows own.new.pass) given (W.count own.new.tally) (view own.new.seat) }
+    ensures all { (given : ℕ) → GoesOn L.owner L.knows W.count own.old given own.new given }
 {
     let pass = lock.another(&mut own.pass);
     let seat = to.another::<Cut>(&mut own.seat);
@@ -163,15 +155,13 @@ fn join_worker<
     own: Worked<P, Seat<J>, Y>,
     handle: PromisedHandle<Worked<P, Seat<J>, Y>, OfThese<L, Incoming<J>, W>>,
 ) -> Worked<P, Seat<J>, Y>
-    requires lock { L.is_of lock.now own.pass }
     requires ends { receives_on from.now ≡ sends_on to.now }
-    requires channel { IsSeatAt (sends_on to.now) own.seat }
+    requires placed { IsPlaced (L.is_of lock.now) (IsSeatAt (sends_on to.now)) own }
     requires part { 0 < (view own.seat).parts }
     requires handle { (handle.promise.lock.value ≡ lock.now) × (handle.promise.from.value ≡ from.now) }
-    ensures same_lock { L.is_of lock.now result.pass }
-    ensures channel { IsSeatAt (sends_on to.now) result.seat }
+    ensures placed { IsPlaced (L.is_of lock.now) (IsSeatAt (sends_on to.now)) result }
     ensures parts { (view result.seat).parts ≡ (view own.seat).parts + 1 }
-    ensures all { (given : ℕ) → GoesOn L.owner (L.knows own.pass) given (W.count own.tally) (view own.seat) (L.knows result.pass) given (W.count result.tally) (view result.seat) }
+    ensures all { (given : ℕ) → GoesOn L.owner L.knows W.count own given result given }
 {
     take_in(lock, to, worker, own, handle.join(rt))
 }
@@ -203,16 +193,14 @@ fn with_workers<
     accept: &mut A,
     mut own: Worked<P, Seat<J>, Y>,
 ) -> Worked<P, Seat<J>, Y>
-    requires lock { L.is_of lock.now own.pass }
     requires ends { receives_on from.now ≡ sends_on to.now }
-    requires channel { IsSeatAt (sends_on to.now) own.seat }
+    requires placed { IsPlaced (L.is_of lock.now) (IsSeatAt (sends_on to.now)) own }
     requires parts { left < (view own.seat).parts }
     requires few { left + started < 2 ^ 32 }
-    ensures same_lock { L.is_of lock.now result.pass }
-    ensures channel { IsSeatAt (sends_on to.now) result.seat }
+    ensures placed { IsPlaced (L.is_of lock.now) (IsSeatAt (sends_on to.now)) result }
     ensures parts { (view result.seat).parts ≡ (view own.seat).parts }
     ensures ended { A.has_ended accept.new ≡ true }
-    ensures all { GoesOn L.owner (L.knows own.pass) (A.given_count accept.old) (W.count own.tally) (view own.seat) (L.knows result.pass) (A.given_count accept.new) (W.count result.tally) (view result.seat) }
+    ensures all { GoesOn L.owner L.knows W.count own (A.given_count accept.old) result (A.given_count accept.new) }
 {
     if left == 0 {
         return feed_and_stop(rt, alloc, lock, to, worker, gate, accept, own, started);
@@ -269,15 +257,13 @@ pub(crate) fn run_workers<
     workers: u32,
     lent: Lent<'a, A, Worked<P, Seat<J>, Y>>,
 ) -> Lent<'a, A, Worked<P, Seat<J>, Y>>
-    requires lock { L.is_of lock.now lent.own.pass }
     requires ends { receives_on from.now ≡ sends_on to.now }
-    requires channel { IsSeatAt (sends_on to.now) lent.own.seat }
+    requires placed { IsPlaced (L.is_of lock.now) (IsSeatAt (sends_on to.now)) lent.own }
     requires parts { (view lent.own.seat).parts ≡ all_parts }
-    ensures same_lock { L.is_of lock.now result.own.pass }
-    ensures channel { IsSeatAt (sends_on to.now) result.own.seat }
+    ensures placed { IsPlaced (L.is_of lock.now) (IsSeatAt (sends_on to.now)) result.own }
     ensures parts { (view result.own.seat).parts ≡ all_parts }
     ensures ended { A.has_ended result.accept.now ≡ true }
-    ensures all { GoesOn L.owner (L.knows lent.entry.own.pass) (A.given_count lent.entry.accept.now) (W.count lent.entry.own.tally) (view lent.entry.own.seat) (L.knows result.own.pass) (A.given_count result.accept.now) (W.count result.own.tally) (view result.own.seat) }
+    ensures all { GoesOn L.owner L.knows W.count lent.entry.own (A.given_count lent.entry.accept.now) result.own (A.given_count result.accept.now) }
     ensures lent { result.accept.ghost_name ≡ lent.entry.accept.ghost_name }
 {
     thread::scope(
@@ -285,16 +271,14 @@ pub(crate) fn run_workers<
         rt,
         move |scope| -> Lent<A, Worked<P, Seat<J>, Y>>
             requires rows { IsSync R.row × IsSync L.row × IsSend J.row × IsSync W.row × IsSync G.row × IsSend P.row × IsSend Y.row }
-            requires lock { L.is_of lock.now lent.own.pass }
             requires ends { receives_on from.now ≡ sends_on to.now }
-            requires channel { IsSeatAt (sends_on to.now) lent.own.seat }
+            requires placed { IsPlaced (L.is_of lock.now) (IsSeatAt (sends_on to.now)) lent.own }
             requires parts { (view lent.own.seat).parts ≡ all_parts }
             requires workers { workers < 2 ^ 32 }
-            ensures same_lock { L.is_of lock.entry.now result.own.pass }
-            ensures channel { IsSeatAt (sends_on to.entry.now) result.own.seat }
+            ensures placed { IsPlaced (L.is_of lock.entry.now) (IsSeatAt (sends_on to.entry.now)) result.own }
             ensures parts { (view result.own.seat).parts ≡ all_parts }
             ensures ended { A.has_ended result.accept.now ≡ true }
-            ensures all { GoesOn L.owner (L.knows lent.entry.own.pass) (A.given_count lent.entry.accept.now) (W.count lent.entry.own.tally) (view lent.entry.own.seat) (L.knows result.own.pass) (A.given_count result.accept.now) (W.count result.own.tally) (view result.own.seat) }
+            ensures all { GoesOn L.owner L.knows W.count lent.entry.own (A.given_count lent.entry.accept.now) result.own (A.given_count result.accept.now) }
             ensures lent { result.accept.ghost_name ≡ lent.entry.accept.ghost_name }
         {
             let Lent { accept, own } = lent;

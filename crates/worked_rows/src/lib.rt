@@ -22,6 +22,8 @@ mod generated_rows;
 #[cfg(test)]
 mod history_rows;
 #[cfg(test)]
+mod journal_rows;
+#[cfg(test)]
 mod protocol_rows;
 #[cfg(test)]
 mod rows;

@@ -219,3 +219,58 @@ fn a_fault_ends_one_session(rt: HostRuntime) -> Result<(), Fail> {
     drop(first);
     Ok(())
 }
+
+/// Inserts a byte in front of document A so many times. Its bytes lie in one order and stand in the other, so each is a piece
+/// of its own.
+fn type_in_front<R: Wait>(
+    rt: &R,
+    alloc: Global,
+    lock: &HistoryLock<House>,
+    pass: &mut Pass<House>,
+    times: u64,
+) -> Result<(), Fail>
+    requires { IsPassOf lock.now pass.old }
+    ensures { IsPassOf lock.now pass.new }
+{
+    for _ in 0..times {
+        ask(rt, alloc, lock, pass, "0~A~0.1.1~t1:y")?;
+    }
+    Ok(())
+}
+
+/// Makes background rounds, at most a hundred, until nothing is to be put right. Says whether that came.
+fn settles<R: Wait>(
+    rt: &R,
+    alloc: Global,
+    lock: &HistoryLock<House>,
+    pass: &mut Pass<House>,
+) -> bool
+    requires { IsPassOf lock.now pass.old }
+    ensures { IsPassOf lock.now pass.new }
+{
+    for _ in 0..100u64 {
+        if background_round(rt, alloc, lock, pass) == Round::Idle {
+            return true;
+        }
+    }
+    false
+}
+
+#[test]
+fn rounds_put_trees_right(rt: HostRuntime) -> Result<(), Fail> {
+    let alloc = rt.alloc();
+    let Ok((lock, mut first)) = HistoryLock::new(alloc, house(alloc)?) else {
+        panic!(rt; "there is memory for a lock")
+    };
+    write_document(&rt, alloc, &lock, &mut first, "0~A~0.1.1~t1:x")?;
+    type_in_front(&rt, alloc, &lock, &mut first, 20)?;
+    // Twenty-one pieces are more than a node may have.
+    assert!(rt; background_round(&rt, alloc, &lock, &mut first) == Round::Balanced);
+    assert!(rt; settles(&rt, alloc, &lock, &mut first));
+    let told = ask(&rt, alloc, &lock, &mut first, "5~1~A~1~0.1.1~1.21~")?;
+    // A restart, a begin and 23 requests: rounds add nothing to the history.
+    assert!(rt; told.is(alloc, "5~1~t21:yyyyyyyyyyyyyyyyyyyyx", 25)?);
+    drop(lock);
+    drop(first);
+    Ok(())
+}

@@ -1,5 +1,5 @@
 -- What the end of the input is answered as.
-use Rattle.std.specs.Prelude.{ℕ, length, ◌==◌, if◌then◌else◌}
+use Rattle.std.specs.Prelude.{length, ◌==◌, if◌then◌else◌}
 use Rattle.febe_feed.specs.FeedView.{FeedView, later}
 use Rattle.green_session.specs.declared.take.Taken.{Taken}
 use Rattle.green_session.specs.declared.take.Taken.TheVariants.{End, Truncated}

@@ -1,5 +1,5 @@
 -- What holds of the channel at each moment: of the messages in it, and of what each seat has sent and taken.
-use Rattle.std.specs.Prelude.{◌≡◌, ◌+◌, ◌^◌, ℕ, List, [], ◌∷◌}
+use Rattle.std.specs.Prelude.{◌≡◌, ◌+◌, ℕ, List, [], ◌∷◌}
 use mathlib.Core.Option.{some}
 use lib.ListN.{get_elem?}
 use Rattle.session_pool.specs.declared.traffic.Message.{Message}

@@ -1,9 +1,11 @@
 -- What a worker brings back, and how far the pool has come.
 use Rattle.std.specs.Prelude.{◌≡◌, ◌+◌, ℕ, List}
+use Rattle.crossbeam_channel.specs.Claims.{Pass, view}
 use Rattle.history_lock.specs.declared.view.View.{View}
 use Rattle.history_lock.specs.Passes.{newcomer}
+use Rattle.session_pool.specs.declared.traffic.Message.{Message}
 use Rattle.session_pool.specs.declared.traffic.Traffic.{Traffic}
-use Rattle.session_pool.specs.inside.Rule.{traffic}
+use Rattle.session_pool.specs.declared.work.Worked.{Worked}
 use Rattle.session_pool.specs.Counts.{saturated}
 use Rattle.session_pool.specs.Serving.{HasTold}
 
@@ -23,6 +25,17 @@ module _ {E : Type 0} (owner : E → ℕ) where
     pub told : HasTold owner v (here + hand.taken) count w
     pub all_given : given ≡ saturated (here + hand.sent)
 
-  -- what stood still stands
-  abbrev pub GoesOn : View E → ℕ → ℕ → Traffic → View E → ℕ → ℕ → Traffic → Type 0
-  GoesOn w given count hand w' given' count' hand' = (v : View E) → Stands v w given count hand → Stands v w' given' count' hand'
+module _ {P J Y : Type 0} where
+  -- the pass is of the lock, and the seat is at the channel
+  pub record IsPlaced (IsOfLock : P → Type 0) (IsAtChannel : Pass (Message J) Traffic → Type 0) (own : Worked P (Pass (Message J) Traffic) Y) : Type 0 where
+    pub lock : IsOfLock own.pass
+    pub channel : IsAtChannel own.seat
+
+  module _ {E : Type 0} (owner : E → ℕ) (knows : P → View E) (count : Y → ℕ) where
+    -- what a worker has tells of the jobs that it has taken
+    abbrev pub IsWorkers : Worked P (Pass (Message J) Traffic) Y → Type 0
+    IsWorkers own = HasWorked owner (knows own.pass) (count own.tally) (view own.seat)
+
+    -- what stood of the caller still stands
+    abbrev pub GoesOn : Worked P (Pass (Message J) Traffic) Y → ℕ → Worked P (Pass (Message J) Traffic) Y → ℕ → Type 0
+    GoesOn own given own' given' = (v : View E) → Stands owner v (knows own.pass) given (count own.tally) (view own.seat) → Stands owner v (knows own'.pass) given' (count own'.tally) (view own'.seat)

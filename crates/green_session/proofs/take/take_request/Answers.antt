@@ -20,6 +20,7 @@ returns-then-is_err g c =
       rises = c.in-Got.ensures.never_falls;
       count = sym (length-take-le c.in-Got.n c.read.new.into answer.1);
       most = omega (arith, answer.1, c.read.auto.into, c.loop-request.invariant.1);
+      awaits_more = (rw c.in-Ok-NotYet.field-0-is at c.in-Ok-NotYet.ensures.next).prefix;
       allowed = search;
       bound = omega (arith, c.turns.invariant.limit_bound, ap (λ (t : TurnsView). t.limit) h.reads.counted);
     } in
@@ -32,7 +33,7 @@ returns-then-is_err g c =
           consumed = r.consumed;
           never_falls = r.never_falls;
           counted = ap (λ (n : ℕ). record { limit = c.loop-request.turns-inside.limit; taken = n }) c.saturating_add-turns-inside.ensures ∙ r.counted ∙ ap (λ (turns : TurnsView). with_taken turns (length read)) c.turns.view_is;
-          within = subst (λ (turns : TurnsView). IsWithin turns read) c.turns.view_is r.within;
+          within = subst (λ (turns : TurnsView). IsWithin c.args.feed.now turns read) c.turns.view_is r.within;
         };
         comes = cut_off _ _ h _ _ _ _ next c.push.new.self stays;
       };
@@ -48,7 +49,7 @@ returns-in-End g c =
           consumed = consumes_kept _ _ _ h.read h.reads.consumed c.in-End.ensures.answer.0;
           never_falls = omega (arith, h.reads.never_falls, c.in-End.ensures.never_falls);
           counted = h.reads.counted ∙ ap (λ (turns : TurnsView). with_taken turns (length h.read)) c.turns.view_is;
-          within = subst (λ (turns : TurnsView). IsWithin turns h.read) c.turns.view_is h.reads.within;
+          within = subst (λ (turns : TurnsView). IsWithin c.args.feed.now turns h.read) c.turns.view_is h.reads.within;
         };
         comes = at_end _ _ h.read (waits_for c.args.feed.now c.loop-request.feed c.next.new.self h.read h.pushed (rw c.in-Ok-NotYet.field-0-is at c.in-Ok-NotYet.ensures.next)) c.in-End.ensures.answer.1 (search) c.answer_at_end.result c.answer_at_end.ensures;
       };

@@ -10,4 +10,4 @@ invariant-loop g l = let L = g.L.Passes in let W = g.W.Serve in
     L.is_of l.fn.lock l.pass
     × IsSeatAt (receives_on l.fn.from) l.seat
     × ((view l.seat).parts ≡ all_parts)
-    × ((given : ℕ) → GoesOn L.owner (L.knows l.fn.own.pass) given (W.count l.fn.own.tally) (view l.fn.own.seat) (L.knows l.pass) given (W.count l.tally) (view l.seat))
+    × ((given : ℕ) → GoesOn L.owner L.knows W.count l.fn.own given (record { pass = l.pass; seat = l.seat; tally = l.tally }) given)

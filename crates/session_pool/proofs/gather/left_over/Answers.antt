@@ -1,7 +1,5 @@
-use Rattle.std.proofs.Common.{ap, ◌∙◌, sym, subst, ◌≡◌, ◌<◌, arith}
-use Rattle.crossbeam_channel.specs.Claims.{view}
-use Rattle.session_pool.specs.inside.Rule.{traffic, all_parts}
-use Rattle.session_pool.proofs.Balances.{takes, learns, even}
+use Rattle.std.proofs.Common.{ap, ◌∙◌, arith}
+use Rattle.session_pool.proofs.Balances.{takes, learns}
 use Rattle.session_pool.proofs.gather.left_over.Goals as goal
 
 pub try_recv_as-requires-clause-rule : goal.try_recv_as-requires-clause-rule

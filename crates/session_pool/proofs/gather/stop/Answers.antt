@@ -1,4 +1,4 @@
-use Rattle.std.proofs.Common.{◌<◌, sym, ap, ◌∙◌, subst}
+use Rattle.std.proofs.Common.{◌<◌, sym, ◌∙◌, subst}
 use Rattle.session_pool.proofs.Balances.{puts, learns_nothing, still_same}
 use Rattle.session_pool.proofs.gather.stop.Goals as goal
 

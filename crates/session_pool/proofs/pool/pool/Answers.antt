@@ -1,10 +1,12 @@
-use Rattle.std.proofs.Common.{◌≡◌, ap, ◌∙◌, sym, subst, refl, rules}
+use Rattle.std.proofs.Common.{sym, subst, refl, rules}
 use Rattle.crossbeam_channel.specs.Claims.{IsSeatAt}
 use Rattle.session_pool.proofs.Standings.{stands_begun, stands_pooled, pooled_same}
 use Rattle.session_pool.proofs.pool.pool.Goals as goal
 
-pub drain-requires-clause-channel : goal.drain-requires-clause-channel
-drain-requires-clause-channel g c = subst (λ k. IsSeatAt k c.run_workers-accept.result.own.seat) (sym c.requires.ends) c.run_workers-accept.ensures.channel
+pub drain-requires-clause-placed : goal.drain-requires-clause-placed
+drain-requires-clause-placed g c =
+    let own = c.run_workers-accept.ensures.placed in
+    record { lock = own.lock; channel = subst (λ k. IsSeatAt k c.run_workers-accept.result.own.seat) (sym c.requires.ends) own.channel }
 
 pub returns-clause-pooled : goal.returns-clause-pooled
 returns-clause-pooled g c =

@@ -1,4 +1,3 @@
-use Rattle.std.proofs.Common.{subst, sym}
 use Rattle.session_pool.proofs.Standings.{pooled_none, pooled_one, pooled_same}
 use Rattle.session_pool.proofs.pool.serve_all.Goals as goal
 

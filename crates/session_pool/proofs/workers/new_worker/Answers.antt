@@ -1,5 +1,3 @@
-use Rattle.std.proofs.Common.{◌-◌, ◌≡◌, ℕ, ap, arith}
-use Rattle.crossbeam_channel.specs.Claims.{view}
 use Rattle.session_pool.proofs.Balances.{forks}
 use Rattle.session_pool.proofs.Standings.{worked_none, stands_cut}
 use Rattle.session_pool.proofs.workers.new_worker.Goals as goal

@@ -1,0 +1,9 @@
+//! Pages on a disk in memory: what a crash leaves of two commits, of which a fault stops the first, and of openings.
+#![tactic(auto)]
+
+#[cfg(test)]
+mod commits;
+#[cfg(test)]
+mod gates;
+#[cfg(test)]
+mod pages;
