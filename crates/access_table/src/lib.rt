@@ -4,7 +4,5 @@
 mod accounts;
 mod openings;
 mod table;
-#[cfg(test)]
-mod tests;
 
 pub use table::AccessTable;

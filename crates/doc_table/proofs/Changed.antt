@@ -1,5 +1,5 @@
 -- What the table's calls leave, over plain variables.
-use Rattle.std.proofs.Common.{append_assoc, Result, Ok, ◌≡◌, ◌∙◌, ℕ, suc, ◌+◌, ◌-◌, ◌<◌, ◌≤◌, Bool, true, false, cond, not, List, [], ◌∷◌, ◌++◌, length, get_or, Option, Some, None, refl, sym, ap, subst, nat_cmp, arith}
+use Rattle.std.proofs.Common.{append_assoc, Result, Ok, ◌≡◌, ◌∙◌, ℕ, suc, ◌+◌, ◌-◌, ◌<◌, ◌≤◌, Bool, true, false, not, List, [], ◌∷◌, ◌++◌, length, get_or, Option, Some, None, refl, sym, ap, subst, nat_cmp, arith}
 use Rattle.std.proofs.lemmas.Option.{slice_get-map, slice_get_read, slice_get_past}
 use Rattle.std.proofs.lemmas.List.Edits.{length-insert, length-remove}
 use Rattle.std.proofs.lemmas.List.Sums.{prefix_len-le-length}
@@ -7,17 +7,20 @@ use Rattle.std.specs.Prelude.{set, count_by, IfOk, IfSome, IfNone}
 use Rattle.std.specs.BTreeSet.{insert_key}
 use Rattle.std.specs.List.{find, prefix_len, slice_get, insert, remove}
 use Rattle.std.specs.Option.{option_map, unwrap_or, is_some}
-use Rattle.std.specs.Cmp.Lexicographic.{slice_cmp, texts_ties}
-use Rattle.std.specs.BTreeMap as tree
-use Rattle.std.specs.BTreeMap.{BTreeMap, is_at}
+use Rattle.std.specs.Cmp.Lexicographic.{slice_cmp, nat_list_cmp_total}
+use Rattle.std.specs.BTreeMap.{BTreeMap}
 use Rattle.std.specs.declared.boxed.Box.{Box}
+use Rattle.tumbler.proofs.InOrder.{inserted_ascend, left_ascend}
+use Rattle.tumbler.proofs.RowsInOrder.{same_item}
 use Rattle.world_rules.specs.World.{is_same, is_child_of}
+use Rattle.world_rules.specs.Counting.{count_in, CountsAs}
+use Rattle.world_rules.proofs.CountSteps.{same_is}
 use Rattle.doc_table.specs.declared.rows.DocumentRow.{DocumentRow}
 use Rattle.doc_table.specs.DocumentRows.{is_of, documents_in, has_in, root_in, content_in, added, removed, row_cmp, most_documents, next_document_in}
-use Rattle.doc_table.specs.inside.Kept.{unboxed, IsAscending, is_before, IsAt, count_in, CountsAs, HoldsCounts, first_sibling}
+use Rattle.doc_table.specs.inside.Kept.{unboxed, IsAscending, is_before, IsAt, HoldsCounts, first_sibling}
 use Rattle.doc_table.proofs.Placed.{absent, found, has_found, lacks_found, inserted, taken_out, changed, changed_there}
-use Rattle.doc_table.proofs.Ordered.{same_item, long, ascends_in, ascends_left, documents_added, documents_removed, documents_changed}
-use Rattle.doc_table.proofs.Counted.{counts_added, counts_removed, same_is}
+use Rattle.doc_table.proofs.Ordered.{long, documents_added, documents_removed, documents_changed}
+use Rattle.doc_table.proofs.Counted.{counts_added, counts_removed}
 
 -- ---- what is not there
 
@@ -35,26 +38,6 @@ module _ {R A : Type 0} (document : List ℕ) (boxes : List (Box (DocumentRow R)
       absent document boxes ascends (λ d there.
       let it : x ≡ get_or boxes (prefix_len (is_before document) boxes) d = item ∙ same_item boxes at x d within ∙ ap (λ k. get_or boxes k d) is in
       ap (λ (b : Box (DocumentRow R) A). is_of document b.value) (sym it) ∙ ap (is_of document) (sym own) ∙ not_is (is_same row.document document) other)
-
--- ---- counts
-
-counted_step : (b : Bool) (v : ℕ) (old : Option ℕ) → unwrap_or (cond b (Some v) old) 0 ≡ cond b v (unwrap_or old 0)
-counted_step true v old = refl
-counted_step false v old = refl
-
-none_step : (b : Bool) (v : ℕ) (old : Option ℕ) → 0 ≡ v → unwrap_or (cond b None old) 0 ≡ cond b v (unwrap_or old 0)
-none_step true v old e = e
-none_step false v old e = refl
-
-pub counts_as : (first : List ℕ) (count value : ℕ) (old new : BTreeMap (List ℕ) ℕ) → ((q : List ℕ) → tree.get (slice_cmp nat_cmp) new q ≡ cond (is_at (slice_cmp nat_cmp first) q) (Some value) (tree.get (slice_cmp nat_cmp) old q))
-    → value ≡ count → CountsAs first count old new
-counts_as first count value old new updates is key =
-    rw (updates key, ← texts_ties first key, is) (counted_step (is_same first key) count (tree.get (slice_cmp nat_cmp) old key))
-
-pub counts_none : (first : List ℕ) (count : ℕ) (old new : BTreeMap (List ℕ) ℕ) → ((q : List ℕ) → tree.get (slice_cmp nat_cmp) new q ≡ cond (is_at (slice_cmp nat_cmp first) q) None (tree.get (slice_cmp nat_cmp) old q))
-    → 0 ≡ count → CountsAs first count old new
-counts_none first count old new updates is key =
-    rw (updates key, ← texts_ties first key) (none_step (is_same first key) count (tree.get (slice_cmp nat_cmp) old key) is)
 
 -- ---- the k-th document
 
@@ -130,7 +113,7 @@ module _ {R A : Type 0} (document : List ℕ) (boxes : List (Box (DocumentRow R)
         let documents = documents_added new.value (unboxed boxes) in
         rw made (
           omega (arith, longer, room),
-          subst IsAscending (sym (ap documents_in added_rows ∙ documents)) (ascends_in new.value.document (documents_in (unboxed boxes)) holds.1),
+          subst IsAscending (sym (ap documents_in added_rows ∙ documents)) (inserted_ascend (slice_cmp nat_cmp) nat_list_cmp_total (documents_in (unboxed boxes)) new.value.document holds.1),
           counts_added document first boxes at new old now own key holds.2 counted,
         )
 
@@ -149,7 +132,7 @@ module _ {R A : Type 0} (document : List ℕ) (boxes : List (Box (DocumentRow R)
         let shorter = length-remove boxes at it.within in
         rw made (
           omega (arith, shorter, holds.0),
-          subst IsAscending (sym (ap documents_in (removed_rows d) ∙ documents_removed document (unboxed boxes))) (ascends_left (λ e. not (is_same e document)) (documents_in (unboxed boxes)) ascends),
+          subst IsAscending (sym (ap documents_in (removed_rows d) ∙ documents_removed document (unboxed boxes))) (left_ascend (slice_cmp nat_cmp) (λ e. not (is_same e document)) (documents_in (unboxed boxes)) ascends),
           counts_removed document first boxes at d old now it.within (same_is _ document (it.own d)) key holds.2 counted,
         )
 

@@ -1,28 +1,18 @@
 -- How counts follow the documents that come in and go.
-use Rattle.std.proofs.Common.{◌≡◌, ◌∙◌, ℕ, zero, suc, ◌+◌, ◌-◌, ◌<◌, ◌≤◌, ◌&&◌, Bool, true, false, cond, List, [], ◌∷◌, ◌++◌, length, take, get_or, Ordering, Less, Equal, Greater, refl, sym, ap, is_eq, true≢false, arith, length-append, eqb-true, eq-eqb, nat_eq}
+use Rattle.std.proofs.Common.{◌≡◌, ◌∙◌, ℕ, zero, suc, ◌+◌, ◌-◌, ◌<◌, ◌≤◌, ◌&&◌, Bool, true, false, cond, List, [], ◌∷◌, ◌++◌, length, take, get_or, refl, sym, ap, true≢false, arith, length-append, eqb-true, eq-eqb, nat_eq}
 use Rattle.std.proofs.lemmas.List.Sums.{sum_by-cons, sum_by-insert, sum_by-remove, count_by-le-length}
-use Rattle.std.proofs.lemmas.Map.Lookups.{exact_bytes}
 use Rattle.std.specs.Prelude.{count_by, ◌==◌}
 use Rattle.std.specs.List.{sum_by, insert, remove}
-use Rattle.std.specs.Cmp.Lexicographic.{texts_ties}
 use Rattle.std.specs.BTreeMap.{BTreeMap}
 use Rattle.std.specs.declared.boxed.Box.{Box}
 use Rattle.world_rules.proofs.Specs.{sum_by-map}
 use Rattle.world_rules.specs.World.{is_same, is_child_of}
+use Rattle.world_rules.specs.Counting.{count_in, CountsAs}
+use Rattle.world_rules.proofs.CountSteps.{up_step, down_step, same_is}
 use Rattle.doc_table.specs.declared.rows.DocumentRow.{DocumentRow}
 use Rattle.doc_table.specs.DocumentRows.{documents_in}
-use Rattle.doc_table.specs.inside.Kept.{unboxed, HoldsCounts, CountsAs, count_in, first_sibling}
+use Rattle.doc_table.specs.inside.Kept.{unboxed, HoldsCounts, first_sibling}
 use Rattle.doc_table.proofs.Ordered.{long}
-
--- ---- addresses that are the same
-
-equal_is : (r : Ordering) → is_eq r ≡ true → r ≡ Equal
-equal_is Less e = absurd (true≢false (sym e))
-equal_is Equal e = refl
-equal_is Greater e = absurd (true≢false (sym e))
-
-pub same_is : (a b : List ℕ) → is_same a b ≡ true → a ≡ b
-same_is a b e = exact_bytes a b (equal_is _ (sym (texts_ties a b) ∙ e))
 
 -- ---- siblings
 
@@ -80,10 +70,6 @@ count_small first boxes counts holds =
 by_boxes : {R A : Type 0} (p : List ℕ → Bool) (boxes : List (Box (DocumentRow R) A)) → count_by p (documents_in (unboxed boxes)) ≡ sum_by (λ (b : Box (DocumentRow R) A). cond (p b.value.document) 1 0) boxes
 by_boxes p boxes = sum_by-map (λ (row : DocumentRow _). row.document) (λ d. cond (p d) 1 0) (unboxed boxes) ∙ sum_by-map (λ b. b.value) (λ (row : DocumentRow _). cond (p row.document) 1 0) boxes
 
-up_step : (first key : List ℕ) (counts : BTreeMap (List ℕ) ℕ) (before : ℕ) (b : Bool) → is_same first key ≡ b → count_in counts key ≡ before → cond b (count_in counts first + 1) (count_in counts key) ≡ before + cond b 1 0
-up_step first key counts before true e is = ap (λ k. count_in counts k + 1) (same_is first key e) ∙ ap (λ n. n + 1) is
-up_step first key counts before false e is = grind (arith, is)
-
 pub counts_added : {R A : Type 0} (document first : List ℕ) (boxes : List (Box (DocumentRow R) A)) (n : ℕ) (new : Box (DocumentRow R) A) (old now : BTreeMap (List ℕ) ℕ) → new.value.document ≡ document → first ≡ first_sibling document
     → HoldsCounts (documents_in (unboxed boxes)) old → CountsAs first (count_in old first + 1) old now → HoldsCounts (documents_in (unboxed (insert boxes n new))) now
 counts_added {R} {A} document first boxes n new old now own is holds counted key =
@@ -93,11 +79,6 @@ counts_added {R} {A} document first boxes n new old now own is holds counted key
     counted key ∙ up_step first key old (count_by p (documents_in (unboxed boxes))) (is_same first key) refl (holds key)
     ∙ ap (λ b. count_by p (documents_in (unboxed boxes)) + cond b 1 0) there
     ∙ ap (λ m. m + f new) (by_boxes p boxes) ∙ sym (sum_by-insert f boxes n new) ∙ sym (by_boxes p (insert boxes n new))
-
-down_step : (first key : List ℕ) (counts : BTreeMap (List ℕ) ℕ) (before after : ℕ) (b : Bool) → is_same first key ≡ b → count_in counts key ≡ before → after + cond b 1 0 ≡ before → cond b (count_in counts first - 1) (count_in counts key) ≡ after
-down_step first key counts before after true e is less =
-    let there = ap (count_in counts) (same_is first key e) in omega (arith, there, is, less)
-down_step first key counts before after false e is less = omega (arith, is, less)
 
 pub counts_removed : {R A : Type 0} (document first : List ℕ) (boxes : List (Box (DocumentRow R) A)) (n : ℕ) (d : Box (DocumentRow R) A) (old now : BTreeMap (List ℕ) ℕ) → n < length boxes → (get_or boxes n d).value.document ≡ document
     → first ≡ first_sibling document → HoldsCounts (documents_in (unboxed boxes)) old → CountsAs first (count_in old first - 1) old now → HoldsCounts (documents_in (unboxed (remove boxes n))) now

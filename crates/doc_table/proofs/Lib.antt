@@ -1,6 +1,5 @@
 pub mod Placed
 pub mod Ordered
 pub mod Counted
-pub mod Accounts
 pub mod Changed
 pub mod RootsSet

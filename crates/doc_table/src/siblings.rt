@@ -1,7 +1,6 @@
 //! The addresses that counts are kept at.
 ghost use Rattle.std.specs.Prelude.{◌≡◌, ◌<◌, ◌++◌, ◌∷◌, [], length};
 ghost use Rattle.tumbler.specs.Places.{most_places};
-ghost use Rattle.world_rules.specs.World.{is_of_account};
 ghost use Rattle.doc_table.specs.inside.Kept.{first_sibling};
 
 use smallvec::SmallVec;
@@ -32,18 +31,4 @@ fn with_one(alloc: Global, front: &[u32]) -> SmallVec<u32, 24>
     let mut held = SmallVec::from_slice(alloc, front).unwrap();
     held.push_reserved(1);
     held
-}
-
-/// Whether the document is one of the account.
-#[tactic(auto, using(crate::proofs::Accounts::accounts))]
-pub(crate) fn is_of_account(account: &Tumbler, document: &Tumbler) -> bool
-    ensures { result ≡ is_of_account account.now document.now }
-{
-    let account = account.places();
-    let document = document.places();
-    if document.len() <= account.len() {
-        return false;
-    }
-    let (front, rest) = document.split_at(account.len());
-    front == account && rest[0] == 0
 }

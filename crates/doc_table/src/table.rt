@@ -8,14 +8,14 @@ ghost use Rattle.tumbler.specs.Address.{IsAccount, IsDocument};
 ghost use Rattle.world_rules.specs.World.{is_child_of};
 ghost use Rattle.doc_table.specs.DocumentRows.{most_documents, documents_in, has_in, root_in, content_in, added, removed, with_root, with_roots, with_content, next_document_in, version_address_in};
 
-use crate::counts::{count_down, count_of, count_up};
 use crate::rows::{DocumentRow, find, place, set_roots};
-use crate::siblings::{first_sibling, is_of_account};
+use crate::siblings::first_sibling;
 use febe_data::bounds::MOST_DOCUMENT_PLACES;
 use std::alloc::Global;
 use std::collections::BTreeMap;
 use std::marker::Model;
 use tumbler::{Memory, Tumbler};
+use world_rules::{count_down, count_of, count_up, is_of_account};
 
 /// The documents that there are, in ascending order.
 ///

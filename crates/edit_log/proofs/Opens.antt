@@ -6,7 +6,7 @@ use Rattle.entry_codec.specs.Format.{body_of}
 use Rattle.entry_codec.specs.Laws.{OneBody, BodySaysLength}
 use Rattle.green_io.specs.declared.disk.Area.TheVariants as area
 use Rattle.green_io.specs.Areas.{Areas}
-use Rattle.green_io.specs.Disk.{DiskState, WhereTold, Changes, LeavesOnly, Nothing, IsDurable, images_now}
+use Rattle.green_io.specs.Disk.{DiskState, WhereTold, Changes, LeavesOnly, Nothing, IsStable, images_now}
 use Rattle.green_io.proofs.Crash.{weaker, nothing_then}
 use Rattle.edit_log.specs.Log.{gated, IsEnd, HasEntries, HasEndClosed, HasNext, IsWholeEnd, IsWhole}
 use Rattle.edit_log.specs.Images.{IsAjar, InLog, LogImages, AreEntries, Hides, AsRead, HoldsAsRead}
@@ -53,11 +53,11 @@ torn_as_read one says (Some areas) bytes entries scanned end image whole read ha
     torn_holds entries whole.end areas.log image.log whole.has record { spelled = whole.has.spelled; few = whole.has.few; fit = whole.fit } whole.whole torn_here
 
 -- what was read is what every image has
-stable_where : (reads : Option Areas) (images : Areas → Type 0) (bytes : List ℕ) → IsSome reads → WhereTold reads (λ areas. bytes ≡ areas.log) → IsDurable area.Log reads images → (i : Areas) → images i → i.log ≡ bytes
+stable_where : (reads : Option Areas) (images : Areas → Type 0) (bytes : List ℕ) → IsSome reads → WhereTold reads (λ areas. bytes ≡ areas.log) → IsStable area.Log reads images → (i : Areas) → images i → i.log ≡ bytes
 stable_where None images bytes told read durable i is = absurd (cc told)
 stable_where (Some areas) images bytes told read durable i is = durable i is ∙ sym read
 
-pub stable_images : (a b : DiskState) (at : ℕ) (bytes front end : List ℕ) → b.reads ≡ a.reads → IsSome a.reads → WhereTold a.reads (λ areas. bytes ≡ areas.log) → IsDurable area.Log b.reads (images_now b) → at ≡ length front → bytes ≡ front ++ end → LogImages b at front (IsLog (front ++ end))
+pub stable_images : (a b : DiskState) (at : ℕ) (bytes front end : List ℕ) → b.reads ≡ a.reads → IsSome a.reads → WhereTold a.reads (λ areas. bytes ≡ areas.log) → IsStable area.Log b.reads (images_now b) → at ≡ length front → bytes ≡ front ++ end → LogImages b at front (IsLog (front ++ end))
 stable_images a b at bytes front end same told read durable at_end parts = record {
   told = subst IsSome (sym same) told;
   at_end = at_end;

@@ -76,13 +76,13 @@ wrong_of rest more entries wrong few = ⊎_elim (λ none. inl none) (λ full. in
 pub one_reading : OneBody → BodySaysLength → EachHasOneReading
 one_reading one says log = record {
   entries = λ a b first second. (read_once one says a b first.end second.end first.has.spelled second.has.spelled first.ends second.ends (sym first.has.parts ∙ second.has.parts)).0;
-  place = λ a b first second.
+  offset = λ a b first second.
       let same = one_damage one first.entries second.entries first.rest second.rest first.has.spelled second.has.spelled
       (wrong_of first.rest second.entries first.entries first.wrong second.has.few)
       (wrong_of second.rest first.entries second.entries second.wrong first.has.few)
       (sym first.has.parts ∙ second.has.parts) in
       first.at ∙ ap (λ (es : List PlainEntry). length (gated es)) same ∙ sym second.at;
-  apart = λ entries place reads damaged. not_both one says entries damaged.entries reads.end damaged.rest reads.has.spelled damaged.has.spelled reads.ends damaged.more
+  apart = λ entries offset reads damaged. not_both one says entries damaged.entries reads.end damaged.rest reads.has.spelled damaged.has.spelled reads.ends damaged.more
       (wrong_of damaged.rest entries damaged.entries damaged.wrong reads.has.few)
       (sym reads.has.parts ∙ damaged.has.parts);
 }

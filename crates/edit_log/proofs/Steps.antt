@@ -2,7 +2,7 @@
 use Rattle.std.proofs.Common.{◌≡◌, ℕ, List, length, Option, None, Some, IsSome, sym, subst}
 use Rattle.green_io.specs.declared.disk.Area.TheVariants as area
 use Rattle.green_io.specs.Areas.{Areas}
-use Rattle.green_io.specs.Disk.{DiskState, IsDisk, WhereTold, images_now, Written, Torn, Changes, LeftBy, LeavesOnly, IsDurable}
+use Rattle.green_io.specs.Disk.{DiskState, IsDisk, WhereTold, images_now, Written, Torn, Changes, LeftBy, LeavesOnly, IsStable}
 use Rattle.green_io.proofs.Crash.{weaker, now_has}
 use Rattle.edit_log.specs.Images.{LogImages, InLog}
 
@@ -20,14 +20,14 @@ kept_images a b end front P disk images told leaves = record {
   each = now_has a b (InLog P) disk leaves images.each;
 }
 
-written_reads : (old new : Option Areas) (at : ℕ) (bytes : List ℕ) (before after : Areas → Type 0) (P Q : List ℕ → Type 0) → IsSome old → WhereTold old before → ((i : Areas) → before i → P i.log) → Changes area.Log (Written at bytes) old new → IsDurable area.Log new after → ((x y : List ℕ) → P x → Written at bytes x y → Q y) → (i : Areas) → after i → Q i.log
+written_reads : (old new : Option Areas) (at : ℕ) (bytes : List ℕ) (before after : Areas → Type 0) (P Q : List ℕ → Type 0) → IsSome old → WhereTold old before → ((i : Areas) → before i → P i.log) → Changes area.Log (Written at bytes) old new → IsStable area.Log new after → ((x y : List ℕ) → P x → Written at bytes x y → Q y) → (i : Areas) → after i → Q i.log
 written_reads None new at bytes before after P Q told reads each changes durable follows i is = absurd (cc told)
 written_reads (Some x) None at bytes before after P Q told reads each changes durable follows i is = absurd changes
 written_reads (Some x) (Some y) at bytes before after P Q told reads each changes durable follows i is =
     subst Q (sym (durable i is)) (follows x.log y.log (each x reads) changes.0)
 
 -- what every image has once the write has succeeded and is stable
-pub written_images : (a b : DiskState) (end new_end at : ℕ) (bytes : List ℕ) (front new_front : List ℕ) (P Q : List ℕ → Type 0) → IsDisk a → LogImages a end front P → (IsSome a.reads → IsSome b.reads) → Changes area.Log (Written at bytes) a.reads b.reads → IsDurable area.Log b.reads (images_now b) → ((old new : List ℕ) → P old → Written at bytes old new → Q new) → new_end ≡ length new_front → LogImages b new_end new_front Q
+pub written_images : (a b : DiskState) (end new_end at : ℕ) (bytes : List ℕ) (front new_front : List ℕ) (P Q : List ℕ → Type 0) → IsDisk a → LogImages a end front P → (IsSome a.reads → IsSome b.reads) → Changes area.Log (Written at bytes) a.reads b.reads → IsStable area.Log b.reads (images_now b) → ((old new : List ℕ) → P old → Written at bytes old new → Q new) → new_end ≡ length new_front → LogImages b new_end new_front Q
 written_images a b end new_end at bytes front new_front P Q disk images told changes durable follows at_end = record {
   told = told images.told;
   at_end = at_end;

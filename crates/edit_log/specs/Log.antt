@@ -42,11 +42,11 @@ pub record HasEndClosed (entries : List PlainEntry) (old new : List ℕ) : Type 
 
 -- The log cannot be read past the gate at this place, behind its first entries: the gate is 1, more bytes come
 -- behind it, and they begin with no body, or the log has as many entries as it may have.
-pub record IsDamagedAt (place : ℕ) (log : List ℕ) : Type 0 where
+pub record IsDamagedAt (offset : ℕ) (log : List ℕ) : Type 0 where
   pub entries : List PlainEntry
   pub rest : List ℕ
   pub has : HasEntries entries (1 ∷ rest) log
-  pub at : place ≡ length (gated entries)
+  pub at : offset ≡ length (gated entries)
   pub more : rest ≢ []
   pub wrong : (¬ BeginsWithBody rest) ⊎ (length entries ≡ most_entries)
 

@@ -8,8 +8,6 @@ mod pending;
 mod phases;
 mod reading;
 mod scanning;
-#[cfg(test)]
-mod tests;
 
 pub use log::{Appended, EditLog};
 pub use opening::LogFault;

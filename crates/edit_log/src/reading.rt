@@ -1,6 +1,6 @@
 //! Reading all bytes of a log.
 ghost use Rattle.std.specs.Prelude.{◌≡◌, ◌≤◌, ◌<◌, length, IfOk, IsTrue, OnOk};
-ghost use Rattle.green_io.specs.Disk.{LeavesOnly, WhereTold, IsDurable, Nothing, images_now};
+ghost use Rattle.green_io.specs.Disk.{LeavesOnly, WhereTold, IsStable, Nothing, images_now};
 ghost use Rattle.green_io.specs.Outside.{HasRisen};
 ghost use Rattle.edit_log.specs.Answers.{OnDamaged, OnDiskFault};
 ghost use Rattle.edit_log.specs.inside.Pieces.{ReadsOn};
@@ -73,7 +73,7 @@ pub(crate) fn read_stable<D: Disk>(alloc: Global, disk: &mut D) -> Result<Text, 
     ensures failed { OnDiskFault result (HasRisen (D.fault_count disk.old) (D.fault_count disk.new)) }
     ensures no_damage { OnDamaged result (λ at. ⊥) }
     ensures bytes { IfOk result (λ bytes. WhereTold (D.state disk.old).reads (λ areas. bytes.items ≡ areas.log)) }
-    ensures durable { OnOk result (IsDurable Area.Log (D.state disk.new).reads (images_now (D.state disk.new))) }
+    ensures durable { OnOk result (IsStable Area.Log (D.state disk.new).reads (images_now (D.state disk.new))) }
 {
     disk.sync(Area::Log)?;
     let count = disk.length(Area::Log)?;

@@ -1,4 +1,5 @@
 pub mod Owed
+pub mod Over
 pub mod Halved
 pub mod Merged
 pub mod Found

@@ -7,15 +7,15 @@ use Rattle.std.proofs.lemmas.Bool.Decides.{nat_tests}
 use Rattle.tumbler.proofs.Alls.{All-front, All-back}
 use Rattle.enfilade_core.specs.declared.tree.Row.{Row}
 use Rattle.enfilade_core.specs.declared.tree.Branch.{Branch}
-use Rattle.enfilade_core.specs.declared.standing.Standing.{Standing}
+use Rattle.enfilade_core.specs.declared.balance_state.BalanceState.{BalanceState}
 use Rattle.enfilade_core.specs.Rows.{Shape, Branches, branch_rows, rows_table}
 use Rattle.enfilade_core.specs.Axes.{Widths, InOrder}
-use Rattle.enfilade_core.specs.Right.{IsRight, IsRightPart}
+use Rattle.enfilade_core.specs.WellFormed.{IsWellFormed, IsWellFormedPart}
 use Rattle.enfilade_core.specs.Summary.{height_of}
 use Rattle.enfilade_core.specs.Exchange.{Grows, HasRows, BranchesHaveRows, height_in}
-use Rattle.enfilade_core.specs.Standing.{node_debt, most_children, standings}
+use Rattle.enfilade_core.specs.BalanceState.{node_debt, most_children, balance_states}
 use Rattle.enfilade_core.proofs.Nodes.{node-parts}
-use Rattle.enfilade_core.proofs.PackedBranches.{right-if_parts}
+use Rattle.enfilade_core.proofs.PackedBranches.{well_formed-if_parts}
 use Rattle.enfilade_core.proofs.ExchangeGrown.{flat_rows, branches-grown, branches-append}
 use Rattle.enfilade_core.proofs.ExchangeNodes.{level-height}
 use Rattle.enfilade_balance.specs.Path.{debt_below, own_debt, OwesLess, AreStepped}
@@ -76,16 +76,16 @@ appended_some [] (y ∷ ys) zs some q = cc
 appended_some (x ∷ xs) ys zs some q = cc
 
 -- branches that stay
-stay : {L : Type 0} (w : Widths L) (old new : List (Shape L)) (height : ℕ) (branches : List Branch) → Grows old new → All (IsRightPart w old) branches → All (λ b. height_of w old b.node.0 ≡ height) branches → BranchesHaveRows w new height (flat_rows old branches) branches
+stay : {L : Type 0} (w : Widths L) (old new : List (Shape L)) (height : ℕ) (branches : List Branch) → Grows old new → All (IsWellFormedPart w old) branches → All (λ b. height_of w old b.node.0 ≡ height) branches → BranchesHaveRows w new height (flat_rows old branches) branches
 stay w old new height branches g parts level = branches-grown w old new height (flat_rows old branches) branches g record { parts = parts; rows_are = refl; level = level }
 
 pub flat-parts : {L : Type 0} (nodes : List (Shape L)) (front middle behind : List Branch) → flat_rows nodes (front ++ (middle ++ behind)) ≡ flat_rows nodes front ++ (flat_rows nodes middle ++ flat_rows nodes behind)
 flat-parts {L} nodes front middle behind =
     flat_map-append (branch_rows (rows_table nodes)) front (middle ++ behind) ∙ ap (λ (rs : List (Row L)). flat_rows nodes front ++ rs) (flat_map-append (branch_rows (rows_table nodes)) middle behind)
 
-have-all : {L : Type 0} (w : Widths L) (old new : List (Shape L)) (height : ℕ) (front middle behind others : List Branch) → Grows old new → All (IsRightPart w old) (front ++ (middle ++ behind)) → All (λ b. height_of w old b.node.0 ≡ height) (front ++ (middle ++ behind)) → BranchesHaveRows w new height (flat_rows old middle) others → BranchesHaveRows w new height (flat_rows old front ++ (flat_rows old middle ++ flat_rows old behind)) (front ++ (others ++ behind))
+have-all : {L : Type 0} (w : Widths L) (old new : List (Shape L)) (height : ℕ) (front middle behind others : List Branch) → Grows old new → All (IsWellFormedPart w old) (front ++ (middle ++ behind)) → All (λ b. height_of w old b.node.0 ≡ height) (front ++ (middle ++ behind)) → BranchesHaveRows w new height (flat_rows old middle) others → BranchesHaveRows w new height (flat_rows old front ++ (flat_rows old middle ++ flat_rows old behind)) (front ++ (others ++ behind))
 have-all w old new height front middle behind others g parts level have =
-    let P = IsRightPart w old in
+    let P = IsWellFormedPart w old in
     let Q : Branch → Type 0 = λ b. height_of w old b.node.0 ≡ height in
     let first = stay w old new height front g (All-front P front (middle ++ behind) parts) (All-front Q front (middle ++ behind) level) in
     let last = stay w old new height behind g (All-back P middle behind (All-back P front (middle ++ behind) parts)) (All-back Q middle behind (All-back Q front (middle ++ behind) level)) in
@@ -93,28 +93,28 @@ have-all w old new height front middle behind others g parts level have =
     (branches-append w new height (flat_rows old middle) (flat_rows old behind) others behind have last)
 
 -- all branches have the rows that they had
-in_place-have : {L : Type 0} (w : Widths L) (old new : List (Shape L)) (branches made front middle behind others : List Branch) → InPlace branches made front middle behind others → Grows old new → (right : IsRight w old (Branches branches)) → 1 ≤ length others → BranchesHaveRows w new right.branches.height (flat_rows old middle) others → HasRows w new (height_in w old (Branches branches)) (flat_rows old branches) (Branches made)
-in_place-have {L} w old new branches made front middle behind others at g right some have =
-    let height = right.branches.height in
-    let P = IsRightPart w old in
+in_place-have : {L : Type 0} (w : Widths L) (old new : List (Shape L)) (branches made front middle behind others : List Branch) → InPlace branches made front middle behind others → Grows old new → (well_formed : IsWellFormed w old (Branches branches)) → 1 ≤ length others → BranchesHaveRows w new well_formed.branches.height (flat_rows old middle) others → HasRows w new (height_in w old (Branches branches)) (flat_rows old branches) (Branches made)
+in_place-have {L} w old new branches made front middle behind others at g well_formed some have =
+    let height = well_formed.branches.height in
+    let P = IsWellFormedPart w old in
     let Q : Branch → Type 0 = λ b. height_of w old b.node.0 ≡ height in
-    let all = have-all w old new height front middle behind others g (subst (All P) at.before (node-parts w old branches right)) (subst (All Q) at.before right.branches.level) have in
+    let all = have-all w old new height front middle behind others g (subst (All P) at.before (node-parts w old branches well_formed)) (subst (All Q) at.before well_formed.branches.level) have in
     let rows : flat_rows old front ++ (flat_rows old middle ++ flat_rows old behind) ≡ flat_rows old branches = sym (ap (flat_rows old) at.before ∙ flat-parts old front middle behind) in
     let here = subst (λ (bs : List Branch). BranchesHaveRows w new height (flat_rows old branches) bs) (sym at.after) (subst (λ (rs : List (Row L)). BranchesHaveRows w new height rs (front ++ (others ++ behind))) rows all) in
     let filled = subst (λ (bs : List Branch). bs ≢ []) (sym at.after) (appended_some front others behind some) in
     record {
-      right = right-if_parts w new made height filled here.parts here.level (subst InOrder (sym here.rows_are) right.ordered);
+      well_formed = well_formed-if_parts w new made height filled here.parts here.level (subst InOrder (sym here.rows_are) well_formed.ordered);
       rows_are = here.rows_are;
-      level = level-height w new height made filled here.level ∙ sym (level-height w old height branches right.branches.some right.branches.level);
+      level = level-height w new height made filled here.level ∙ sym (level-height w old height branches well_formed.branches.some well_formed.branches.level);
     }
 
 -- ---- what they owe
 
-record Counted (told : List Standing) (branches front middle behind : List Branch) : Type 0 where
+record Counted (told : List BalanceState) (branches front middle behind : List Branch) : Type 0 where
   long : length branches ≡ (length front + length behind) + length middle
   debt : debt_below told branches ≡ (debt_below told front + debt_below told behind) + debt_below told middle
 
-counted : (told : List Standing) (branches front middle behind : List Branch) → branches ≡ front ++ (middle ++ behind) → Counted told branches front middle behind
+counted : (told : List BalanceState) (branches front middle behind : List Branch) → branches ≡ front ++ (middle ++ behind) → Counted told branches front middle behind
 counted told branches front middle behind is =
     let l1 = length-append front (middle ++ behind) in
     let l2 = length-append middle behind in
@@ -126,27 +126,27 @@ counted told branches front middle behind is =
 
 -- what the others owe is what counts
 pub record OwesLessFor {L : Type 0} (old new : List (Shape L)) (middle others : List Branch) : Type 0 where
-  pub less : (f x : ℕ) → OwesLess (f + length middle) (x + debt_below (standings old) middle) (f + length others) (x + debt_below (standings new) others)
+  pub less : (f x : ℕ) → OwesLess (f + length middle) (x + debt_below (balance_states old) middle) (f + length others) (x + debt_below (balance_states new) others)
 
 less-same : (c d m e c' d' m' e' : ℕ) → c ≡ c' → d ≡ d' → m ≡ m' → e ≡ e' → OwesLess c' d' m' e' → OwesLess c d m e
 less-same c d m e c' d' m' e' p q r s less = rw (p, q, r, s) less
 
-in_place-less : {L : Type 0} (w : Widths L) (old new : List (Shape L)) (branches made front middle behind others : List Branch) → InPlace branches made front middle behind others → Grows old new → IsRight w old (Branches branches) → OwesLessFor old new middle others → OwesLess (length branches) (debt_below (standings old) branches) (length made) (debt_below (standings new) made)
-in_place-less {L} w old new branches made front middle behind others at g right owe =
-    let P = IsRightPart w old in
-    let parts = subst (All P) at.before (node-parts w old branches right) in
-    let before = counted (standings old) branches front middle behind at.before in
-    let after = counted (standings new) made front others behind at.after in
+in_place-less : {L : Type 0} (w : Widths L) (old new : List (Shape L)) (branches made front middle behind others : List Branch) → InPlace branches made front middle behind others → Grows old new → IsWellFormed w old (Branches branches) → OwesLessFor old new middle others → OwesLess (length branches) (debt_below (balance_states old) branches) (length made) (debt_below (balance_states new) made)
+in_place-less {L} w old new branches made front middle behind others at g well_formed owe =
+    let P = IsWellFormedPart w old in
+    let parts = subst (All P) at.before (node-parts w old branches well_formed) in
+    let before = counted (balance_states old) branches front middle behind at.before in
+    let after = counted (balance_states new) made front others behind at.after in
     let first = debt-grown w old new front g (All-front P front (middle ++ behind) parts) in
     let last = debt-grown w old new behind g (All-back P middle behind (All-back P front (middle ++ behind) parts)) in
     let f = length front + length behind in
-    let x = debt_below (standings old) front + debt_below (standings old) behind in
-    less-same (length branches) (debt_below (standings old) branches) (length made) (debt_below (standings new) made) (f + length middle) (x + debt_below (standings old) middle) (f + length others) (x + debt_below (standings new) others)
-    before.long before.debt after.long (after.debt ∙ ap (λ (n : ℕ). (n + debt_below (standings new) behind) + debt_below (standings new) others) first ∙ ap (λ (n : ℕ). (debt_below (standings old) front + n) + debt_below (standings new) others) last)
+    let x = debt_below (balance_states old) front + debt_below (balance_states old) behind in
+    less-same (length branches) (debt_below (balance_states old) branches) (length made) (debt_below (balance_states new) made) (f + length middle) (x + debt_below (balance_states old) middle) (f + length others) (x + debt_below (balance_states new) others)
+    before.long before.debt after.long (after.debt ∙ ap (λ (n : ℕ). (n + debt_below (balance_states new) behind) + debt_below (balance_states new) others) first ∙ ap (λ (n : ℕ). (debt_below (balance_states old) front + n) + debt_below (balance_states new) others) last)
     (owe.less f x)
 
-pub in-place : {L : Type 0} (w : Widths L) (old new : List (Shape L)) (branches made front middle behind others : List Branch) → InPlace branches made front middle behind others → Grows old new → (right : IsRight w old (Branches branches)) → 1 ≤ length others → BranchesHaveRows w new right.branches.height (flat_rows old middle) others → OwesLessFor old new middle others → AreStepped w old new branches made
-in-place w old new branches made front middle behind others at g right some have owe = record {
-  have = in_place-have w old new branches made front middle behind others at g right some have;
-  less = in_place-less w old new branches made front middle behind others at g right owe;
+pub in-coordinate : {L : Type 0} (w : Widths L) (old new : List (Shape L)) (branches made front middle behind others : List Branch) → InPlace branches made front middle behind others → Grows old new → (well_formed : IsWellFormed w old (Branches branches)) → 1 ≤ length others → BranchesHaveRows w new well_formed.branches.height (flat_rows old middle) others → OwesLessFor old new middle others → AreStepped w old new branches made
+in-coordinate w old new branches made front middle behind others at g well_formed some have owe = record {
+  have = in_place-have w old new branches made front middle behind others at g well_formed some have;
+  less = in_place-less w old new branches made front middle behind others at g well_formed owe;
 }

@@ -4,12 +4,12 @@ use Rattle.enfilade_core.specs.Rows.{Shape, rows_of, node_at}
 use Rattle.enfilade_core.specs.Axes.{Widths}
 use Rattle.enfilade_core.specs.Summary.{depth_of}
 use Rattle.enfilade_core.specs.Exchange.{Grows}
-use Rattle.enfilade_core.specs.Standing.{standings, standing_in, standing_of, tree_debt, tree_allows}
+use Rattle.enfilade_core.specs.BalanceState.{balance_states, balance_state_in, balance_state_of, tree_debt, tree_allows}
 
 -- what a node owes where it is not the root, and whether a step is allowed at it or under it, follows from its children
 -- and what is so of them
-abbrev pub StandingsOfChildren : {L : Type 0} → List (Shape L) → Type 0
-StandingsOfChildren nodes = (k : ℕ) → k < length nodes → standing_of nodes k ≡ standing_in (standings nodes) (node_at nodes k)
+abbrev pub BalanceStatesOfChildren : {L : Type 0} → List (Shape L) → Type 0
+BalanceStatesOfChildren nodes = (k : ℕ) → k < length nodes → balance_state_of nodes k ≡ balance_state_in (balance_states nodes) (node_at nodes k)
 
 -- nodes that are added leave what the trees that are there owe, and whether a step is allowed in them
 abbrev pub DebtsStay : {L : Type 0} → List (Shape L) → Type 0

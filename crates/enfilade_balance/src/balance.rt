@@ -1,10 +1,12 @@
 //! Steps of the balancer.
 ghost use Rattle.std.specs.Prelude.{◌≡◌, ◌+◌, ◌<◌, ◌≤◌, ◌==◌, ◌||◌, not, true, false, length, All, IsOk, IfOk};
 ghost use Rattle.enfilade_core.specs.Rows.{Branches, rows_of, node_at};
-ghost use Rattle.enfilade_core.specs.Right.{IsRight};
-ghost use Rattle.enfilade_core.specs.Standing.{standings, standing_below, has_lone_child, tree_debt, tree_allows};
+ghost use Rattle.enfilade_core.specs.WellFormed.{IsWellFormed};
+ghost use Rattle.enfilade_core.specs.BalanceState.{balance_states, balance_state_below, has_lone_child, tree_debt, tree_allows};
 ghost use Rattle.enfilade_core.specs.Edits.{KeepsRows};
 ghost use Rattle.enfilade_core.specs.Exchange.{Grows};
+ghost use Rattle.enfilade_balance.specs.Laws.{IsStep};
+ghost use Rattle.enfilade_balance.specs.OneStep.{IsOneStep};
 ghost use Rattle.enfilade_balance.specs.Steps.{root_after, is_idle, is_dropped};
 ghost use Rattle.enfilade_balance.specs.Path.{IsBalanced};
 
@@ -35,10 +37,11 @@ fn inner_balanced<P: Plane>(
     branches: &[Branch],
 ) -> Result<Balance, Memory>
     requires named { All (λ branch. branch.node.0 < root.0) branches.now }
-    requires right { IsRight P.widths arena.old (Branches branches.now) }
-    requires allowed { ((standing_below (standings arena.old) branches.now).allows || length branches.now == 1) ≡ true }
+    requires well_formed { IsWellFormed P.widths arena.old (Branches branches.now) }
+    requires allowed { ((balance_state_below (balance_states arena.old) branches.now).allows || length branches.now == 1) ≡ true }
     ensures grows { Grows arena.old arena.new }
     ensures balanced { IfOk result (λ made. IsBalanced arena.old arena.new (Branches branches.now) root made) }
+    ensures one { IfOk result (λ made. IsOneStep P.widths arena.new (Branches branches.now) made) }
 {
     if branches.len() == 1 {
         let made = root_below(arena, &branches[0])?;
@@ -67,6 +70,8 @@ pub fn balance_step<P: Plane>(arena: &mut Arena<P>, root: Node) -> Result<Balanc
     ensures below { IfOk result (λ made. (root_after root made).0 < length arena.new) }
     ensures rows { IfOk result (λ made. rows_of arena.new (root_after root made).0 ≡ rows_of arena.old root.0) }
     ensures lowers { IfOk result (λ made. is_idle made ≡ false → tree_debt arena.new (root_after root made).0 + 1 ≤ tree_debt arena.old root.0) }
+    ensures step { IfOk result (λ made. is_idle made ≡ false → IsStep arena.old root.0 arena.new (root_after root made).0) }
+    ensures one { IfOk result (λ made. IsOneStep P.widths arena.new (node_at arena.old root.0) made) }
     ensures idle { IfOk result (λ made. is_idle made ≡ not (tree_allows arena.old root.0)) }
     ensures dropped { IfOk result (λ made. is_dropped made ≡ has_lone_child (node_at arena.old root.0)) }
     ensures succeeds { tree_allows arena.old root.0 ≡ false → IsOk result }

@@ -1,11 +1,11 @@
 //! How far a tree is from its good shape.
 ghost use Rattle.std.specs.Prelude.{◌≡◌, ◌+◌, ◌<◌, ◌==◌, min, length, All};
 ghost use Rattle.enfilade_core.specs.Summary.{most_count};
-ghost use Rattle.enfilade_core.specs.Standing.{standings, has_lone_child, tree_debt, tree_allows};
+ghost use Rattle.enfilade_core.specs.BalanceState.{balance_states, has_lone_child, tree_debt, tree_allows};
 ghost use Rattle.enfilade_core.specs.Plain.{shape};
 ghost use Rattle.enfilade_balance.specs.Path.{debt_below, own_debt};
 
-use enfilade_core::laws::nodes_are_right;
+use enfilade_core::laws::nodes_are_well_formed;
 use enfilade_core::{Arena, Branch, Children, Node, Plane};
 
 /// Over this many children a root has debt.
@@ -27,11 +27,11 @@ fn own_debt(children: u64) -> u64
 /// What the nodes of branches owe, and `owed` more.
 fn debt_below<P: Plane>(arena: &Arena<P>, branches: &[Branch], owed: u64) -> u64
     requires { All (λ branch. branch.node.0 < length arena.now) branches.now }
-    ensures { result ≡ min (owed + debt_below (standings arena.now) branches.now) most_count }
+    ensures { result ≡ min (owed + debt_below (balance_states arena.now) branches.now) most_count }
 {
     let mut debt = owed;
     for branch in branches {
-        let below = arena.standing(branch.node);
+        let below = arena.balance_state(branch.node);
         debt = debt.saturating_add(below.debt);
     }
     debt
@@ -42,7 +42,7 @@ pub fn debt<P: Plane>(arena: &Arena<P>, root: Node) -> u64
     requires { root.0 < length arena.now }
     ensures { result ≡ min (tree_debt arena.now root.0) most_count }
 {
-    nodes_are_right(arena);
+    nodes_are_well_formed(arena);
     match arena.node(root) {
         Children::Bottom(rows) => (rows.len() as u64).saturating_sub(MOST_CHILDREN),
         Children::Inner(branches) => {
@@ -67,7 +67,7 @@ pub fn allows<P: Plane>(arena: &Arena<P>, root: Node) -> bool
     requires { root.0 < length arena.now }
     ensures { result ≡ tree_allows arena.now root.0 }
 {
-    if arena.standing(root).allows {
+    if arena.balance_state(root).allows {
         return true;
     }
     has_lone_child::<P>(arena.node(root))

@@ -1,10 +1,11 @@
 //! Neighbours with few children are merged.
 ghost use Rattle.std.specs.Prelude.{◌≡◌, ◌≢◌, ◌++◌, [], map, IfOk, OnOk};
 ghost use Rattle.enfilade_core.specs.Rows.{Rows, Branches, rows_in, rows_table};
-ghost use Rattle.enfilade_core.specs.Right.{IsRight};
+ghost use Rattle.enfilade_core.specs.WellFormed.{IsWellFormed};
 ghost use Rattle.enfilade_core.specs.Plain.{shape, plain_row};
 ghost use Rattle.enfilade_core.specs.Exchange.{Grows};
-ghost use Rattle.enfilade_balance.specs.Path.{Packs, AreAlike, joined, AreNeighbours, IsMerged};
+ghost use Rattle.enfilade_balance.specs.OneStep.{AreAlike, joined};
+ghost use Rattle.enfilade_balance.specs.Path.{Packs, AreNeighbours, IsMerged};
 
 use crate::opening::opened;
 use enfilade_core::{Arena, Branch, Children, Plane, Row};
@@ -95,7 +96,7 @@ fn joined<P: Plane>(
 
 /// A new node for children, with an origin of its own.
 fn packed<P: Plane>(arena: &mut Arena<P>, children: &Children<P::Leaf>) -> Result<Branch, Memory>
-    requires right { IsRight P.widths arena.old (shape P.plain children.now) }
+    requires well_formed { IsWellFormed P.widths arena.old (shape P.plain children.now) }
     requires filled { rows_in (rows_table arena.old) (shape P.plain children.now) ≢ [] }
     ensures grows { Grows arena.old arena.new }
     ensures packs { IfOk result (λ made. Packs P.widths arena.old arena.new (shape P.plain children.now) made) }
@@ -116,8 +117,8 @@ pub(crate) fn merged<P: Plane>(
     ensures grows { Grows arena.old arena.new }
     ensures merged { IfOk result (λ made. IsMerged P.widths arena.old arena.new a.now b.now made) }
 {
-    let left = opened(arena, a.node, &a.first, &a.second)?;
-    let right = opened(arena, b.node, &b.first, &b.second)?;
-    let children = joined::<P>(arena.allocator(), left, &right)?;
+    let lower = opened(arena, a.node, &a.first, &a.second)?;
+    let upper = opened(arena, b.node, &b.first, &b.second)?;
+    let children = joined::<P>(arena.allocator(), lower, &upper)?;
     packed(arena, &children)
 }

@@ -1,7 +1,9 @@
 //! The children of a node, at their places.
-ghost use Rattle.std.specs.Prelude.{IfOk};
-ghost use Rattle.enfilade_core.specs.Exchange.{IsRightAt, IsOpened};
+ghost use Rattle.std.specs.Prelude.{◌≡◌, IfOk};
+ghost use Rattle.enfilade_core.specs.Rows.{node_at};
+ghost use Rattle.enfilade_core.specs.Exchange.{IsWellFormedAt, IsOpened};
 ghost use Rattle.enfilade_core.specs.Plain.{shape};
+ghost use Rattle.enfilade_balance.specs.OneStep.{children_at};
 ghost use Rattle.enfilade_balance.specs.Path.{StandsAs};
 
 use enfilade_core::{Arena, Children, Node, Plane, branches_moved, rows_moved};
@@ -14,8 +16,9 @@ pub(crate) fn opened<P: Plane>(
     first: &Tumbler,
     second: &Tumbler,
 ) -> Result<Children<P::Leaf>, Memory>
-    requires { IsRightAt P.widths arena.now node.0 first.now second.now }
+    requires { IsWellFormedAt P.widths arena.now node.0 first.now second.now }
     ensures opened { IfOk result (λ made. IsOpened P.widths arena.now node.0 first.now second.now (shape P.plain made)) }
+    ensures is { IfOk result (λ made. shape P.plain made ≡ children_at first.now second.now (node_at arena.now node.0)) }
     ensures stands { IfOk result (λ made. StandsAs arena.now node.0 (shape P.plain made)) }
 {
     let alloc = arena.allocator();

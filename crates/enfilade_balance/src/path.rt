@@ -1,13 +1,14 @@
 //! A step, down the path to where it is allowed.
 ghost use Rattle.std.specs.Prelude.{◌≡◌, ◌+◌, ◌<◌, ◌≤◌, ◌++◌, [], ◌∷◌, true, map, take, drop, length, All, IfOk};
 ghost use Rattle.enfilade_core.specs.Rows.{Rows, Branches, branch_rows, rows_in, rows_table};
-ghost use Rattle.enfilade_core.specs.Axes.{IsRightRows};
-ghost use Rattle.enfilade_core.specs.Right.{IsRight, IsRightPart};
+ghost use Rattle.enfilade_core.specs.Axes.{IsWellFormedRows};
+ghost use Rattle.enfilade_core.specs.WellFormed.{IsWellFormed, IsWellFormedPart};
 ghost use Rattle.enfilade_core.specs.Summary.{height_of};
-ghost use Rattle.enfilade_core.specs.Standing.{split_above, standings, standings_below, standing_in, standing_below, standing_of, has_merge};
+ghost use Rattle.enfilade_core.specs.BalanceState.{split_above, balance_states, balance_states_below, balance_state_in, balance_state_below, balance_state_of, has_merge};
 ghost use Rattle.enfilade_core.specs.Plain.{plain_row};
 ghost use Rattle.enfilade_core.specs.Exchange.{Grows, height_in};
-ghost use Rattle.enfilade_balance.specs.Path.{may_step, Replaces, AreStepped};
+ghost use Rattle.enfilade_balance.specs.OneStep.{Steps};
+ghost use Rattle.enfilade_balance.specs.Path.{may_step, InTwo, InOne, StepsFor, Replaces, AreStepped};
 
 use crate::finding::{allowing, mergeable};
 use crate::halves::{branches_halved, rows_halved};
@@ -60,10 +61,11 @@ fn with_others(
 
 /// Two bottom nodes for one with many rows.
 fn rows_split<P: Plane>(arena: &mut Arena<P>, rows: &[Row<P::Leaf>]) -> Result<Stepped, Memory>
-    requires right { IsRightRows P.widths (map (plain_row P.plain) rows.now) }
+    requires well_formed { IsWellFormedRows P.widths (map (plain_row P.plain) rows.now) }
     requires many { split_above < length rows.now }
     ensures grows { Grows arena.old arena.new }
-    ensures replaces { IfOk result (λ made. Replaces P.widths arena.new (height_in P.widths arena.old (Rows (map (plain_row P.plain) rows.now))) (map (plain_row P.plain) rows.now) (standing_in (standings arena.old) (Rows (map (plain_row P.plain) rows.now))).debt made.branches.items) }
+    ensures replaces { IfOk result (λ made. Replaces P.widths arena.new (height_in P.widths arena.old (Rows (map (plain_row P.plain) rows.now))) (map (plain_row P.plain) rows.now) (balance_state_in (balance_states arena.old) (Rows (map (plain_row P.plain) rows.now))).debt made.branches.items) }
+    ensures split { IfOk result (λ made. (made.is_split ≡ true) × InTwo P.widths arena.new (Rows (map (plain_row P.plain) rows.now)) made.branches.items) }
 {
     let branches = rows_halved(arena, rows)?;
     Ok(Stepped {
@@ -74,10 +76,11 @@ fn rows_split<P: Plane>(arena: &mut Arena<P>, rows: &[Row<P::Leaf>]) -> Result<S
 
 /// Two inner nodes for one with many branches.
 fn branches_split<P: Plane>(arena: &mut Arena<P>, branches: &[Branch]) -> Result<Stepped, Memory>
-    requires right { IsRight P.widths arena.old (Branches branches.now) }
+    requires well_formed { IsWellFormed P.widths arena.old (Branches branches.now) }
     requires many { split_above < length branches.now }
     ensures grows { Grows arena.old arena.new }
-    ensures replaces { IfOk result (λ made. Replaces P.widths arena.new (height_in P.widths arena.old (Branches branches.now)) (rows_in (rows_table arena.old) (Branches branches.now)) (standing_below (standings arena.old) branches.now).debt made.branches.items) }
+    ensures replaces { IfOk result (λ made. Replaces P.widths arena.new (height_in P.widths arena.old (Branches branches.now)) (rows_in (rows_table arena.old) (Branches branches.now)) (balance_state_below (balance_states arena.old) branches.now).debt made.branches.items) }
+    ensures split { IfOk result (λ made. (made.is_split ≡ true) × InTwo P.widths arena.new (Branches branches.now) made.branches.items) }
 {
     let branches = branches_halved(arena, branches)?;
     Ok(Stepped {
@@ -88,9 +91,11 @@ fn branches_split<P: Plane>(arena: &mut Arena<P>, branches: &[Branch]) -> Result
 
 /// The branches that were made, under one node.
 fn under_one<P: Plane>(arena: &mut Arena<P>, stepped: Stepped) -> Result<Stepped, Memory>
-    requires { IsRight P.widths arena.old (Branches stepped.branches.items) }
+    requires { IsWellFormed P.widths arena.old (Branches stepped.branches.items) }
     ensures grows { Grows arena.old arena.new }
-    ensures replaces { IfOk result (λ made. Replaces P.widths arena.new (height_in P.widths arena.old (Branches stepped.branches.items)) (rows_in (rows_table arena.old) (Branches stepped.branches.items)) ((standing_below (standings arena.old) stepped.branches.items).debt + 1) made.branches.items) }
+    ensures replaces { IfOk result (λ made. Replaces P.widths arena.new (height_in P.widths arena.old (Branches stepped.branches.items)) (rows_in (rows_table arena.old) (Branches stepped.branches.items)) ((balance_state_below (balance_states arena.old) stepped.branches.items).debt + 1) made.branches.items) }
+    ensures same { IfOk result (λ made. made.is_split ≡ stepped.is_split) }
+    ensures one { IfOk result (λ made. InOne P.widths arena.new stepped.branches.items made.branches.items) }
 {
     let branch = arena.branches_packed(stepped.branches.as_slice())?;
     let branches = alone(arena.allocator(), branch)?;
@@ -102,10 +107,11 @@ fn under_one<P: Plane>(arena: &mut Arena<P>, stepped: Stepped) -> Result<Stepped
 
 /// The branches of a node, with one in place of two neighbours.
 fn neighbours_merged<P: Plane>(arena: &mut Arena<P>, branches: &[Branch]) -> Result<Stepped, Memory>
-    requires right { IsRight P.widths arena.old (Branches branches.now) }
-    requires some { has_merge (standings_below (standings arena.old) branches.now) ≡ true }
+    requires well_formed { IsWellFormed P.widths arena.old (Branches branches.now) }
+    requires some { has_merge (balance_states_below (balance_states arena.old) branches.now) ≡ true }
     ensures grows { Grows arena.old arena.new }
     ensures stepped { IfOk result (λ made. AreStepped P.widths arena.old arena.new branches.now made.branches.items) }
+    ensures steps { IfOk result (λ made. Steps P.widths arena.new made.is_split branches.now made.branches.items) }
 {
     let Some(k) = mergeable(arena, branches) else {
         unreachable!();
@@ -123,10 +129,11 @@ fn neighbours_merged<P: Plane>(arena: &mut Arena<P>, branches: &[Branch]) -> Res
 /// One or two branches in place of one, at or under whose node a step is allowed.
 #[cycle(stepping)]
 fn branch_stepped<P: Plane>(arena: &mut Arena<P>, branch: &Branch) -> Result<Stepped, Memory>
-    requires part { IsRightPart P.widths arena.old branch.now }
-    requires allowed { (standing_of arena.old branch.now.node.0).allows ≡ true }
+    requires part { IsWellFormedPart P.widths arena.old branch.now }
+    requires allowed { (balance_state_of arena.old branch.now.node.0).allows ≡ true }
     ensures grows { Grows arena.old arena.new }
-    ensures replaces { IfOk result (λ made. Replaces P.widths arena.new (height_of P.widths arena.old branch.now.node.0) (branch_rows (rows_table arena.old) branch.now) (standing_of arena.old branch.now.node.0).debt made.branches.items) }
+    ensures replaces { IfOk result (λ made. Replaces P.widths arena.new (height_of P.widths arena.old branch.now.node.0) (branch_rows (rows_table arena.old) branch.now) (balance_state_of arena.old branch.now.node.0).debt made.branches.items) }
+    ensures steps { IfOk result (λ made. StepsFor P.widths arena.new made.is_split branch.now made.branches.items) }
 {
     let children = opened(arena, branch.node, &branch.first, &branch.second)?;
     match children {
@@ -149,10 +156,11 @@ pub(crate) fn branches_stepped<P: Plane>(
     branches: &[Branch],
 ) -> Result<Stepped, Memory>
     requires named { All (λ branch. branch.node.0 < below.0) branches.now }
-    requires right { IsRight P.widths arena.old (Branches branches.now) }
-    requires allowed { may_step (standings arena.old) branches.now ≡ true }
+    requires well_formed { IsWellFormed P.widths arena.old (Branches branches.now) }
+    requires allowed { may_step (balance_states arena.old) branches.now ≡ true }
     ensures grows { Grows arena.old arena.new }
     ensures stepped { IfOk result (λ made. AreStepped P.widths arena.old arena.new branches.now made.branches.items) }
+    ensures steps { IfOk result (λ made. Steps P.widths arena.new made.is_split branches.now made.branches.items) }
 {
     let Some(k) = allowing(arena, branches) else {
         return neighbours_merged(arena, branches);

@@ -1,11 +1,12 @@
 //! New roots.
 ghost use Rattle.std.specs.Prelude.{◌≡◌, ◌+◌, ◌<◌, ◌≤◌, [], map, length, IsTrue, IfOk};
-ghost use Rattle.enfilade_core.specs.Rows.{Rows, Branches, branch_rows, rows_in, rows_table};
-ghost use Rattle.enfilade_core.specs.Axes.{IsRightRows};
-ghost use Rattle.enfilade_core.specs.Right.{IsRight, IsRightPart};
-ghost use Rattle.enfilade_core.specs.Standing.{split_above, standings, standing_of, tree_debt};
+ghost use Rattle.enfilade_core.specs.Rows.{Rows, Branches, branch_rows, rows_in, rows_table, node_at};
+ghost use Rattle.enfilade_core.specs.Axes.{IsWellFormedRows};
+ghost use Rattle.enfilade_core.specs.WellFormed.{IsWellFormed, IsWellFormedPart};
+ghost use Rattle.enfilade_core.specs.BalanceState.{split_above, balance_states, balance_state_of, tree_debt};
 ghost use Rattle.enfilade_core.specs.Plain.{plain_row};
 ghost use Rattle.enfilade_core.specs.Exchange.{Grows};
+ghost use Rattle.enfilade_balance.specs.OneStep.{children_of, SplitsRoot};
 ghost use Rattle.enfilade_balance.specs.Path.{debt_below, own_debt, IsRootOf, IsLighter};
 
 use crate::halves::{branches_halved, rows_halved};
@@ -18,10 +19,11 @@ pub(crate) fn root_over<P: Plane>(
     arena: &mut Arena<P>,
     branches: List<Branch>,
 ) -> Result<Node, Memory>
-    requires { IsRight P.widths arena.old (Branches branches.items) }
+    requires { IsWellFormed P.widths arena.old (Branches branches.items) }
     ensures grows { Grows arena.old arena.new }
     ensures root { IfOk result (λ root. IsRootOf arena.new (rows_in (rows_table arena.old) (Branches branches.items)) root.0) }
-    ensures owes { IfOk result (λ root. tree_debt arena.new root.0 ≡ own_debt (length branches.items) + debt_below (standings arena.old) branches.items) }
+    ensures owes { IfOk result (λ root. tree_debt arena.new root.0 ≡ own_debt (length branches.items) + debt_below (balance_states arena.old) branches.items) }
+    ensures is { IfOk result (λ root. node_at arena.new root.0 ≡ Branches branches.items) }
 {
     let root = arena.add_node(Children::Inner(branches))?;
     Ok(root)
@@ -32,10 +34,11 @@ pub(crate) fn root_of_rows<P: Plane>(
     arena: &mut Arena<P>,
     rows: &[Row<P::Leaf>],
 ) -> Result<Node, Memory>
-    requires right { IsRightRows P.widths (map (plain_row P.plain) rows.now) }
+    requires well_formed { IsWellFormedRows P.widths (map (plain_row P.plain) rows.now) }
     requires many { split_above < length rows.now }
     ensures grows { Grows arena.old arena.new }
     ensures root { IfOk result (λ root. IsLighter arena.old arena.new (Rows (map (plain_row P.plain) rows.now)) root.0) }
+    ensures splits { IfOk result (λ root. SplitsRoot P.widths arena.new (Rows (map (plain_row P.plain) rows.now)) root.0) }
 {
     let halves = rows_halved(arena, rows)?;
     root_over(arena, halves)
@@ -46,10 +49,11 @@ pub(crate) fn root_of_branches<P: Plane>(
     arena: &mut Arena<P>,
     branches: &[Branch],
 ) -> Result<Node, Memory>
-    requires right { IsRight P.widths arena.old (Branches branches.now) }
+    requires well_formed { IsWellFormed P.widths arena.old (Branches branches.now) }
     requires many { split_above < length branches.now }
     ensures grows { Grows arena.old arena.new }
     ensures root { IfOk result (λ root. IsLighter arena.old arena.new (Branches branches.now) root.0) }
+    ensures splits { IfOk result (λ root. SplitsRoot P.widths arena.new (Branches branches.now) root.0) }
 {
     let halves = branches_halved(arena, branches)?;
     root_over(arena, halves)
@@ -69,12 +73,13 @@ fn stands_at_zero(branch: &Branch) -> bool
 /// The children of a branch's node, where they stand, as those of a root. Where the node stands at zero it is
 /// that root.
 pub(crate) fn root_below<P: Plane>(arena: &mut Arena<P>, branch: &Branch) -> Result<Node, Memory>
-    requires { IsRightPart P.widths arena.old branch.now }
+    requires { IsWellFormedPart P.widths arena.old branch.now }
     ensures grows { Grows arena.old arena.new }
     ensures root { IfOk result (λ root. IsRootOf arena.new (branch_rows (rows_table arena.old) branch.now) root.0) }
-    ensures owes { IfOk result (λ root. tree_debt arena.new root.0 ≤ (standing_of arena.old branch.now.node.0).debt) }
+    ensures owes { IfOk result (λ root. tree_debt arena.new root.0 ≤ (balance_state_of arena.old branch.now.node.0).debt) }
+    ensures is { IfOk result (λ root. node_at arena.new root.0 ≡ children_of arena.old branch.now) }
 {
-    let _right = arena.allocator();
+    let _well_formed = arena.allocator();
     if stands_at_zero(branch) {
         return Ok(branch.node);
     }

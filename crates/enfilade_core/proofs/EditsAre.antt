@@ -11,12 +11,12 @@ use Rattle.tumbler.proofs.Sums.{sum-upto}
 use Rattle.tumbler.proofs.SumOrder.{EndsWell-difference}
 use Rattle.enfilade_core.specs.declared.tree.Row.{Row}
 use Rattle.enfilade_core.specs.declared.gap.Gap.{Gap}
-use Rattle.enfilade_core.specs.Axes.{Widths, InOrder, IsRightRow, IsRightRows}
+use Rattle.enfilade_core.specs.Axes.{Widths, InOrder, IsWellFormedRow, IsWellFormedRows}
 use Rattle.enfilade_core.specs.Edits.{put_before, is_within, taken_out, left_by, shift_row, shifted}
 use Rattle.enfilade_core.specs.Exchange.{rows_before, rows_past, exchanged}
 use Rattle.enfilade_core.specs.Laws.{ExchangeIsThreeEdits}
 
--- ---- rows that are all at or past a place
+-- ---- rows that are all at or past a coordinate
 
 none_before : {L : Type 0} (at : List ℕ) (rows : List (Row L)) → All (λ r. IsUpTo at r.first) rows → rows_before at rows ≡ []
 none_before at [] h = refl
@@ -30,7 +30,7 @@ pub all_from : {L : Type 0} (at : List ℕ) (row : Row L) (rows : List (Row L)) 
 all_from at row rows le h =
     All-cons (λ r. IsUpTo at r.first) row rows le (All-weaker (λ r. IsUpTo row.first r.first) (λ r. IsUpTo at r.first) (λ r k. upto_upto at row.first r.first le k) rows h.0)
 
--- rows at or past a place stay where it stays
+-- rows at or past a coordinate stay where it stays
 shifted-same : {L : Type 0} (at : List ℕ) (rows : List (Row L)) → All (λ r. IsUpTo at r.first) rows → shifted at at rows ≡ rows
 shifted-same at [] h = refl
 shifted-same at (row ∷ rows) h =
@@ -107,7 +107,7 @@ cut_is {L} from to rows le h =
     ∙ ap (λ (rs : List (Row L)). rows_before from rows ++ rs) (sym (shifted-same to (rows_past to rows) (past_are to rows h)))
     ∙ sym (exchanged-none (record { from = from; to = to; onto = to }) rows)
 
--- nothing stands between a place and one before it
+-- nothing stands between a coordinate and one before it
 pub cut_none : {L : Type 0} (from to : List ℕ) (rows : List (Row L)) → IsBefore to from → (left_by from to rows ≡ rows) × (taken_out from to rows ≡ [])
 cut_none from to [] lt = (refl, refl)
 cut_none from to (row ∷ rows) lt =
@@ -124,7 +124,7 @@ cut_none from to (row ∷ rows) lt =
       )
     ]
 
--- ---- that what an edit leaves is right
+-- ---- that what an edit leaves is well formed
 
 kept_in_order : {L : Type 0} (test : Row L → Bool) (b : Bool) (row : Row L) (rows : List (Row L)) → test row ≡ b → All (λ r. IsUpTo row.first r.first) rows → InOrder (filter test rows) → InOrder (filter test (row ∷ rows))
 kept_in_order test true row rows is le h = rw is (All-filter test (λ r. IsUpTo row.first r.first) rows le, h)
@@ -134,19 +134,19 @@ InOrder-filter : {L : Type 0} (test : Row L → Bool) (rows : List (Row L)) → 
 InOrder-filter test [] h = tt
 InOrder-filter test (row ∷ rows) h = kept_in_order test (test row) row rows refl h.0 (InOrder-filter test rows h.1)
 
-pub cut_right : {L : Type 0} (w : Widths L) (from to : List ℕ) (rows : List (Row L)) → IsUpTo from to → All (IsRightRow w) rows → InOrder rows → IsRightRows w (exchanged (record { from = from; to = to; onto = to }) [] rows)
-cut_right w from to rows le right h =
+pub cut_well_formed : {L : Type 0} (w : Widths L) (from to : List ℕ) (rows : List (Row L)) → IsUpTo from to → All (IsWellFormedRow w) rows → InOrder rows → IsWellFormedRows w (exchanged (record { from = from; to = to; onto = to }) [] rows)
+cut_well_formed w from to rows le well_formed h =
     let test : Row _ → Bool = λ row. not (is_within from to row) in
-    subst (IsRightRows w) (cut_is from to rows le h) record { each = All-filter test (IsRightRow w) rows right; ordered = InOrder-filter test rows h }
+    subst (IsWellFormedRows w) (cut_is from to rows le h) record { each = All-filter test (IsWellFormedRow w) rows well_formed; ordered = InOrder-filter test rows h }
 
-pub splice_right : {L : Type 0} (w : Widths L) (at : List ℕ) (new rows : List (Row L)) → All (IsRightRow w) rows → All (IsRightRow w) new → InOrder rows → InOrder (put_before at new rows) → IsRightRows w (exchanged (record { from = at; to = at; onto = at }) new rows)
-splice_right w at new rows right more h ordered = subst (IsRightRows w) (put_is at new rows h) record { each = put rows right; ordered = ordered }
+pub splice_well_formed : {L : Type 0} (w : Widths L) (at : List ℕ) (new rows : List (Row L)) → All (IsWellFormedRow w) rows → All (IsWellFormedRow w) new → InOrder rows → InOrder (put_before at new rows) → IsWellFormedRows w (exchanged (record { from = at; to = at; onto = at }) new rows)
+splice_well_formed w at new rows well_formed more h ordered = subst (IsWellFormedRows w) (put_is at new rows h) record { each = put rows well_formed; ordered = ordered }
   where
-    put : (rows : List (Row _)) → All (IsRightRow w) rows → All (IsRightRow w) (put_before at new rows)
+    put : (rows : List (Row _)) → All (IsWellFormedRow w) rows → All (IsWellFormedRow w) (put_before at new rows)
     put [] each = more
     put (row ∷ rows) each = elim (upto_or_before at row.first) [
-      | inl le ↦ rw (false_if_up_to row.first at le) (All-append (IsRightRow w) new (row ∷ rows) more each)
-      | inr lt ↦ rw (true_if_before row.first at lt) (All-cons (IsRightRow w) row (put_before at new rows) (All-head (IsRightRow w) row rows each) (put rows (All-tail (IsRightRow w) row rows each)))
+      | inl le ↦ rw (false_if_up_to row.first at le) (All-append (IsWellFormedRow w) new (row ∷ rows) more each)
+      | inr lt ↦ rw (true_if_before row.first at lt) (All-cons (IsWellFormedRow w) row (put_before at new rows) (All-head (IsWellFormedRow w) row rows each) (put rows (All-tail (IsWellFormedRow w) row rows each)))
     ]
 
 -- ---- an exchange as a cut, a shift and a splice
@@ -165,24 +165,24 @@ put_behind {L} at new (row ∷ rows) more h = elim (upto_or_before at row.first)
   | inr lt ↦ rw (true_if_before row.first at lt, true_if_before row.first at lt) (ap (λ (rs : List (Row L)). row ∷ rs) (put_behind at new rows more h))
 ]
 
-moved_past : {L : Type 0} (w : Widths L) (gap : Gap) (rows : List (Row L)) → IsUpTo gap.from gap.onto → All (IsRightRow w) rows → All (λ r. IsUpTo gap.to r.first) rows → All (λ r. IsUpTo gap.from r.first) (shifted gap.to gap.onto rows)
-moved_past w gap [] le right h = All-nil (λ r. IsUpTo gap.from r.first)
-moved_past w gap (row ∷ rows) le right h =
+moved_past : {L : Type 0} (w : Widths L) (gap : Gap) (rows : List (Row L)) → IsUpTo gap.from gap.onto → All (IsWellFormedRow w) rows → All (λ r. IsUpTo gap.to r.first) rows → All (λ r. IsUpTo gap.from r.first) (shifted gap.to gap.onto rows)
+moved_past w gap [] le well_formed h = All-nil (λ r. IsUpTo gap.from r.first)
+moved_past w gap (row ∷ rows) le well_formed h =
     let past = All-head (λ r. IsUpTo gap.to r.first) row rows h in
-    let ends = EndsWell-difference row.first gap.to (All-head (IsRightRow w) row rows right).first_place.ends past in
+    let ends = EndsWell-difference row.first gap.to (All-head (IsWellFormedRow w) row rows well_formed).first_coordinate.ends past in
     let there : IsUpTo gap.from (sum gap.onto (difference row.first gap.to)) = upto_upto gap.from gap.onto (sum gap.onto (difference row.first gap.to)) le (sum-upto gap.onto (difference row.first gap.to) ends) in
     All-cons (λ r. IsUpTo gap.from r.first) (shift_row gap.to gap.onto row) (shifted gap.to gap.onto rows) (rw (false_if_up_to row.first gap.to past) there)
-    (moved_past w gap rows le (All-tail (IsRightRow w) row rows right) (All-tail (λ r. IsUpTo gap.to r.first) row rows h))
+    (moved_past w gap rows le (All-tail (IsWellFormedRow w) row rows well_formed) (All-tail (λ r. IsUpTo gap.to r.first) row rows h))
 
-pub exchange_is_three : {L : Type 0} (w : Widths L) (rows : List (Row L)) → All (IsRightRow w) rows → InOrder rows → ExchangeIsThreeEdits rows
-exchange_is_three {L} w rows right h gap new le ahead =
+pub exchange_is_three : {L : Type 0} (w : Widths L) (rows : List (Row L)) → All (IsWellFormedRow w) rows → InOrder rows → ExchangeIsThreeEdits rows
+exchange_is_three {L} w rows well_formed h gap new le ahead =
     let past = rows_past gap.to rows in
     let later : All (λ r. IsUpTo gap.from r.first) (shifted gap.to gap.onto past) =
-    moved_past w gap past ahead (All-filter (λ (row : Row L). not (comes_before row.first gap.to)) (IsRightRow w) rows right) (past_are gap.to rows h) in
+    moved_past w gap past ahead (All-filter (λ (row : Row L). not (comes_before row.first gap.to)) (IsWellFormedRow w) rows well_formed) (past_are gap.to rows h) in
     sym (
     ap (λ (rs : List (Row L)). put_before gap.from new (shifted gap.to gap.onto rs)) (cut_is-plain gap.from gap.to rows le h)
     ∙ ap (put_before gap.from new) (map-append (shift_row gap.to gap.onto) (rows_before gap.from rows) past)
     ∙ ap (λ (rs : List (Row L)). put_before gap.from new (rs ++ shifted gap.to gap.onto past)) (before_stay gap rows le)
     ∙ put_behind gap.from new rows (shifted gap.to gap.onto past) later)
 
-pub ruleset edits_are = (put_is, shift_is, cut_is, cut_none, cut_right, splice_right)
+pub ruleset edits_are = (put_is, shift_is, cut_is, cut_none, cut_well_formed, splice_well_formed)

@@ -10,14 +10,14 @@ use Rattle.tumbler.proofs.Before.{before_if_true, true_if_before}
 use Rattle.tumbler.proofs.SumOrder.{fits_if_tumbler}
 use Rattle.enfilade_core.specs.declared.tree.Row.{Row}
 use Rattle.enfilade_core.specs.declared.gap.Gap.{Gap}
-use Rattle.enfilade_core.specs.Axes.{Widths, InOrder, IsRightRow}
+use Rattle.enfilade_core.specs.Axes.{Widths, InOrder, IsWellFormedRow}
 use Rattle.enfilade_core.specs.Plain.{plain_row}
-use Rattle.enfilade_core.specs.Edits.{taken_out, shift_place, shift_row, shifted}
+use Rattle.enfilade_core.specs.Edits.{taken_out, shift_coordinate, shift_row, shifted}
 use Rattle.enfilade_core.specs.Exchange.{rows_before, rows_past, exchanged}
-use Rattle.enfilade_core.proofs.GoneThrough.{mapped_at, item-right}
+use Rattle.enfilade_core.proofs.GoneThrough.{mapped_at, item-well_formed}
 use Rattle.enfilade_core.proofs.ExchangeLists.{moved_past, NoneBefore, before_later, split-front, split-back, split-between}
 
--- ---- how many come before a place
+-- ---- how many come before a coordinate
 
 pub count-short : {L : Type 0} (at : List ℕ) (rows : List (Row L)) → length (rows_before at rows) ≤ length rows
 count-short at [] = omega arith
@@ -36,7 +36,7 @@ count-later {L} from to (row ∷ rows) le = elim (comes_before row.first from) a
   ] refl
 ] refl
 
--- rows in order are parted by a place, and where they are parted tells how many come before it
+-- rows in order are parted by a coordinate, and where they are parted tells how many come before it
 pub parted-before : {L : Type 0} (at : List ℕ) (rows : List (Row L)) → InOrder rows → (i j : ℕ) (d : Row L) → i ≤ j → j < length rows → comes_before (get_or rows j d).first at ≡ true → comes_before (get_or rows i d).first at ≡ true
 parted-before at [] ordered i j d le lt e = absurd (omega (arith, lt))
 parted-before at (row ∷ rows) ordered zero zero d le lt e = e
@@ -105,7 +105,7 @@ slice-within {L} plain from to rows n m h le e f =
     ∙ ap (λ (k : ℕ). drop (length (rows_before from whole)) (take k whole)) (f ∙ count-plain plain to rows)
     ∙ split-between from to whole h le
 
--- ---- what moves is behind the gap, and right there
+-- ---- what moves is behind the gap, and well formed there
 
 pub past_passes : {L : Type 0} (at : List ℕ) (rows : List (Row L)) → NoneBefore at (rows_past at rows)
 past_passes at [] = λ k d lt. absurd (omega arith)
@@ -117,29 +117,29 @@ past_passes {L} at (row ∷ rows) = elim (comes_before row.first at) as (λ b. c
 pub past-passes : {L : Type 0} (at : List ℕ) (rows more : List (Row L)) → more ≡ rows_past at rows → NoneBefore at more
 past-passes at rows more e = subst (NoneBefore at) (sym e) (past_passes at rows)
 
-pub right-moved : {L : Type 0} (w : Widths L) (gap : Gap) (new rows more : List (Row L)) → more ≡ rows_past gap.to rows → All (IsRightRow w) (exchanged gap new rows) → All (IsRightRow w) (shifted gap.to gap.onto more)
-right-moved {L} w gap new rows more e h =
-    subst (λ (r : List (Row L)). All (IsRightRow w) (shifted gap.to gap.onto r)) (sym e)
-    (All-back (IsRightRow w) (rows_before gap.from rows ++ new) (moved_past gap rows) h)
+pub well_formed-moved : {L : Type 0} (w : Widths L) (gap : Gap) (new rows more : List (Row L)) → more ≡ rows_past gap.to rows → All (IsWellFormedRow w) (exchanged gap new rows) → All (IsWellFormedRow w) (shifted gap.to gap.onto more)
+well_formed-moved {L} w gap new rows more e h =
+    subst (λ (r : List (Row L)). All (IsWellFormedRow w) (shifted gap.to gap.onto r)) (sym e)
+    (All-back (IsWellFormedRow w) (rows_before gap.from rows ++ new) (moved_past gap rows) h)
 
 -- one row behind the gap
 pub past-at : {L : Type 0} (plain : L → L) (at : List ℕ) (rows : List (Row L)) (i : ℕ) (row : Row L) → i < length rows → row ≡ get_or rows i row → NoneBefore at (map (plain_row plain) rows) → comes_before row.first at ≡ false
 past-at plain at rows i row lt is h =
     let m = mapped_at (plain_row plain) rows i row lt is in
-    item-right (λ r. comes_before r.first at ≡ false) (map (plain_row plain) rows) i (plain_row plain row) m.short m.at h
+    item-well_formed (λ r. comes_before r.first at ≡ false) (map (plain_row plain) rows) i (plain_row plain row) m.short m.at h
 
-pub right-at : {L : Type 0} (w : Widths L) (plain : L → L) (to onto : List ℕ) (rows : List (Row L)) (i : ℕ) (row : Row L) → i < length rows → row ≡ get_or rows i row → All (IsRightRow w) (shifted to onto (map (plain_row plain) rows)) → IsTumbler (shift_place to onto row.first)
-right-at w plain to onto rows i row lt is h =
+pub well_formed-at : {L : Type 0} (w : Widths L) (plain : L → L) (to onto : List ℕ) (rows : List (Row L)) (i : ℕ) (row : Row L) → i < length rows → row ≡ get_or rows i row → All (IsWellFormedRow w) (shifted to onto (map (plain_row plain) rows)) → IsTumbler (shift_coordinate to onto row.first)
+well_formed-at w plain to onto rows i row lt is h =
     let m = mapped_at (plain_row plain) rows i row lt is in
     let n = mapped_at (shift_row to onto) (map (plain_row plain) rows) i (plain_row plain row) m.short m.at in
-    (item-right (IsRightRow w) (shifted to onto (map (plain_row plain) rows)) i (shift_row to onto (plain_row plain row)) n.short n.at h).first_place
+    (item-well_formed (IsWellFormedRow w) (shifted to onto (map (plain_row plain) rows)) i (shift_row to onto (plain_row plain row)) n.short n.at h).first_coordinate
 
-pub shift-fits : (to onto place d : List ℕ) → comes_before place to ≡ false → IsTumbler (shift_place to onto place) → d ≡ difference place to → Fits onto d
-shift-fits to onto place d e t is =
-    subst (Fits onto) (sym is) (fits_if_tumbler onto (difference place to) (subst IsTumbler (ap (λ b. cond b place (sum onto (difference place to))) e) t))
+pub shift-fits : (to onto coordinate d : List ℕ) → comes_before coordinate to ≡ false → IsTumbler (shift_coordinate to onto coordinate) → d ≡ difference coordinate to → Fits onto d
+shift-fits to onto coordinate d e t is =
+    subst (Fits onto) (sym is) (fits_if_tumbler onto (difference coordinate to) (subst IsTumbler (ap (λ b. cond b coordinate (sum onto (difference coordinate to))) e) t))
 
-pub shift-is : (to onto place : List ℕ) → comes_before place to ≡ false → shift_place to onto place ≡ sum onto (difference place to)
-shift-is to onto place e = ap (λ b. cond b place (sum onto (difference place to))) e
+pub shift-is : (to onto coordinate : List ℕ) → comes_before coordinate to ≡ false → shift_coordinate to onto coordinate ≡ sum onto (difference coordinate to)
+shift-is to onto coordinate e = ap (λ b. cond b coordinate (sum onto (difference coordinate to))) e
 
 -- the lists that come one from another
 pub bottom-made : {L : Type 0} (gap : Gap) (new rows none first second third before past : List (Row L)) → none ≡ [] → first ≡ none ++ before → second ≡ first ++ new → third ≡ second ++ shifted gap.to gap.onto past

@@ -10,14 +10,14 @@ use Rattle.enfilade_core.specs.declared.tree.Row.{Row}
 use Rattle.enfilade_core.specs.declared.tree.Branch.{Branch}
 use Rattle.enfilade_core.specs.declared.gap.Gap.{Gap}
 use Rattle.enfilade_core.specs.Rows.{Shape, Branches, branch_rows, rows_table}
-use Rattle.enfilade_core.specs.Axes.{Widths, IsRightRows}
-use Rattle.enfilade_core.specs.Right.{IsRight, IsRightPart}
+use Rattle.enfilade_core.specs.Axes.{Widths, IsWellFormedRows}
+use Rattle.enfilade_core.specs.WellFormed.{IsWellFormed, IsWellFormedPart}
 use Rattle.enfilade_core.specs.Summary.{height_of}
 use Rattle.enfilade_core.specs.Edits.{taken_out}
 use Rattle.enfilade_core.specs.Exchange.{exchanged, Grows, MayHaveRows, BranchesHaveRows, LevelRows, AppendsRows, IsChosen, branches_if}
 use Rattle.enfilade_core.proofs.Nodes.{node-parts}
-use Rattle.enfilade_core.proofs.GoneThrough.{around, item-right}
-use Rattle.enfilade_core.proofs.ExchangeLists.{NoneBefore, exchanged-front, exchanged-back, taken-append, taken-before, right_rows-front, right_rows-back}
+use Rattle.enfilade_core.proofs.GoneThrough.{around, item-well_formed}
+use Rattle.enfilade_core.proofs.ExchangeLists.{NoneBefore, exchanged-front, exchanged-back, taken-append, taken-before, well_formed_rows-front, well_formed_rows-back}
 use Rattle.enfilade_core.proofs.ExchangeGrown.{grows-same, grows-more, part-grown, parts-grown, rows-grown, height-grown, flat_rows, flat-grown, flat-around, level-grown, branches-grown, branches-append, branches-one}
 
 -- ---- branches behind the one that new rows go into, one after another
@@ -40,23 +40,23 @@ pub record RestAt {L : Type 0} (w : Widths L) (gap : Gap) (old now : List (Shape
   pub grows : Grows old now
   pub lt : i < length branches
   pub is : branch ≡ get_or branches i branch
-  pub parts : All (IsRightPart w old) branches
+  pub parts : All (IsWellFormedPart w old) branches
   pub past : NoneBefore gap.from (flat_rows old branches)
-  pub right : IsRightRows w (exchanged gap [] (flat_rows old branches))
+  pub well_formed : IsWellFormedRows w (exchanged gap [] (flat_rows old branches))
 
-pub rest-part : {L : Type 0} (w : Widths L) (gap : Gap) (old now : List (Shape L)) (branches : List Branch) (i : ℕ) (branch : Branch) → RestAt w gap old now branches i branch → IsRightPart w now branch
-rest-part w gap old now branches i branch at = part-grown w old now branch at.grows (item-right (IsRightPart w old) branches i branch at.lt at.is at.parts)
+pub rest-part : {L : Type 0} (w : Widths L) (gap : Gap) (old now : List (Shape L)) (branches : List Branch) (i : ℕ) (branch : Branch) → RestAt w gap old now branches i branch → IsWellFormedPart w now branch
+rest-part w gap old now branches i branch at = part-grown w old now branch at.grows (item-well_formed (IsWellFormedPart w old) branches i branch at.lt at.is at.parts)
 
 rest-rows : {L : Type 0} (w : Widths L) (gap : Gap) (old now : List (Shape L)) (branches : List Branch) (i : ℕ) (branch : Branch) → RestAt w gap old now branches i branch → branch_rows (rows_table now) branch ≡ branch_rows (rows_table old) branch
-rest-rows w gap old now branches i branch at = rows-grown old now branch at.grows (item-right (IsRightPart w old) branches i branch at.lt at.is at.parts).branch.below
+rest-rows w gap old now branches i branch at = rows-grown old now branch at.grows (item-well_formed (IsWellFormedPart w old) branches i branch at.lt at.is at.parts).branch.below
 
 rest-past : {L : Type 0} (w : Widths L) (gap : Gap) (old now : List (Shape L)) (branches : List Branch) (i : ℕ) (branch : Branch) → RestAt w gap old now branches i branch → NoneBefore gap.from (branch_rows (rows_table old) branch ++ flat_rows old (drop (i + 1) branches))
 rest-past w gap old now branches i branch at =
     All-back (λ r. comes_before r.first gap.from ≡ false) (flat_rows old (take i branches)) (branch_rows (rows_table old) branch ++ flat_rows old (drop (i + 1) branches))
     (subst (NoneBefore gap.from) (flat-around old branches i branch (around branches i branch at.lt at.is)) at.past)
 
-pub rest-right : {L : Type 0} (w : Widths L) (gap : Gap) (old now : List (Shape L)) (branches : List Branch) (i : ℕ) (branch : Branch) (none : List (Row L)) → none ≡ [] → RestAt w gap old now branches i branch → IsRightRows w (exchanged gap none (branch_rows (rows_table now) branch))
-rest-right {L} w gap old now branches i branch none empty at =
+pub rest-well_formed : {L : Type 0} (w : Widths L) (gap : Gap) (old now : List (Shape L)) (branches : List Branch) (i : ℕ) (branch : Branch) (none : List (Row L)) → none ≡ [] → RestAt w gap old now branches i branch → IsWellFormedRows w (exchanged gap none (branch_rows (rows_table now) branch))
+rest-well_formed {L} w gap old now branches i branch none empty at =
     let front = flat_rows old (take i branches) in
     let rows = branch_rows (rows_table old) branch in
     let rest = flat_rows old (drop (i + 1) branches) in
@@ -65,10 +65,10 @@ rest-right {L} w gap old now branches i branch none empty at =
     ap (exchanged gap []) (flat-around old branches i branch (around branches i branch at.lt at.is))
     ∙ exchanged-back gap [] front (rows ++ rest) past
     ∙ ap (λ (r : List (Row L)). exchanged gap [] front ++ r) (exchanged-back gap [] rows rest (All-back (λ r. comes_before r.first gap.from ≡ false) rows rest past)) in
-    subst (λ (r : List (Row L)). IsRightRows w (exchanged gap r (branch_rows (rows_table now) branch))) (sym empty)
-    (subst (λ (r : List (Row L)). IsRightRows w (exchanged gap [] r)) (sym (rest-rows w gap old now branches i branch at))
-    (right_rows-front w (exchanged gap [] rows) (exchanged gap [] rest)
-    (right_rows-back w (exchanged gap [] front) (exchanged gap [] rows ++ exchanged gap [] rest) (subst (IsRightRows w) whole at.right))))
+    subst (λ (r : List (Row L)). IsWellFormedRows w (exchanged gap r (branch_rows (rows_table now) branch))) (sym empty)
+    (subst (λ (r : List (Row L)). IsWellFormedRows w (exchanged gap [] r)) (sym (rest-rows w gap old now branches i branch at))
+    (well_formed_rows-front w (exchanged gap [] rows) (exchanged gap [] rest)
+    (well_formed_rows-back w (exchanged gap [] front) (exchanged gap [] rows ++ exchanged gap [] rest) (subst (IsWellFormedRows w) whole at.well_formed))))
 
 taken-flat : {L : Type 0} (nodes : List (Shape L)) (branches : List Branch) (i : ℕ) (branch : Branch) → i < length branches → branch ≡ get_or branches i branch → flat_rows nodes (take (i + 1) branches) ≡ flat_rows nodes (take i branches) ++ branch_rows (rows_table nodes) branch
 taken-flat {L} nodes branches i branch lt is =
@@ -87,7 +87,7 @@ rest-more {L} w gap old now next branches i branch before after made none out_be
     let rest = flat_rows old (drop (i + 1) branches) in
     let same = rest-rows w gap old now branches i branch at in
     let flat = taken-flat old branches i branch at.lt at.is in
-    let part = item-right (IsRightPart w old) branches i branch at.lt at.is at.parts in
+    let part = item-well_formed (IsWellFormedPart w old) branches i branch at.lt at.is at.parts in
     let past = All-front (λ r. comes_before r.first gap.from ≡ false) rows rest (rest-past w gap old now branches i branch at) in
     let both : exchanged gap [] (flat_rows old (take (i + 1) branches)) ≡ exchanged gap [] front ++ exchanged gap [] rows =
     ap (exchanged gap []) flat ∙ exchanged-back gap [] front rows past in
@@ -97,7 +97,7 @@ rest-more {L} w gap old now next branches i branch before after made none out_be
       grows = grows-more old now next so.grows grows;
       rows = λ first height level have.
           let high : height_of w now branch.node.0 ≡ height =
-          height-grown w old now branch.node.0 at.grows part.branch.below ∙ item-right (λ b. height_of w old b.node.0 ≡ height) branches i branch at.lt at.is level in
+          height-grown w old now branch.node.0 at.grows part.branch.below ∙ item-well_formed (λ b. height_of w old b.node.0 ≡ height) branches i branch at.lt at.is level in
           let one = branches-one w next (height_of w now branch.node.0) (exchanged gap none (branch_rows (rows_table now) branch)) found has in
           let one_here = subst (λ (n : ℕ). BranchesHaveRows w next n (exchanged gap [] rows) (branches_if found)) high
           (subst (λ (r : List (Row L)). BranchesHaveRows w next (height_of w now branch.node.0) r (branches_if found)) value one) in
@@ -121,13 +121,13 @@ rest-all {L} w gap old now branches i before after out_before out le so =
 
 pub record BranchesAt {L : Type 0} (w : Widths L) (gap : Gap) (new : List (Row L)) (nodes : List (Shape L)) (branches : List Branch) (k : ℕ) (branch : Branch) : Type 0 where
   pub up_to : IsUpTo gap.from gap.to
-  pub node : IsRight w nodes (Branches branches)
-  pub right : IsRightRows w (exchanged gap new (flat_rows nodes branches))
+  pub node : IsWellFormed w nodes (Branches branches)
+  pub well_formed : IsWellFormedRows w (exchanged gap new (flat_rows nodes branches))
   pub chosen : IsChosen nodes branches gap.from k
   pub is : branch ≡ get_or branches k branch
 
-pub chosen-part : {L : Type 0} (w : Widths L) (gap : Gap) (new : List (Row L)) (nodes : List (Shape L)) (branches : List Branch) (k : ℕ) (branch : Branch) → BranchesAt w gap new nodes branches k branch → IsRightPart w nodes branch
-chosen-part w gap new nodes branches k branch at = item-right (IsRightPart w nodes) branches k branch at.chosen.there at.is (node-parts w nodes branches at.node)
+pub chosen-part : {L : Type 0} (w : Widths L) (gap : Gap) (new : List (Row L)) (nodes : List (Shape L)) (branches : List Branch) (k : ℕ) (branch : Branch) → BranchesAt w gap new nodes branches k branch → IsWellFormedPart w nodes branch
+chosen-part w gap new nodes branches k branch at = item-well_formed (IsWellFormedPart w nodes) branches k branch at.chosen.there at.is (node-parts w nodes branches at.node)
 
 chosen-split : {L : Type 0} (w : Widths L) (gap : Gap) (new : List (Row L)) (nodes : List (Shape L)) (branches : List Branch) (k : ℕ) (branch : Branch) → BranchesAt w gap new nodes branches k branch
     → flat_rows nodes branches ≡ flat_rows nodes (take k branches) ++ (branch_rows (rows_table nodes) branch ++ flat_rows nodes (drop (k + 1) branches))
@@ -144,33 +144,33 @@ chosen-whole {L} w gap new nodes branches k branch at =
     ∙ ap (λ (r : List (Row L)). front ++ r) (exchanged-back gap new rows rest at.chosen.back)
 
 chosen-both : {L : Type 0} (w : Widths L) (gap : Gap) (new : List (Row L)) (nodes : List (Shape L)) (branches : List Branch) (k : ℕ) (branch : Branch) → BranchesAt w gap new nodes branches k branch
-    → IsRightRows w (exchanged gap new (branch_rows (rows_table nodes) branch) ++ exchanged gap [] (flat_rows nodes (drop (k + 1) branches)))
+    → IsWellFormedRows w (exchanged gap new (branch_rows (rows_table nodes) branch) ++ exchanged gap [] (flat_rows nodes (drop (k + 1) branches)))
 chosen-both w gap new nodes branches k branch at =
-    right_rows-back w (flat_rows nodes (take k branches)) (exchanged gap new (branch_rows (rows_table nodes) branch) ++ exchanged gap [] (flat_rows nodes (drop (k + 1) branches)))
-    (subst (IsRightRows w) (chosen-whole w gap new nodes branches k branch at) at.right)
+    well_formed_rows-back w (flat_rows nodes (take k branches)) (exchanged gap new (branch_rows (rows_table nodes) branch) ++ exchanged gap [] (flat_rows nodes (drop (k + 1) branches)))
+    (subst (IsWellFormedRows w) (chosen-whole w gap new nodes branches k branch at) at.well_formed)
 
-pub chosen-right : {L : Type 0} (w : Widths L) (gap : Gap) (new : List (Row L)) (nodes : List (Shape L)) (branches : List Branch) (k : ℕ) (branch : Branch) → BranchesAt w gap new nodes branches k branch → IsRightRows w (exchanged gap new (branch_rows (rows_table nodes) branch))
-chosen-right w gap new nodes branches k branch at =
-    right_rows-front w (exchanged gap new (branch_rows (rows_table nodes) branch)) (exchanged gap [] (flat_rows nodes (drop (k + 1) branches))) (chosen-both w gap new nodes branches k branch at)
+pub chosen-well_formed : {L : Type 0} (w : Widths L) (gap : Gap) (new : List (Row L)) (nodes : List (Shape L)) (branches : List Branch) (k : ℕ) (branch : Branch) → BranchesAt w gap new nodes branches k branch → IsWellFormedRows w (exchanged gap new (branch_rows (rows_table nodes) branch))
+chosen-well_formed w gap new nodes branches k branch at =
+    well_formed_rows-front w (exchanged gap new (branch_rows (rows_table nodes) branch)) (exchanged gap [] (flat_rows nodes (drop (k + 1) branches))) (chosen-both w gap new nodes branches k branch at)
 
 -- what the branches behind the chosen one need
 pub record RestReady {L : Type 0} (w : Widths L) (gap : Gap) (nodes : List (Shape L)) (below : ℕ) (rest : List Branch) : Type 0 where
   pub named : All (λ branch. branch.node.0 < below) rest
-  pub parts : All (IsRightPart w nodes) rest
+  pub parts : All (IsWellFormedPart w nodes) rest
   pub past : NoneBefore gap.from (flat_rows nodes rest)
-  pub right : IsRightRows w (exchanged gap [] (flat_rows nodes rest))
+  pub well_formed : IsWellFormedRows w (exchanged gap [] (flat_rows nodes rest))
 
 pub chosen-rest : {L : Type 0} (w : Widths L) (gap : Gap) (new : List (Row L)) (old nodes : List (Shape L)) (below : ℕ) (branches : List Branch) (k : ℕ) (branch : Branch) (rest : List Branch) → BranchesAt w gap new old branches k branch → Grows old nodes
     → All (λ branch. branch.node.0 < below) branches → rest ≡ drop (k + 1) branches → RestReady w gap nodes below rest
 chosen-rest {L} w gap new old nodes below branches k branch rest at grows named is =
-    let parts = All-drop (IsRightPart w old) (k + 1) branches (node-parts w old branches at.node) in
+    let parts = All-drop (IsWellFormedPart w old) (k + 1) branches (node-parts w old branches at.node) in
     let same = flat-grown w old nodes (drop (k + 1) branches) grows parts in
     subst (RestReady w gap nodes below) (sym is) record {
       named = All-drop (λ b. b.node.0 < below) (k + 1) branches named;
       parts = parts-grown w old nodes (drop (k + 1) branches) grows parts;
       past = subst (NoneBefore gap.from) (sym same) at.chosen.back;
-      right = subst (λ (r : List (Row L)). IsRightRows w (exchanged gap [] r)) (sym same)
-          (right_rows-back w (exchanged gap new (branch_rows (rows_table old) branch)) (exchanged gap [] (flat_rows old (drop (k + 1) branches))) (chosen-both w gap new old branches k branch at));
+      well_formed = subst (λ (r : List (Row L)). IsWellFormedRows w (exchanged gap [] r)) (sym same)
+          (well_formed_rows-back w (exchanged gap new (branch_rows (rows_table old) branch)) (exchanged gap [] (flat_rows old (drop (k + 1) branches))) (chosen-both w gap new old branches k branch at));
     }
 
 -- what came of the chosen branch and of those behind it
@@ -191,15 +191,15 @@ branches-made {L} w gap new old mid now branches k branch rest front made all fo
     let rows = branch_rows (rows_table old) branch in
     let behind = drop (k + 1) branches in
     let parts = node-parts w old branches at.node in
-    let parts_behind = All-drop (IsRightPart w old) (k + 1) branches parts in
+    let parts_behind = All-drop (IsWellFormedPart w old) (k + 1) branches parts in
     let same = flat-grown w old mid behind m.grows parts_behind in
     let first : BranchesHaveRows w old height before (take k branches) = record {
-      parts = All-take (IsRightPart w old) k branches parts;
+      parts = All-take (IsWellFormedPart w old) k branches parts;
       rows_are = refl;
       level = All-take H k branches level;
     } in
     let one = branches-one w mid (height_of w old branch.node.0) (exchanged gap new rows) found m.has in
-    let one_here = subst (λ (n : ℕ). BranchesHaveRows w mid n (exchanged gap new rows) (branches_if found)) (item-right H branches k branch at.chosen.there at.is level) one in
+    let one_here = subst (λ (n : ℕ). BranchesHaveRows w mid n (exchanged gap new rows) (branches_if found)) (item-well_formed H branches k branch at.chosen.there at.is level) one in
     let both = branches-append w mid height before (exchanged gap new rows) (take k branches) (branches_if found) (branches-grown w old mid height before (take k branches) m.grows first) one_here in
     let both_here = subst (BranchesHaveRows w mid height (before ++ exchanged gap new rows)) (sym (m.made_is ∙ ap (λ (bs : List Branch). bs ++ branches_if found) m.front_is)) both in
     let appends = subst (λ (bs : List Branch). AppendsRows w mid now bs (exchanged gap [] (flat_rows mid bs)) made all) m.rest_is m.appends in
@@ -215,7 +215,7 @@ branches-taken {L} w gap new old mid branches k branch rest out_before out out_a
     let rows = branch_rows (rows_table old) branch in
     let behind = flat_rows old (drop (k + 1) branches) in
     let same : flat_rows mid rest ≡ behind =
-    ap (flat_rows mid) is ∙ flat-grown w old mid (drop (k + 1) branches) grows (All-drop (IsRightPart w old) (k + 1) branches (node-parts w old branches at.node)) in
+    ap (flat_rows mid) is ∙ flat-grown w old mid (drop (k + 1) branches) grows (All-drop (IsWellFormedPart w old) (k + 1) branches (node-parts w old branches at.node)) in
     let whole : taken_out gap.from gap.to (flat_rows old branches) ≡ taken_out gap.from gap.to rows ++ taken_out gap.from gap.to behind =
     ap (taken_out gap.from gap.to) (chosen-split w gap new old branches k branch at)
     ∙ taken-append gap.from gap.to front (rows ++ behind)

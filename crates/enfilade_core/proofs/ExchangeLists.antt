@@ -9,7 +9,7 @@ use Rattle.tumbler.proofs.Order.{upto_upto, before_upto}
 use Rattle.tumbler.proofs.Before.{before_if_true, true_if_before, up_to_if_false, false_if_up_to}
 use Rattle.enfilade_core.specs.declared.tree.Row.{Row}
 use Rattle.enfilade_core.specs.declared.gap.Gap.{Gap}
-use Rattle.enfilade_core.specs.Axes.{Widths, InOrder, IsRightRow, IsRightRows}
+use Rattle.enfilade_core.specs.Axes.{Widths, InOrder, IsWellFormedRow, IsWellFormedRows}
 use Rattle.enfilade_core.specs.Edits.{is_within, taken_out, shift_row, shifted}
 use Rattle.enfilade_core.specs.Exchange.{rows_before, rows_past, exchanged}
 use Rattle.enfilade_core.proofs.Orders.{InOrder-front, InOrder-back}
@@ -28,7 +28,7 @@ filter-none {X} p (x ∷ xs) h =
     let P : X → Type 0 = λ y. p y ≡ false in
     rw (All-head P x xs h) (filter-none p xs (All-tail P x xs h))
 
--- ---- rows on one side of a place
+-- ---- rows on one side of a coordinate
 
 abbrev pub AllBefore : {L : Type 0} → List ℕ → List (Row L) → Type 0
 AllBefore at rows = All (λ row. comes_before row.first at ≡ true) rows
@@ -54,7 +54,7 @@ past-all at rows h = filter-all (λ row. not (comes_before row.first at)) rows (
 pub past-none : {L : Type 0} (at : List ℕ) (rows : List (Row L)) → AllBefore at rows → rows_past at rows ≡ []
 past-none at rows h = filter-none (λ row. not (comes_before row.first at)) rows (All-weaker (λ row. comes_before row.first at ≡ true) (λ row. not (comes_before row.first at) ≡ false) (λ row e. not_true (comes_before row.first at) e) rows h)
 
--- what is before a place is before a later one
+-- what is before a coordinate is before a later one
 pub before_later : {L : Type 0} (from to : List ℕ) (row : Row L) → IsUpTo from to → comes_before row.first from ≡ true → comes_before row.first to ≡ true
 before_later from to row le e = true_if_before row.first to (before_upto row.first from to (before_if_true row.first from e) le)
 
@@ -153,22 +153,22 @@ exchanged-within {L} gap rows h =
 pub taken-within : {L : Type 0} (gap : Gap) (rows : List (Row L)) → AllWithin gap rows → taken_out gap.from gap.to rows ≡ rows
 taken-within gap rows h = filter-all (is_within gap.from gap.to) rows h
 
--- ---- right rows and their parts
+-- ---- well formed rows and their parts
 
-pub right_rows-front : {L : Type 0} (w : Widths L) (rows more : List (Row L)) → IsRightRows w (rows ++ more) → IsRightRows w rows
-right_rows-front w rows more h = record { each = All-front (IsRightRow w) rows more h.each; ordered = InOrder-front rows more h.ordered }
+pub well_formed_rows-front : {L : Type 0} (w : Widths L) (rows more : List (Row L)) → IsWellFormedRows w (rows ++ more) → IsWellFormedRows w rows
+well_formed_rows-front w rows more h = record { each = All-front (IsWellFormedRow w) rows more h.each; ordered = InOrder-front rows more h.ordered }
 
-pub right_rows-back : {L : Type 0} (w : Widths L) (rows more : List (Row L)) → IsRightRows w (rows ++ more) → IsRightRows w more
-right_rows-back w rows more h = record { each = All-back (IsRightRow w) rows more h.each; ordered = InOrder-back rows more h.ordered }
+pub well_formed_rows-back : {L : Type 0} (w : Widths L) (rows more : List (Row L)) → IsWellFormedRows w (rows ++ more) → IsWellFormedRows w more
+well_formed_rows-back w rows more h = record { each = All-back (IsWellFormedRow w) rows more h.each; ordered = InOrder-back rows more h.ordered }
 
--- ---- rows in order, split at a place
+-- ---- rows in order, split at a coordinate
 
 pub none_before-behind : {L : Type 0} (at : List ℕ) (row : Row L) (rows : List (Row L)) → InOrder (row ∷ rows) → comes_before row.first at ≡ false → NoneBefore at (row ∷ rows)
 none_before-behind {L} at row rows h e =
     All-cons (λ r. comes_before r.first at ≡ false) row rows e
     (All-weaker (λ r. IsUpTo row.first r.first) (λ r. comes_before r.first at ≡ false) (λ r le. false_if_up_to r.first at (upto_upto at row.first r.first (up_to_if_false row.first at e) le)) rows h.0)
 
--- as many as come before a place stand in front, the others behind
+-- as many as come before a coordinate stand in front, the others behind
 pub split-front : {L : Type 0} (at : List ℕ) (rows : List (Row L)) → InOrder rows → take (length (rows_before at rows)) rows ≡ rows_before at rows
 split-front at [] h = refl
 split-front {L} at (row ∷ rows) h = elim (comes_before row.first at) as (λ b. comes_before row.first at ≡ b → take (length (rows_before at (row ∷ rows))) (row ∷ rows) ≡ rows_before at (row ∷ rows)) [

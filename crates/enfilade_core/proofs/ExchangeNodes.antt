@@ -9,13 +9,13 @@ use Rattle.enfilade_core.specs.declared.tree.Branch.{Branch}
 use Rattle.enfilade_core.specs.declared.summary.Summary.{Summary}
 use Rattle.enfilade_core.specs.declared.gap.Gap.{Gap}
 use Rattle.enfilade_core.specs.Rows.{Shape, Rows, Branches, moved, branch_rows, rows_in, rows_table, rows_of}
-use Rattle.enfilade_core.specs.Axes.{Widths, InOrder, IsRightRow, IsRightRows}
-use Rattle.enfilade_core.specs.Right.{IsRightPart}
+use Rattle.enfilade_core.specs.Axes.{Widths, InOrder, IsWellFormedRow, IsWellFormedRows}
+use Rattle.enfilade_core.specs.WellFormed.{IsWellFormedPart}
 use Rattle.enfilade_core.specs.Summary.{branch_summary, summaries, summary_joined, no_summary, height_of}
 use Rattle.enfilade_core.specs.Edits.{taken_out, shifted}
 use Rattle.enfilade_core.specs.Exchange.{exchanged, height_in, IsOpened, IsPacked, HasRows, BranchHasRows, BranchesHaveRows, LevelRows, MayHaveChildren}
 use Rattle.enfilade_core.proofs.Heights.{rows_height}
-use Rattle.enfilade_core.proofs.PackedBranches.{right-if_parts}
+use Rattle.enfilade_core.proofs.PackedBranches.{well_formed-if_parts}
 use Rattle.enfilade_core.proofs.ExchangeLists.{AllBefore, NoneBefore, AllWithin, exchanged-before, exchanged-past, exchanged-within}
 use Rattle.enfilade_core.proofs.ExchangeGrown.{flat_rows, AreLevel}
 
@@ -24,7 +24,7 @@ use Rattle.enfilade_core.proofs.ExchangeGrown.{flat_rows, AreLevel}
 with_none : {L : Type 0} (gap : Gap) (none rows value : List (Row L)) → none ≡ [] → exchanged gap [] rows ≡ value → exchanged gap none rows ≡ value
 with_none {L} gap none rows value empty e = ap (λ (r : List (Row L)). exchanged gap r rows) empty ∙ e
 
-pub whole-before : {L : Type 0} (w : Widths L) (nodes : List (Shape L)) (gap : Gap) (none : List (Row L)) (branch copy : Branch) → none ≡ [] → IsUpTo gap.from gap.to → IsRightPart w nodes branch → AllBefore gap.from (branch_rows (rows_table nodes) branch) → copy ≡ branch
+pub whole-before : {L : Type 0} (w : Widths L) (nodes : List (Shape L)) (gap : Gap) (none : List (Row L)) (branch copy : Branch) → none ≡ [] → IsUpTo gap.from gap.to → IsWellFormedPart w nodes branch → AllBefore gap.from (branch_rows (rows_table nodes) branch) → copy ≡ branch
     → BranchHasRows w nodes (height_of w nodes branch.node.0) (exchanged gap none (branch_rows (rows_table nodes) branch)) copy
 whole-before w nodes gap none branch copy empty le part before is =
     subst (BranchHasRows w nodes (height_of w nodes branch.node.0) (exchanged gap none (branch_rows (rows_table nodes) branch))) (sym is)
@@ -41,8 +41,8 @@ pub whole-past : {L : Type 0} (w : Widths L) (nodes : List (Shape L)) (height : 
 whole-past {L} w nodes height gap none rows made empty le past h =
     subst (λ (r : List (Row L)). BranchHasRows w nodes height r made) (sym (with_none gap none rows (shifted gap.to gap.onto rows) empty (exchanged-past gap rows le past))) h
 
-pub past-right : {L : Type 0} (w : Widths L) (gap : Gap) (none rows : List (Row L)) → none ≡ [] → IsUpTo gap.from gap.to → NoneBefore gap.to rows → IsRightRows w (exchanged gap none rows) → All (IsRightRow w) (shifted gap.to gap.onto rows)
-past-right w gap none rows empty le past h = subst (All (IsRightRow w)) (with_none gap none rows (shifted gap.to gap.onto rows) empty (exchanged-past gap rows le past)) h.each
+pub past-well_formed : {L : Type 0} (w : Widths L) (gap : Gap) (none rows : List (Row L)) → none ≡ [] → IsUpTo gap.from gap.to → NoneBefore gap.to rows → IsWellFormedRows w (exchanged gap none rows) → All (IsWellFormedRow w) (shifted gap.to gap.onto rows)
+past-well_formed w gap none rows empty le past h = subst (All (IsWellFormedRow w)) (with_none gap none rows (shifted gap.to gap.onto rows) empty (exchanged-past gap rows le past)) h.each
 
 -- ---- rows that may be none
 
@@ -62,17 +62,17 @@ packed-has w old new height rows node branch h p = record { part = p.part; rows_
 
 -- ---- a bottom node
 
-pub bottom-exchanged : {L : Type 0} (w : Widths L) (nodes : List (Shape L)) (k : ℕ) (a b : List ℕ) (gap : Gap) (new old made : List (Row L)) → IsOpened w nodes k a b (Rows old) → IsRightRows w (exchanged gap new (map (moved a b) (rows_of nodes k))) → made ≡ exchanged gap new old
+pub bottom-exchanged : {L : Type 0} (w : Widths L) (nodes : List (Shape L)) (k : ℕ) (a b : List ℕ) (gap : Gap) (new old made : List (Row L)) → IsOpened w nodes k a b (Rows old) → IsWellFormedRows w (exchanged gap new (map (moved a b) (rows_of nodes k))) → made ≡ exchanged gap new old
     → HasRows w nodes (height_of w nodes k) (exchanged gap new (map (moved a b) (rows_of nodes k))) (Rows made)
-bottom-exchanged {L} w nodes k a b gap new old made opened right is =
+bottom-exchanged {L} w nodes k a b gap new old made opened well_formed is =
     let value : made ≡ exchanged gap new (map (moved a b) (rows_of nodes k)) = is ∙ ap (exchanged gap new) opened.rows in
     record {
-      right = record {
+      well_formed = record {
         branches = tt;
         first_origins = All-nil IsTumbler;
         second_origins = All-nil IsTumbler;
-        rows = subst (All (IsRightRow w)) (sym value) right.each;
-        ordered = subst InOrder (sym value) right.ordered;
+        rows = subst (All (IsWellFormedRow w)) (sym value) well_formed.each;
+        ordered = subst InOrder (sym value) well_formed.ordered;
       };
       rows_are = value;
       level = rows_height w made no_summary refl ∙ sym (rows_height w old no_summary refl) ∙ opened.level;
@@ -96,22 +96,22 @@ level-height w nodes height (branch ∷ branches) some level =
 branches-children : {L : Type 0} (w : Widths L) (nodes : List (Shape L)) (height : ℕ) (rows : List (Row L)) (branches : List Branch) → InOrder rows → BranchesHaveRows w nodes height rows branches → MayHaveChildren w nodes (height + 1) rows (Branches branches)
 branches-children w nodes height rows [] ordered h = sym h.rows_are
 branches-children w nodes height rows (branch ∷ branches) ordered h = record {
-  right = right-if_parts w nodes (branch ∷ branches) height (λ q. cc) h.parts h.level (subst InOrder (sym h.rows_are) ordered);
+  well_formed = well_formed-if_parts w nodes (branch ∷ branches) height (λ q. cc) h.parts h.level (subst InOrder (sym h.rows_are) ordered);
   rows_are = h.rows_are;
   level = level-height w nodes height (branch ∷ branches) (λ q. cc) h.level;
 }
 
-pub inner-exchanged : {L : Type 0} (w : Widths L) (old new : List (Shape L)) (k : ℕ) (a b : List ℕ) (gap : Gap) (rows : List (Row L)) (branches made : List Branch) → IsOpened w old k a b (Branches branches) → IsRightRows w (exchanged gap rows (map (moved a b) (rows_of old k)))
+pub inner-exchanged : {L : Type 0} (w : Widths L) (old new : List (Shape L)) (k : ℕ) (a b : List ℕ) (gap : Gap) (rows : List (Row L)) (branches made : List Branch) → IsOpened w old k a b (Branches branches) → IsWellFormedRows w (exchanged gap rows (map (moved a b) (rows_of old k)))
     → LevelRows w old new branches (exchanged gap rows (flat_rows old branches)) made → MayHaveChildren w new (height_of w old k) (exchanged gap rows (map (moved a b) (rows_of old k))) (Branches made)
-inner-exchanged {L} w old new k a b gap rows branches made opened right have =
-    let height = opened.right.branches.height in
+inner-exchanged {L} w old new k a b gap rows branches made opened well_formed have =
+    let height = opened.well_formed.branches.height in
     let value : exchanged gap rows (flat_rows old branches) ≡ exchanged gap rows (map (moved a b) (rows_of old k)) = ap (exchanged gap rows) opened.rows in
-    let h = subst (λ (r : List (Row L)). BranchesHaveRows w new height r made) value (have height opened.right.branches.level) in
-    let level : height + 1 ≡ height_of w old k = sym (level-height w old height branches opened.right.branches.some opened.right.branches.level) ∙ opened.level in
-    subst (λ (n : ℕ). MayHaveChildren w new n (exchanged gap rows (map (moved a b) (rows_of old k))) (Branches made)) level (branches-children w new height (exchanged gap rows (map (moved a b) (rows_of old k))) made right.ordered h)
+    let h = subst (λ (r : List (Row L)). BranchesHaveRows w new height r made) value (have height opened.well_formed.branches.level) in
+    let level : height + 1 ≡ height_of w old k = sym (level-height w old height branches opened.well_formed.branches.some opened.well_formed.branches.level) ∙ opened.level in
+    subst (λ (n : ℕ). MayHaveChildren w new n (exchanged gap rows (map (moved a b) (rows_of old k))) (Branches made)) level (branches-children w new height (exchanged gap rows (map (moved a b) (rows_of old k))) made well_formed.ordered h)
 
 pub taken-opened : {L : Type 0} (w : Widths L) (nodes : List (Shape L)) (k : ℕ) (a b : List ℕ) (node : Shape L) (gap : Gap) (before after : List (Row L)) → IsOpened w nodes k a b node → after ≡ before ++ taken_out gap.from gap.to (rows_in (rows_table nodes) node) → after ≡ before ++ taken_out gap.from gap.to (map (moved a b) (rows_of nodes k))
 taken-opened {L} w nodes k a b node gap before after opened e = e ∙ ap (λ (r : List (Row L)). before ++ taken_out gap.from gap.to r) opened.rows
 
-pub right-opened : {L : Type 0} (w : Widths L) (nodes : List (Shape L)) (k : ℕ) (a b : List ℕ) (node : Shape L) (gap : Gap) (new : List (Row L)) → IsOpened w nodes k a b node → IsRightRows w (exchanged gap new (map (moved a b) (rows_of nodes k))) → IsRightRows w (exchanged gap new (rows_in (rows_table nodes) node))
-right-opened {L} w nodes k a b node gap new opened h = subst (λ (r : List (Row L)). IsRightRows w (exchanged gap new r)) (sym opened.rows) h
+pub well_formed-opened : {L : Type 0} (w : Widths L) (nodes : List (Shape L)) (k : ℕ) (a b : List ℕ) (node : Shape L) (gap : Gap) (new : List (Row L)) → IsOpened w nodes k a b node → IsWellFormedRows w (exchanged gap new (map (moved a b) (rows_of nodes k))) → IsWellFormedRows w (exchanged gap new (rows_in (rows_table nodes) node))
+well_formed-opened {L} w nodes k a b node gap new opened h = subst (λ (r : List (Row L)). IsWellFormedRows w (exchanged gap new r)) (sym opened.rows) h

@@ -12,15 +12,15 @@ use Rattle.enfilade_core.specs.declared.summary.Summary.{Summary}
 use Rattle.enfilade_core.specs.Axes.{InOrder}
 use Rattle.enfilade_core.specs.Summary.{no_summary, summary_joined}
 use Rattle.enfilade_core.specs.Following.{Follows}
-use Rattle.enfilade_core.proofs.Tells.{first_place, last_place}
+use Rattle.enfilade_core.proofs.Tells.{first_coordinate, last_coordinate}
 use Rattle.enfilade_core.proofs.Orders.{InOrder-append, InOrder-front, InOrder-seam}
 
 -- what is known of one child
 pub record ItemTold {L A : Type 0} (rows : A → List (Row L)) (sum_of : A → Summary) (x : A) : Type 0 where
   pub some : rows x ≢ []
   pub leaves : (sum_of x).leaves ≡ length (rows x)
-  pub first : (sum_of x).first ≡ first_place (rows x)
-  pub last : (sum_of x).last ≡ last_place (rows x)
+  pub first : (sum_of x).first ≡ first_coordinate (rows x)
+  pub last : (sum_of x).last ≡ last_coordinate (rows x)
   pub ordered : InOrder (rows x)
 
 abbrev pub all_joined : {A : Type 0} → (A → Summary) → List A → Summary
@@ -29,7 +29,7 @@ all_joined sum_of items = fold summary_joined no_summary (map sum_of items)
 pub record IsFront {L A : Type 0} (rows : A → List (Row L)) (sum_of : A → Summary) (P : A → Type 0) (items : List A) (s : Summary) : Type 0 where
   pub parts : All P items
   pub leaves : s.leaves ≡ length (flat_map rows items)
-  pub last : s.last ≡ last_place (flat_map rows items)
+  pub last : s.last ≡ last_coordinate (flat_map rows items)
   pub ordered : InOrder (flat_map rows items)
   pub level : All (λ x. (sum_of x).height ≡ s.height) items
 
@@ -53,7 +53,7 @@ none_if_no_rows rows sum_of [] told e = refl
 none_if_no_rows rows sum_of (x ∷ items) told e =
     absurd (let long = some_long (rows x) (All-head (ItemTold rows sum_of) x items told).some in omega (arith, length-append (rows x) (flat_map rows items)))
 
-last-append : {L : Type 0} (rows more : List (Row L)) → more ≢ [] → last_place (rows ++ more) ≡ last_place more
+last-append : {L : Type 0} (rows more : List (Row L)) → more ≢ [] → last_coordinate (rows ++ more) ≡ last_coordinate more
 last-append [] more n = refl
 last-append (row ∷ []) [] n = absurd (n refl)
 last-append (row ∷ []) (next ∷ more) n = refl
@@ -71,10 +71,10 @@ front-more {L} {A} rows sum_of P told items x s front p follows =
     record {
       parts = All-append P items (x ∷ []) front.parts (All-one P x p);
       leaves = omega (arith, front.leaves, it.leaves, ap length flat, length-append (flat_map rows items) (rows x));
-      last = it.last ∙ sym (last-append (flat_map rows items) (rows x) it.some) ∙ ap last_place (sym flat);
+      last = it.last ∙ sym (last-append (flat_map rows items) (rows x) it.some) ∙ ap last_coordinate (sym flat);
       ordered = subst InOrder (sym flat) (InOrder-append (flat_map rows items) (rows x) front.ordered it.ordered (λ some also. elim follows [
         | inl none ↦ absurd (some (length_none (flat_map rows items) (sym front.leaves ∙ none)))
-        | inr both ↦ subst (λ (a : List ℕ). IsUpTo a (first_place (rows x))) front.last (subst (IsUpTo s.last) it.first both.1)
+        | inr both ↦ subst (λ (a : List ℕ). IsUpTo a (first_coordinate (rows x))) front.last (subst (IsUpTo s.last) it.first both.1)
       ]));
       level = All-append (λ y. (sum_of y).height ≡ (sum_of x).height) items (x ∷ []) (elim follows [
         | inl none ↦ subst (All (λ y. (sum_of y).height ≡ (sum_of x).height)) (sym (none_if_no_rows rows sum_of items all_told (sym front.leaves ∙ none))) (All-nil (λ y. (sum_of y).height ≡ (sum_of x).height))
@@ -99,7 +99,7 @@ front-follows {L} {A} rows sum_of P told (y ∷ items) x rest s h front p ordere
     let whole : flat_map rows ((y ∷ items) ++ x ∷ rest) ≡ (flat_map rows (y ∷ items) ++ rows x) ++ flat_map rows rest =
     flat_map-append rows (y ∷ items) (x ∷ rest) ∙ sym (append_assoc (flat_map rows (y ∷ items)) (rows x) (flat_map rows rest)) in
     let seam = InOrder-seam (flat_map rows (y ∷ items)) (rows x) (InOrder-front (flat_map rows (y ∷ items) ++ rows x) (flat_map rows rest) (subst InOrder whole ordered)) filled it.some in
-    inr (sym same ∙ there ∙ sym here, subst (λ (a : List ℕ). IsUpTo a (sum_of x).first) (sym front.last) (subst (IsUpTo (last_place (flat_map rows (y ∷ items)))) (sym it.first) seam))
+    inr (sym same ∙ there ∙ sym here, subst (λ (a : List ℕ). IsUpTo a (sum_of x).first) (sym front.last) (subst (IsUpTo (last_coordinate (flat_map rows (y ∷ items)))) (sym it.first) seam))
 
 -- the items gone through so far, with one more
 pub joined-more : {A : Type 0} (sum_of : A → Summary) (items : List A) (x : A) → all_joined sum_of (items ++ x ∷ []) ≡ summary_joined (all_joined sum_of items) (sum_of x)

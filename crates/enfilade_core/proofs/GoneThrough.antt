@@ -7,8 +7,8 @@ use Rattle.std.proofs.lemmas.Bool.Decides.{nat_tests}
 use Rattle.std.proofs.lemmas.List.Elements.{All-get_or}
 use Rattle.enfilade_core.specs.declared.tree.Row.{Row}
 use Rattle.enfilade_core.specs.declared.summary.Summary.{Summary}
-use Rattle.enfilade_core.specs.Axes.{InOrder}
-use Rattle.enfilade_core.specs.Summary.{no_summary, summary_joined, along_joined, kept, most_count}
+use Rattle.enfilade_core.specs.Axes.{InOrder, later}
+use Rattle.enfilade_core.specs.Summary.{no_summary, summary_joined, kept, most_count}
 use Rattle.enfilade_core.specs.Following.{Follows}
 use Rattle.enfilade_core.proofs.Fronts.{ItemTold, IsFront, all_joined, front-none, front-more, front-follows, joined-more}
 
@@ -29,8 +29,8 @@ kept-joined a b =
       leaves = n;
       first = first;
       last = b.last;
-      along_first = along_joined a.along_first b.along_first;
-      along_second = along_joined a.along_second b.along_second;
+      first_extent = later a.first_extent b.first_extent;
+      second_extent = later a.second_extent b.second_extent;
     } in
     let count : min (min a.leaves most_count + min b.leaves most_count) most_count ≡ min (a.leaves + b.leaves) most_count = omega arith in
     ap (λ (n : ℕ). made n (cond (eqb (min a.leaves most_count) 0) b.first a.first)) count
@@ -77,8 +77,8 @@ gone-follows rows sum_of P told xs i x s part h lt at gone p is ordered level =
     (subst (λ (ys : List _). InOrder (flat_map rows ys)) (around xs i x lt at) ordered) (subst (All (λ y. (sum_of y).height ≡ h)) (around xs i x lt at) level) in
     subst (λ (q : Summary). Follows q part) (sym gone.value) (subst (λ (q : Summary). Follows (kept whole) q) (sym is) (follows-kept whole (sum_of x) f))
 
-pub item-right : {A : Type 0} (P : A → Type 0) (xs : List A) (i : ℕ) (x : A) → i < length xs → x ≡ get_or xs i x → All P xs → P x
-item-right P xs i x lt at h = subst P (sym at) (All-get_or P xs i x lt h)
+pub item-well_formed : {A : Type 0} (P : A → Type 0) (xs : List A) (i : ℕ) (x : A) → i < length xs → x ≡ get_or xs i x → All P xs → P x
+item-well_formed P xs i x lt at h = subst P (sym at) (All-get_or P xs i x lt h)
 
 -- where all were gone through
 pub gone-all : {L A : Type 0} (rows : A → List (Row L)) (sum_of : A → Summary) (P : A → Type 0) (xs : List A) (i : ℕ) (s : Summary) → length xs ≤ i → GoneThrough rows sum_of P (take i xs) s → GoneThrough rows sum_of P xs s

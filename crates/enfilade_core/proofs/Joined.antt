@@ -1,4 +1,4 @@
--- What is told of children, one after another, where they are known to be right.
+-- What is told of children, one after another, where they are known to be well formed.
 use Rattle.std.proofs.Common.{◌≡◌, ℕ, zero, suc, ◌+◌, ◌<◌, ◌≤◌, List, [], ◌∷◌, ◌++◌, length, get_or, take, refl, arith, ap, ◌∙◌, sym}
 use Rattle.std.proofs.lemmas.List.{take_more, take_all}
 use Rattle.enfilade_core.specs.declared.summary.Summary.{Summary}
@@ -23,12 +23,12 @@ joined-next sum_of xs i x s made lt at so_far is =
     ∙ ap (with_last []) (kept-joined whole (sum_of x) ∙ ap kept (sym (ap (all_joined sum_of) (take_next xs i x lt at) ∙ joined-more sum_of (take i xs) x)))
 
 -- where the last row stands is told by the last item
-pub joined-whole : {A : Type 0} (sum_of : A → Summary) (xs : List A) (i k : ℕ) (x : A) (s : Summary) (place : List ℕ) → length xs ≤ i → k + 1 ≡ length xs → x ≡ get_or xs k x → JoinedSoFar sum_of (take i xs) s
-    → place ≡ (sum_of x).last → with_last place s ≡ kept (all_joined sum_of xs)
-joined-whole sum_of xs i k x s place le end at so_far is =
+pub joined-whole : {A : Type 0} (sum_of : A → Summary) (xs : List A) (i k : ℕ) (x : A) (s : Summary) (coordinate : List ℕ) → length xs ≤ i → k + 1 ≡ length xs → x ≡ get_or xs k x → JoinedSoFar sum_of (take i xs) s
+    → coordinate ≡ (sum_of x).last → with_last coordinate s ≡ kept (all_joined sum_of xs)
+joined-whole sum_of xs i k x s coordinate le end at so_far is =
     let whole : all_joined sum_of xs ≡ summary_joined (all_joined sum_of (take k xs)) (sum_of x) =
     ap (all_joined sum_of) (sym (take_all (k + 1) xs (omega arith)) ∙ take_next xs k x (omega arith) at) ∙ joined-more sum_of (take k xs) x in
-    ap (with_last place) (so_far ∙ ap (λ (items : List _). with_last [] (kept (all_joined sum_of items))) (take_all i xs le))
+    ap (with_last coordinate) (so_far ∙ ap (λ (items : List _). with_last [] (kept (all_joined sum_of items))) (take_all i xs le))
     ∙ ap (λ (p : List ℕ). with_last p (kept (all_joined sum_of xs))) (is ∙ sym (ap (λ (q : Summary). q.last) whole))
 
 -- with no items nothing is told

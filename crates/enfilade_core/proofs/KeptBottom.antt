@@ -7,7 +7,7 @@ use Rattle.enfilade_core.specs.declared.tree.Row.{Row}
 use Rattle.enfilade_core.specs.declared.tree.Branch.{Branch}
 use Rattle.enfilade_core.specs.declared.gap.Gap.{Gap}
 use Rattle.enfilade_core.specs.Rows.{Shape, Rows, moved, branch_rows, rows_table, node_at, rows_under}
-use Rattle.enfilade_core.specs.Axes.{Widths, WidthsStay, IsRightRow, IsRightRows}
+use Rattle.enfilade_core.specs.Axes.{Widths, WidthsStay, IsWellFormedRow, IsWellFormedRows}
 use Rattle.enfilade_core.specs.Summary.{height_of}
 use Rattle.enfilade_core.specs.Plain.{plain_row}
 use Rattle.enfilade_core.specs.Edits.{taken_out}
@@ -17,7 +17,7 @@ use Rattle.enfilade_core.specs.Touched.{KeepsOrigin}
 use Rattle.enfilade_core.proofs.AroundMiddle.{map-none}
 use Rattle.enfilade_core.proofs.PackedRows.{RowIsSeen, rows-may_stand, rows-packed}
 use Rattle.enfilade_core.proofs.ExchangeNodes.{mapped-none, packed-has, taken-opened}
-use Rattle.enfilade_core.proofs.ExchangeMiddle.{BottomAt, bottom-seen, bottom-right, bottom-has, rows-under_right}
+use Rattle.enfilade_core.proofs.ExchangeMiddle.{BottomAt, bottom-seen, bottom-well_formed, bottom-has, rows-under_well_formed}
 use Rattle.enfilade_core.proofs.KeptRows.{kept-seen}
 
 -- what is known of the rows that a bottom node gets
@@ -32,15 +32,15 @@ pub under-opened : {L : Type 0} (plain : L → L) (w : Widths L) (nodes : List (
 under-opened plain w nodes gap new branch under at is = bottom-seen w nodes gap (map (plain_row plain) new) branch (map (plain_row plain) under) (map (moved branch.first branch.second) (map (plain_row plain) under)) at is refl
 
 pub under-there : {L : Type 0} (plain : L → L) (w : Widths L) (nodes : List (Shape L)) (gap : Gap) (new : List (Row L)) (branch : Branch) (under : List (Row L)) → BottomAt w nodes gap (map (plain_row plain) new) branch → map (plain_row plain) under ≡ rows_under (node_at nodes branch.node.0)
-    → IsRightRows w (map (moved branch.first branch.second) (map (plain_row plain) under))
+    → IsWellFormedRows w (map (moved branch.first branch.second) (map (plain_row plain) under))
 under-there plain w nodes gap new branch under at is =
     let opened = under-opened plain w nodes gap new branch under at is in
-    record { each = opened.right.rows; ordered = opened.right.ordered }
+    record { each = opened.well_formed.rows; ordered = opened.well_formed.ordered }
 
-pub under-right : {L : Type 0} (plain : L → L) (w : Widths L) (nodes : List (Shape L)) (gap : Gap) (new : List (Row L)) (branch : Branch) (under : List (Row L)) → BottomAt w nodes gap (map (plain_row plain) new) branch → map (plain_row plain) under ≡ rows_under (node_at nodes branch.node.0)
-    → IsRightRows w (exchanged gap (map (plain_row plain) new) (map (moved branch.first branch.second) (map (plain_row plain) under)))
-under-right plain w nodes gap new branch under at is =
-    bottom-right w nodes gap (map (plain_row plain) new) branch (map (moved branch.first branch.second) (map (plain_row plain) under)) at (under-opened plain w nodes gap new branch under at is)
+pub under-well_formed : {L : Type 0} (plain : L → L) (w : Widths L) (nodes : List (Shape L)) (gap : Gap) (new : List (Row L)) (branch : Branch) (under : List (Row L)) → BottomAt w nodes gap (map (plain_row plain) new) branch → map (plain_row plain) under ≡ rows_under (node_at nodes branch.node.0)
+    → IsWellFormedRows w (exchanged gap (map (plain_row plain) new) (map (moved branch.first branch.second) (map (plain_row plain) under)))
+under-well_formed plain w nodes gap new branch under at is =
+    bottom-well_formed w nodes gap (map (plain_row plain) new) branch (map (moved branch.first branch.second) (map (plain_row plain) under)) at (under-opened plain w nodes gap new branch under at is)
 
 -- the rows, where they stand
 kept-has : {L : Type 0} (plain : L → L) (w : Widths L) (nodes : List (Shape L)) (gap : Gap) (new : List (Row L)) (branch : Branch) (under made : List (Row L)) → KeptIn plain w nodes gap new branch under made
@@ -53,8 +53,8 @@ all-seen : {L : Type 0} (plain : L → L) (w : Widths L) (nodes : List (Shape L)
     → All (RowIsSeen w branch.first branch.second) (exchanged gap (map (plain_row plain) new) (map (moved branch.first branch.second) (map (plain_row plain) under)))
 all-seen plain w nodes gap new branch under made k =
     kept-seen plain w branch.first branch.second gap new (map (plain_row plain) under) k.keeps
-    (subst (All (IsRightRow w)) (sym k.under_is) (rows-under_right w nodes branch.node.0 k.at.nodes_right k.at.part.branch.below k.at.bottom).each)
-    (under-there plain w nodes gap new branch under k.at k.under_is).each (under-right plain w nodes gap new branch under k.at k.under_is).each
+    (subst (All (IsWellFormedRow w)) (sym k.under_is) (rows-under_well_formed w nodes branch.node.0 k.at.nodes_well_formed k.at.part.branch.below k.at.bottom).each)
+    (under-there plain w nodes gap new branch under k.at k.under_is).each (under-well_formed plain w nodes gap new branch under k.at k.under_is).each
 
 some-if_not : {A B : Type 0} (f : A → B) (xs : List A) → eqb (length xs) 0 ≡ false → map f xs ≢ []
 some-if_not f [] e q = cc
@@ -65,7 +65,7 @@ pub kept-may_stand : {L : Type 0} (plain : L → L) (w : Widths L) → WidthsSta
 kept-may_stand plain w stay nodes gap new branch under made empty k e t =
     let all = exchanged gap (map (plain_row plain) new) (map (moved branch.first branch.second) (map (plain_row plain) under)) in
     rows-may_stand w stay nodes branch.first branch.second all (map (plain_row plain) made) (All-head IsTumbler branch.first _ k.at.part.first_origins) (All-head IsTumbler branch.second _ k.at.part.second_origins)
-    (λ q. some-if_not (plain_row plain) made (sym e ∙ t) (k.is ∙ ap (map (back branch.first branch.second)) q)) (under-right plain w nodes gap new branch under k.at k.under_is)
+    (λ q. some-if_not (plain_row plain) made (sym e ∙ t) (k.is ∙ ap (map (back branch.first branch.second)) q)) (under-well_formed plain w nodes gap new branch under k.at k.under_is)
     (all-seen plain w nodes gap new branch under made k) k.is
 
 pub kept-rows : {L : Type 0} (plain : L → L) (w : Widths L) (nodes now : List (Shape L)) (gap : Gap) (new : List (Row L)) (branch : Branch) (under made : List (Row L)) (a b : List ℕ) (packed : Branch) → KeptIn plain w nodes gap new branch under made → a ≡ branch.first → b ≡ branch.second

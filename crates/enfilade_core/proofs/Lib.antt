@@ -8,6 +8,7 @@ pub mod Tells
 pub mod Told
 pub mod Orders
 pub mod Fronts
+pub mod ReachBelow
 pub mod PartTests
 pub mod Nodes
 pub mod Rooms
@@ -21,6 +22,7 @@ pub mod Merges
 pub mod Seen
 pub mod ExchangeLists
 pub mod ExchangeBottom
+pub mod OriginsUpTo
 pub mod BesideRows
 pub mod OpenedAt
 pub mod ExchangeGrown
@@ -33,7 +35,9 @@ pub mod Stood
 pub mod PackedRows
 pub mod PackedBranches
 pub mod SeenPlaces
+pub mod SeenMoved
 pub mod TouchedRows
+pub mod RestBehind
 pub mod AroundMiddle
 pub mod ExchangeMiddle
 pub mod KeptRows

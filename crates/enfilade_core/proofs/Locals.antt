@@ -5,12 +5,12 @@ use Rattle.tumbler.specs.Places.{sum}
 use Rattle.enfilade_core.specs.declared.tree.Row.{Row}
 use Rattle.enfilade_core.specs.declared.tree.Branch.{Branch}
 use Rattle.enfilade_core.specs.declared.summary.Summary.{Summary}
-use Rattle.enfilade_core.specs.declared.standing.Standing.{Standing}
+use Rattle.enfilade_core.specs.declared.balance_state.BalanceState.{BalanceState}
 use Rattle.enfilade_core.specs.Rows.{Shape, Rows, Branches, moved, branch_rows, rows_in}
 use Rattle.enfilade_core.specs.Axes.{Widths, Axis}
-use Rattle.enfilade_core.specs.Right.{NamesBelow, branch_origins, origins_in}
+use Rattle.enfilade_core.specs.WellFormed.{NamesBelow, branch_origins, origins_in}
 use Rattle.enfilade_core.specs.Summary.{no_summary, summary_in, summary_moved, summary_joined, branch_summary, raised}
-use Rattle.enfilade_core.specs.Standing.{no_standing, standing_in, node_debt, split_above, has_merge}
+use Rattle.enfilade_core.specs.BalanceState.{no_balance_state, balance_state_in, node_debt, split_above, has_merge}
 use Rattle.enfilade_core.proofs.Tables.{Agrees, IsLocal, flat_map-alike, map-alike}
 
 rows_same : {L : Type 0} (n : ℕ) (a b : List (List (Row L))) (node : Shape L) → Agrees [] n a b → NamesBelow n node → rows_in a node ≡ rows_in b node
@@ -38,17 +38,17 @@ summary_same w n a b (Branches branches) same named =
 pub summary_local : {L : Type 0} (w : Widths L) → IsLocal (summary_in w) no_summary
 summary_local w = record { same = summary_same w }
 
-abbrev made : List Branch → List Standing → Standing
+abbrev made : List Branch → List BalanceState → BalanceState
 made branches below = record {
   children = length branches;
   debt = node_debt (length branches) + sum_by (λ s. s.debt) below;
   allows = ltb split_above (length branches) || list_any (λ s. s.allows) below || has_merge below;
 }
 
-standing_same : {L : Type 0} (n : ℕ) (a b : List Standing) (node : Shape L) → Agrees no_standing n a b → NamesBelow n node → standing_in a node ≡ standing_in b node
-standing_same n a b (Rows rows) same named = refl
-standing_same n a b (Branches branches) same named =
-    ap (λ (below : List Standing). made branches below) (map-alike (λ branch. get_or a branch.node.0 no_standing) (λ branch. get_or b branch.node.0 no_standing) n (λ branch lt. same branch.node.0 lt) branches named)
+balance_state_same : {L : Type 0} (n : ℕ) (a b : List BalanceState) (node : Shape L) → Agrees no_balance_state n a b → NamesBelow n node → balance_state_in a node ≡ balance_state_in b node
+balance_state_same n a b (Rows rows) same named = refl
+balance_state_same n a b (Branches branches) same named =
+    ap (λ (below : List BalanceState). made branches below) (map-alike (λ branch. get_or a branch.node.0 no_balance_state) (λ branch. get_or b branch.node.0 no_balance_state) n (λ branch lt. same branch.node.0 lt) branches named)
 
-pub standing_local : {L : Type 0} → IsLocal (standing_in {L = L}) no_standing
-standing_local = record { same = standing_same }
+pub balance_state_local : {L : Type 0} → IsLocal (balance_state_in {L = L}) no_balance_state
+balance_state_local = record { same = balance_state_same }

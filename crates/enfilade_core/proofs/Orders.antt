@@ -9,7 +9,7 @@ use Rattle.tumbler.proofs.SumOrder.{sums_up_to}
 use Rattle.enfilade_core.specs.declared.tree.Row.{Row}
 use Rattle.enfilade_core.specs.Rows.{moved}
 use Rattle.enfilade_core.specs.Axes.{InOrder}
-use Rattle.enfilade_core.proofs.Tells.{first_place, last_place}
+use Rattle.enfilade_core.proofs.Tells.{first_coordinate, last_coordinate}
 
 -- ---- lists of lists
 
@@ -25,26 +25,26 @@ All-unflat P f (x ∷ xs) h = All-cons (λ x. All P (f x)) x xs (All-front P (f 
 -- ---- first and last
 
 -- what holds of all rows holds of the last one
-pub up_to_last : {L : Type 0} (row : Row L) (rows : List (Row L)) → InOrder (row ∷ rows) → IsUpTo row.first (last_place (row ∷ rows))
+pub up_to_last : {L : Type 0} (row : Row L) (rows : List (Row L)) → InOrder (row ∷ rows) → IsUpTo row.first (last_coordinate (row ∷ rows))
 up_to_last row [] h = upto_itself row.first
 up_to_last row (next ∷ rows) h =
-    upto_upto row.first next.first (last_place (next ∷ rows)) (All-head (λ r. IsUpTo row.first r.first) next rows h.0) (up_to_last next rows h.1)
+    upto_upto row.first next.first (last_coordinate (next ∷ rows)) (All-head (λ r. IsUpTo row.first r.first) next rows h.0) (up_to_last next rows h.1)
 
 -- all rows are at or past the first one
-pub past_first : {L : Type 0} (place : List ℕ) (rows : List (Row L)) → InOrder rows → (rows ≢ [] → IsUpTo place (first_place rows)) → All (λ r. IsUpTo place r.first) rows
-past_first place [] h le = All-nil (λ r. IsUpTo place r.first)
-past_first place (row ∷ rows) h le =
-    let first : IsUpTo place row.first = le (λ q. cc) in
-    All-cons (λ r. IsUpTo place r.first) row rows first
-    (All-weaker (λ r. IsUpTo row.first r.first) (λ r. IsUpTo place r.first) (λ r k. upto_upto place row.first r.first first k) rows h.0)
+pub past_first : {L : Type 0} (coordinate : List ℕ) (rows : List (Row L)) → InOrder rows → (rows ≢ [] → IsUpTo coordinate (first_coordinate rows)) → All (λ r. IsUpTo coordinate r.first) rows
+past_first coordinate [] h le = All-nil (λ r. IsUpTo coordinate r.first)
+past_first coordinate (row ∷ rows) h le =
+    let first : IsUpTo coordinate row.first = le (λ q. cc) in
+    All-cons (λ r. IsUpTo coordinate r.first) row rows first
+    (All-weaker (λ r. IsUpTo row.first r.first) (λ r. IsUpTo coordinate r.first) (λ r k. upto_upto coordinate row.first r.first first k) rows h.0)
 
-pub InOrder-append : {L : Type 0} (rows more : List (Row L)) → InOrder rows → InOrder more → (rows ≢ [] → more ≢ [] → IsUpTo (last_place rows) (first_place more)) → InOrder (rows ++ more)
+pub InOrder-append : {L : Type 0} (rows more : List (Row L)) → InOrder rows → InOrder more → (rows ≢ [] → more ≢ [] → IsUpTo (last_coordinate rows) (first_coordinate more)) → InOrder (rows ++ more)
 InOrder-append [] more h k le = k
 InOrder-append (row ∷ []) more h k le = (past_first row.first more k (λ some. le (λ q. cc) some), k)
 InOrder-append {L} (row ∷ next ∷ rows) more h k le =
     let P : Row L → Type 0 = λ r. IsUpTo row.first r.first in (
       All-append P (next ∷ rows) more h.0
-          (past_first row.first more k (λ some. upto_upto row.first (last_place (next ∷ rows)) (first_place more) (up_to_last row (next ∷ rows) h) (le (λ q. cc) some))),
+          (past_first row.first more k (λ some. upto_upto row.first (last_coordinate (next ∷ rows)) (first_coordinate more) (up_to_last row (next ∷ rows) h) (le (λ q. cc) some))),
       InOrder-append (next ∷ rows) more h.1 k (λ a some. le (λ q. cc) some),
     )
 
@@ -56,19 +56,19 @@ pub InOrder-back : {L : Type 0} (rows more : List (Row L)) → InOrder (rows ++ 
 InOrder-back [] more h = h
 InOrder-back (row ∷ rows) more h = InOrder-back rows more h.1
 
-pub InOrder-seam : {L : Type 0} (rows more : List (Row L)) → InOrder (rows ++ more) → rows ≢ [] → more ≢ [] → IsUpTo (last_place rows) (first_place more)
+pub InOrder-seam : {L : Type 0} (rows more : List (Row L)) → InOrder (rows ++ more) → rows ≢ [] → more ≢ [] → IsUpTo (last_coordinate rows) (first_coordinate more)
 InOrder-seam [] more h some also = absurd (some refl)
 InOrder-seam (row ∷ []) [] h some also = absurd (also refl)
 InOrder-seam (row ∷ []) (next ∷ more) h some also = All-head (λ r. IsUpTo row.first r.first) next more h.0
 InOrder-seam (row ∷ next ∷ rows) more h some also = InOrder-seam (next ∷ rows) more h.1 (λ q. cc) also
 
 -- rows stay in order where all are moved
-later_moved : {L : Type 0} (a b place : List ℕ) (rows : List (Row L)) → All (λ r. EndsWell r.first) rows → All (λ r. IsUpTo place r.first) rows → All (λ r. IsUpTo (sum a place) r.first) (map (moved a b) rows)
-later_moved a b place [] e h = All-nil (λ r. IsUpTo (sum a place) r.first)
-later_moved a b place (next ∷ rows) e h =
-    All-cons (λ r. IsUpTo (sum a place) r.first) (moved a b next) (map (moved a b) rows)
-    (sums_up_to a place next.first (All-head (λ r. EndsWell r.first) next rows e) (All-head (λ r. IsUpTo place r.first) next rows h))
-    (later_moved a b place rows (All-tail (λ r. EndsWell r.first) next rows e) (All-tail (λ r. IsUpTo place r.first) next rows h))
+later_moved : {L : Type 0} (a b coordinate : List ℕ) (rows : List (Row L)) → All (λ r. EndsWell r.first) rows → All (λ r. IsUpTo coordinate r.first) rows → All (λ r. IsUpTo (sum a coordinate) r.first) (map (moved a b) rows)
+later_moved a b coordinate [] e h = All-nil (λ r. IsUpTo (sum a coordinate) r.first)
+later_moved a b coordinate (next ∷ rows) e h =
+    All-cons (λ r. IsUpTo (sum a coordinate) r.first) (moved a b next) (map (moved a b) rows)
+    (sums_up_to a coordinate next.first (All-head (λ r. EndsWell r.first) next rows e) (All-head (λ r. IsUpTo coordinate r.first) next rows h))
+    (later_moved a b coordinate rows (All-tail (λ r. EndsWell r.first) next rows e) (All-tail (λ r. IsUpTo coordinate r.first) next rows h))
 
 pub InOrder-moved : {L : Type 0} (a b : List ℕ) (rows : List (Row L)) → All (λ r. EndsWell r.first) rows → InOrder rows → InOrder (map (moved a b) rows)
 InOrder-moved a b [] e h = tt

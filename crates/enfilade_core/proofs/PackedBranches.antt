@@ -1,4 +1,4 @@
--- Branches that are seen from an origin at or before theirs are right parts, and their rows stand where they stood.
+-- Branches that are seen from an origin at or before theirs are well formed parts, and their rows stand where they stood.
 use Rattle.std.proofs.Common.{◌≡◌, ◌≢◌, ℕ, ◌+◌, ◌-◌, ◌<◌, List, [], ◌∷◌, ◌++◌, get_or, map, fold, cond, eqb, true, false, Bool, refl, arith, ap, ◌∙◌, sym, subst}
 use Rattle.std.specs.List.{All, flat_map}
 use Rattle.std.proofs.lemmas.List.{map-append}
@@ -12,8 +12,8 @@ use Rattle.enfilade_core.specs.declared.tree.Row.{Row}
 use Rattle.enfilade_core.specs.declared.tree.Branch.{Branch}
 use Rattle.enfilade_core.specs.declared.summary.Summary.{Summary}
 use Rattle.enfilade_core.specs.Rows.{Shape, Branches, moved, branch_rows, rows_in, rows_table, rows_of}
-use Rattle.enfilade_core.specs.Axes.{Widths, Axis, first_axis, second_axis, WidthsStay, InOrder, IsRightRow}
-use Rattle.enfilade_core.specs.Right.{branch_origins, origins_table, IsRightBranch, IsRight, AreRight, IsRightPart}
+use Rattle.enfilade_core.specs.Axes.{Widths, Axis, first_axis, second_axis, WidthsStay, InOrder, IsWellFormedRow}
+use Rattle.enfilade_core.specs.WellFormed.{branch_origins, origins_table, IsWellFormedBranch, IsWellFormed, AreWellFormed, IsWellFormedPart}
 use Rattle.enfilade_core.specs.Summary.{branch_summary, summaries, summary_joined, no_summary, height_of}
 use Rattle.enfilade_core.specs.Exchange.{IsPacked, height_in}
 use Rattle.enfilade_core.specs.Packing.{branch_back, MayStandAt, IsPlaced}
@@ -48,10 +48,10 @@ pub record IsPast (a b : List ℕ) (branch : Branch) : Type 0 where
   pub first : IsUpTo a branch.first
   pub second : IsUpTo b branch.second
 
-part_back : {L : Type 0} (w : Widths L) → WidthsStay w → (nodes : List (Shape L)) → AreRight w nodes → (a b : List ℕ) → IsTumbler a → IsTumbler b → (branch : Branch) → IsPast a b branch → IsRightPart w nodes branch → IsRightPart w nodes (branch_back a b branch)
-part_back w stay nodes right a b ta tb branch past part =
-    let room = room-if_part w stay nodes right branch part in
-    part-if_room w stay nodes right (branch_back a b branch)
+part_back : {L : Type 0} (w : Widths L) → WidthsStay w → (nodes : List (Shape L)) → AreWellFormed w nodes → (a b : List ℕ) → IsTumbler a → IsTumbler b → (branch : Branch) → IsPast a b branch → IsWellFormedPart w nodes branch → IsWellFormedPart w nodes (branch_back a b branch)
+part_back w stay nodes well_formed a b ta tb branch past part =
+    let room = room-if_part w stay nodes well_formed branch part in
+    part-if_room w stay nodes well_formed (branch_back a b branch)
     (difference-is_tumbler branch.first a (All-head IsTumbler branch.first _ part.first_origins) ta past.first)
     (difference-is_tumbler branch.second b (All-head IsTumbler branch.second _ part.second_origins) tb past.second)
     record { below = part.branch.below; filled = part.branch.filled; first_extent = part.branch.first_extent; second_extent = part.branch.second_extent }
@@ -66,12 +66,12 @@ branch_there nodes a b branch past =
 
 -- ---- all branches
 
-parts_back : {L : Type 0} (w : Widths L) → WidthsStay w → (nodes : List (Shape L)) → AreRight w nodes → (a b : List ℕ) → IsTumbler a → IsTumbler b → (branches : List Branch) → All (IsPast a b) branches → All (IsRightPart w nodes) branches → All (IsRightPart w nodes) (map (branch_back a b) branches)
-parts_back w stay nodes right a b ta tb [] past parts = All-nil (IsRightPart w nodes)
-parts_back w stay nodes right a b ta tb (branch ∷ branches) past parts =
-    All-cons (IsRightPart w nodes) (branch_back a b branch) (map (branch_back a b) branches)
-    (part_back w stay nodes right a b ta tb branch (All-head (IsPast a b) branch branches past) (All-head (IsRightPart w nodes) branch branches parts))
-    (parts_back w stay nodes right a b ta tb branches (All-tail (IsPast a b) branch branches past) (All-tail (IsRightPart w nodes) branch branches parts))
+parts_back : {L : Type 0} (w : Widths L) → WidthsStay w → (nodes : List (Shape L)) → AreWellFormed w nodes → (a b : List ℕ) → IsTumbler a → IsTumbler b → (branches : List Branch) → All (IsPast a b) branches → All (IsWellFormedPart w nodes) branches → All (IsWellFormedPart w nodes) (map (branch_back a b) branches)
+parts_back w stay nodes well_formed a b ta tb [] past parts = All-nil (IsWellFormedPart w nodes)
+parts_back w stay nodes well_formed a b ta tb (branch ∷ branches) past parts =
+    All-cons (IsWellFormedPart w nodes) (branch_back a b branch) (map (branch_back a b) branches)
+    (part_back w stay nodes well_formed a b ta tb branch (All-head (IsPast a b) branch branches past) (All-head (IsWellFormedPart w nodes) branch branches parts))
+    (parts_back w stay nodes well_formed a b ta tb branches (All-tail (IsPast a b) branch branches past) (All-tail (IsWellFormedPart w nodes) branch branches parts))
 
 branches_there : {L : Type 0} (nodes : List (Shape L)) (a b : List ℕ) (branches : List Branch) → All (IsPast a b) branches → map (moved a b) (rows_in (rows_table nodes) (Branches (map (branch_back a b) branches))) ≡ rows_in (rows_table nodes) (Branches branches)
 branches_there nodes a b [] past = refl
@@ -109,16 +109,16 @@ origins_there axis told d f (branch ∷ branches) h =
 
 -- ---- a node of branches
 
--- right parts in order and of one height are the branches of a right node
-pub right-if_parts : {L : Type 0} (w : Widths L) (nodes : List (Shape L)) (branches : List Branch) (height : ℕ) → branches ≢ [] → All (IsRightPart w nodes) branches → All (λ branch. height_of w nodes branch.node.0 ≡ height) branches → InOrder (rows_in (rows_table nodes) (Branches branches)) → IsRight w nodes (Branches branches)
-right-if_parts w nodes branches height some parts level ordered = record {
-  branches = record { some = some; each = All-weaker (IsRightPart w nodes) (IsRightBranch w nodes) (λ b p. p.branch) branches parts; height = height; level = level };
+-- well formed parts in order and of one height are the branches of a well formed node
+pub well_formed-if_parts : {L : Type 0} (w : Widths L) (nodes : List (Shape L)) (branches : List Branch) (height : ℕ) → branches ≢ [] → All (IsWellFormedPart w nodes) branches → All (λ branch. height_of w nodes branch.node.0 ≡ height) branches → InOrder (rows_in (rows_table nodes) (Branches branches)) → IsWellFormed w nodes (Branches branches)
+well_formed-if_parts w nodes branches height some parts level ordered = record {
+  branches = record { some = some; each = All-weaker (IsWellFormedPart w nodes) (IsWellFormedBranch w nodes) (λ b p. p.branch) branches parts; height = height; level = level };
   first_origins = All-flat IsTumbler (branch_origins (first_axis w) (origins_table (first_axis w) nodes)) branches
-      (All-weaker (IsRightPart w nodes) (λ b. All IsTumbler (branch_origins (first_axis w) (origins_table (first_axis w) nodes) b)) (λ b p. p.first_origins) branches parts);
+      (All-weaker (IsWellFormedPart w nodes) (λ b. All IsTumbler (branch_origins (first_axis w) (origins_table (first_axis w) nodes) b)) (λ b p. p.first_origins) branches parts);
   second_origins = All-flat IsTumbler (branch_origins (second_axis w) (origins_table (second_axis w) nodes)) branches
-      (All-weaker (IsRightPart w nodes) (λ b. All IsTumbler (branch_origins (second_axis w) (origins_table (second_axis w) nodes) b)) (λ b p. p.second_origins) branches parts);
-  rows = All-flat (IsRightRow w) (branch_rows (rows_table nodes)) branches
-      (All-weaker (IsRightPart w nodes) (λ b. All (IsRightRow w) (branch_rows (rows_table nodes) b)) (λ b p. p.rows) branches parts);
+      (All-weaker (IsWellFormedPart w nodes) (λ b. All IsTumbler (branch_origins (second_axis w) (origins_table (second_axis w) nodes) b)) (λ b p. p.second_origins) branches parts);
+  rows = All-flat (IsWellFormedRow w) (branch_rows (rows_table nodes)) branches
+      (All-weaker (IsWellFormedPart w nodes) (λ b. All (IsWellFormedRow w) (branch_rows (rows_table nodes) b)) (λ b p. p.rows) branches parts);
   ordered = ordered;
 }
 
@@ -128,25 +128,25 @@ level_back w nodes a b height (branch ∷ branches) h =
     let P : Branch → Type 0 = λ b. height_of w nodes b.node.0 ≡ height in
     All-cons P (branch_back a b branch) (map (branch_back a b) branches) (All-head P branch branches h) (level_back w nodes a b height branches (All-tail P branch branches h))
 
-branches_stand : {L : Type 0} (w : Widths L) → WidthsStay w → (nodes : List (Shape L)) → AreRight w nodes → (a b : List ℕ) → IsTumbler a → IsTumbler b → (branches : List Branch) → All (IsPast a b) branches → IsRight w nodes (Branches branches) → rows_in (rows_table nodes) (Branches branches) ≢ [] → MayStandAt w nodes (Branches (map (branch_back a b) branches)) a b
-branches_stand {L} w stay nodes right a b ta tb branches past node filled =
+branches_stand : {L : Type 0} (w : Widths L) → WidthsStay w → (nodes : List (Shape L)) → AreWellFormed w nodes → (a b : List ℕ) → IsTumbler a → IsTumbler b → (branches : List Branch) → All (IsPast a b) branches → IsWellFormed w nodes (Branches branches) → rows_in (rows_table nodes) (Branches branches) ≢ [] → MayStandAt w nodes (Branches (map (branch_back a b) branches)) a b
+branches_stand {L} w stay nodes well_formed a b ta tb branches past node filled =
     let made = map (branch_back a b) branches in
     let rows = rows_in (rows_table nodes) (Branches branches) in
     let rows_made = rows_in (rows_table nodes) (Branches made) in
     let is : map (moved a b) rows_made ≡ rows = branches_there nodes a b branches past in
-    let parts = parts_back w stay nodes right a b ta tb branches past (node-parts w nodes branches node) in
-    let each = All-flat (IsRightRow w) (branch_rows (rows_table nodes)) made (All-weaker (IsRightPart w nodes) (λ b. All (IsRightRow w) (branch_rows (rows_table nodes) b)) (λ b p. p.rows) made parts) in
+    let parts = parts_back w stay nodes well_formed a b ta tb branches past (node-parts w nodes branches node) in
+    let each = All-flat (IsWellFormedRow w) (branch_rows (rows_table nodes)) made (All-weaker (IsWellFormedPart w nodes) (λ b. All (IsWellFormedRow w) (branch_rows (rows_table nodes) b)) (λ b p. p.rows) made parts) in
     let first = origins_there (first_axis w) (origins_table (first_axis w) nodes) a (branch_back a b) branches
     (All-weaker (IsPast a b) (λ branch. ComesTo (first_axis w) a branch (branch_back a b branch)) (λ branch p. record { node = refl; origin = sum-difference a branch.first p.first }) branches past) in
     let second = origins_there (second_axis w) (origins_table (second_axis w) nodes) b (branch_back a b) branches
     (All-weaker (IsPast a b) (λ branch. ComesTo (second_axis w) b branch (branch_back a b branch)) (λ branch p. record { node = refl; origin = sum-difference b branch.second p.second }) branches past) in
     record {
-      right = right-if_parts w nodes made node.branches.height (map_some (branch_back a b) branches node.branches.some) parts (level_back w nodes a b node.branches.height branches node.branches.level)
+      well_formed = well_formed-if_parts w nodes made node.branches.height (map_some (branch_back a b) branches node.branches.some) parts (level_back w nodes a b node.branches.height branches node.branches.level)
           (InOrder-unmoved a b rows_made (ends_well w rows_made each) (subst InOrder (sym is) node.ordered));
       filled = filled_back a b rows_made rows is filled;
       first_origins = All-cons IsTumbler a _ ta (subst (All IsTumbler) (sym first) node.first_origins);
       second_origins = All-cons IsTumbler b _ tb (subst (All IsTumbler) (sym second) node.second_origins);
-      rows = subst (All (IsRightRow w)) (sym is) node.rows;
+      rows = subst (All (IsWellFormedRow w)) (sym is) node.rows;
     }
 
 pub are_past : (a b : List ℕ) (branches : List Branch) → All (λ branch. IsUpTo a branch.first) branches → All (λ branch. IsUpTo b branch.second) branches → All (IsPast a b) branches
@@ -157,8 +157,8 @@ are_past a b (branch ∷ branches) h k =
     All-cons (IsPast a b) branch branches record { first = All-head P branch branches h; second = All-head Q branch branches k } (are_past a b branches (All-tail P branch branches h) (All-tail Q branch branches k))
 
 -- the list that was made has these branches
-pub branches-may_stand : {L : Type 0} (w : Widths L) → WidthsStay w → (nodes : List (Shape L)) → AreRight w nodes → (a b : List ℕ) → IsTumbler a → IsTumbler b → (branches made : List Branch) → All (IsPast a b) branches → IsRight w nodes (Branches branches) → rows_in (rows_table nodes) (Branches branches) ≢ [] → made ≡ map (branch_back a b) branches → MayStandAt w nodes (Branches made) a b
-branches-may_stand w stay nodes right a b ta tb branches made past node filled is = rw is (branches_stand w stay nodes right a b ta tb branches past node filled)
+pub branches-may_stand : {L : Type 0} (w : Widths L) → WidthsStay w → (nodes : List (Shape L)) → AreWellFormed w nodes → (a b : List ℕ) → IsTumbler a → IsTumbler b → (branches made : List Branch) → All (IsPast a b) branches → IsWellFormed w nodes (Branches branches) → rows_in (rows_table nodes) (Branches branches) ≢ [] → made ≡ map (branch_back a b) branches → MayStandAt w nodes (Branches made) a b
+branches-may_stand w stay nodes well_formed a b ta tb branches made past node filled is = rw is (branches_stand w stay nodes well_formed a b ta tb branches past node filled)
 
 -- the height of a node is that of the last branch's node, and one more
 same_level : (told : List Summary) (a b : List ℕ) (branches : List Branch) (s t : Summary) → s.height ≡ t.height → (fold summary_joined s (map (branch_summary told) (map (branch_back a b) branches))).height ≡ (fold summary_joined t (map (branch_summary told) branches)).height

@@ -7,8 +7,8 @@ use Rattle.enfilade_core.specs.declared.tree.Row.{Row}
 use Rattle.enfilade_core.specs.declared.tree.Branch.{Branch}
 use Rattle.enfilade_core.specs.declared.summary.Summary.{Summary}
 use Rattle.enfilade_core.specs.Rows.{Shape, table, moved, rows_in, rows_table, rows_of}
-use Rattle.enfilade_core.specs.Axes.{Widths, first_axis, second_axis, WidthsStay, IsRightRow}
-use Rattle.enfilade_core.specs.Right.{origins_in, AreRight}
+use Rattle.enfilade_core.specs.Axes.{Widths, first_axis, second_axis, WidthsStay, IsWellFormedRow}
+use Rattle.enfilade_core.specs.WellFormed.{origins_in, AreWellFormed}
 use Rattle.enfilade_core.specs.Summary.{summary_in, summary_of, no_summary, kept}
 use Rattle.enfilade_core.specs.Exchange.{Grows}
 use Rattle.enfilade_core.specs.Packing.{MayStandAt, IsPlaced}
@@ -29,12 +29,12 @@ grows-one old new node is = record { more = node ∷ []; is = is }
 pub grows-none : {L : Type 0} (old new : List (Shape L)) → new ≡ old → Grows old new
 grows-none old new is = record { more = []; is = is ∙ sym (append-nil old) }
 
-pub placed-last : {L : Type 0} (w : Widths L) → WidthsStay w → (old new : List (Shape L)) (node : Shape L) (a b : List ℕ) (branch : Branch) (s : Summary) → new ≡ old ++ node ∷ [] → branch.node.0 ≡ length old → AreRight w new → s ≡ kept (summary_of w new branch.node.0)
-    → branch.first ≡ a → branch.second ≡ b → branch.first_extent ≡ s.along_first.extent → branch.second_extent ≡ s.along_second.extent → MayStandAt w old node a b → IsPlaced w old new node a b branch
-placed-last {L} w stay old new node a b branch s is at right told_is first second e1 e2 may =
+pub placed-last : {L : Type 0} (w : Widths L) → WidthsStay w → (old new : List (Shape L)) (node : Shape L) (a b : List ℕ) (branch : Branch) (s : Summary) → new ≡ old ++ node ∷ [] → branch.node.0 ≡ length old → AreWellFormed w new → s ≡ kept (summary_of w new branch.node.0)
+    → branch.first ≡ a → branch.second ≡ b → branch.first_extent ≡ s.first_extent → branch.second_extent ≡ s.second_extent → MayStandAt w old node a b → IsPlaced w old new node a b branch
+placed-last {L} w stay old new node a b branch s is at well_formed told_is first second e1 e2 may =
     let k = branch.node.0 in
     let lt : k < length new = below-last old new node k is at in
-    let told = tells w stay new right k lt in
+    let told = tells w stay new well_formed k lt in
     let rows : rows_of new k ≡ rows_in (rows_table old) node = said-last rows_in old new node k [] is at in
     let o1 = said-last (origins_in (first_axis w)) old new node k [] is at in
     let o2 = said-last (origins_in (second_axis w)) old new node k [] is at in
@@ -45,12 +45,12 @@ placed-last {L} w stay old new node a b branch s is at right told_is first secon
         branch = record {
           below = lt;
           filled = subst (λ (rs : List (Row L)). rs ≢ []) (sym rows) may.filled;
-          first_extent = e1 ∙ ap (λ (x : Summary). x.along_first.extent) told_is ∙ told.along_first.extent;
-          second_extent = e2 ∙ ap (λ (x : Summary). x.along_second.extent) told_is ∙ told.along_second.extent;
+          first_extent = e1 ∙ ap (λ (x : Summary). x.first_extent) told_is ∙ told.first_extent;
+          second_extent = e2 ∙ ap (λ (x : Summary). x.second_extent) told_is ∙ told.second_extent;
         };
         first_origins = subst (λ (os : List (List ℕ)). All IsTumbler (branch.first ∷ map (sum branch.first) os)) (sym o1) may.first_origins;
         second_origins = subst (λ (os : List (List ℕ)). All IsTumbler (branch.second ∷ map (sum branch.second) os)) (sym o2) may.second_origins;
-        rows = subst (λ (rs : List (Row L)). All (IsRightRow w) (map (moved branch.first branch.second) rs)) (sym rows) may.rows;
+        rows = subst (λ (rs : List (Row L)). All (IsWellFormedRow w) (map (moved branch.first branch.second) rs)) (sym rows) may.rows;
       };
       rows = ap (map (moved branch.first branch.second)) rows ∙ ap (λ (x : List ℕ). map (moved x branch.second) (rows_in (rows_table old) node)) first ∙ ap (λ (x : List ℕ). map (moved a x) (rows_in (rows_table old) node)) second;
       level = ap (λ (x : Summary). x.height) (said-last (summary_in w) old new node k no_summary is at);

@@ -12,16 +12,16 @@ use Rattle.enfilade_core.specs.declared.tree.Children.{Children}
 use Rattle.enfilade_core.specs.declared.tree.Children.TheVariants.{Bottom, Inner}
 use Rattle.enfilade_core.specs.declared.gap.Gap.{Gap}
 use Rattle.enfilade_core.specs.Rows.{Shape, Rows, Branches, moved, rows_in, rows_table, rows_of}
-use Rattle.enfilade_core.specs.Axes.{Widths, first_axis, second_axis, IsRightRow, IsRightRows}
-use Rattle.enfilade_core.specs.Right.{origins_table, IsRight, AreRight}
+use Rattle.enfilade_core.specs.Axes.{Widths, first_axis, second_axis, IsWellFormedRow, IsWellFormedRows}
+use Rattle.enfilade_core.specs.WellFormed.{origins_table, IsWellFormed, AreWellFormed}
 use Rattle.enfilade_core.specs.Plain.{shape, children_count}
 use Rattle.enfilade_core.specs.Edits.{KeepsRows}
 use Rattle.enfilade_core.specs.declared.summary.Summary.{Summary}
 use Rattle.enfilade_core.specs.Summary.{summary_in, no_summary, height_of}
 use Rattle.enfilade_core.proofs.PackedNode.{said-last}
-use Rattle.enfilade_core.specs.Exchange.{height_in, exchanged, IsRightAt, Grows, MayHaveChildren, MayBeRoot}
+use Rattle.enfilade_core.specs.Exchange.{height_in, exchanged, IsWellFormedAt, Grows, MayHaveChildren, MayBeRoot}
 use Rattle.enfilade_core.proofs.Tables.{table-push, length-table}
-use Rattle.enfilade_core.proofs.Parts.{keeps_rows, rows-right, origins-right}
+use Rattle.enfilade_core.proofs.Parts.{keeps_rows, rows-well_formed, origins-well_formed}
 use Rattle.enfilade_core.proofs.Seen.{rows-not_moved}
 
 -- ---- nodes that came in
@@ -58,11 +58,11 @@ rooted nodes new node k is at = record {
   rows = rows_added nodes new node k is at;
 }
 
-pub root_if_some : {L : Type 0} (plain : L → L) (w : Widths L) (nodes : List (Shape L)) (children : Children L) → (children_count children == 0) ≡ false → MayBeRoot w nodes (shape plain children) → IsRight w nodes (shape plain children)
+pub root_if_some : {L : Type 0} (plain : L → L) (w : Widths L) (nodes : List (Shape L)) (children : Children L) → (children_count children == 0) ≡ false → MayBeRoot w nodes (shape plain children) → IsWellFormed w nodes (shape plain children)
 root_if_some plain w nodes (Bottom rows) some may = may
 root_if_some plain w nodes (Inner branches) some may = inner branches.items some may
   where
-    inner : (bs : List _) → (length bs == 0) ≡ false → MayBeRoot w nodes (Branches bs) → IsRight w nodes (Branches bs)
+    inner : (bs : List _) → (length bs == 0) ≡ false → MayBeRoot w nodes (Branches bs) → IsWellFormed w nodes (Branches bs)
     inner [] some may = absurd (grind (arith, nat_tests))
     inner (b ∷ bs) some may = may
 
@@ -84,28 +84,28 @@ not_moved : (places : List (List ℕ)) → map (sum []) places ≡ places
 not_moved [] = refl
 not_moved (p ∷ places) = ap (λ (x : List ℕ). x ∷ map (sum []) places) (sum-from_zero p) ∙ ap (λ (ps : List (List ℕ)). p ∷ ps) (not_moved places)
 
-pub at_root : {L : Type 0} (w : Widths L) (nodes : List (Shape L)) (k : ℕ) (a b : List ℕ) → a ≡ [] → b ≡ [] → AreRight w nodes → k < length nodes → IsRightAt w nodes k a b
-at_root w nodes k a b za zb right lt =
-    let origins = origins-right w nodes k right lt in
+pub at_root : {L : Type 0} (w : Widths L) (nodes : List (Shape L)) (k : ℕ) (a b : List ℕ) → a ≡ [] → b ≡ [] → AreWellFormed w nodes → k < length nodes → IsWellFormedAt w nodes k a b
+at_root w nodes k a b za zb well_formed lt =
+    let origins = origins-well_formed w nodes k well_formed lt in
     rw (za, zb) record {
       below = lt;
       first_origins = subst (All IsTumbler) (sym (not_moved (get_or (origins_table (first_axis w) nodes) k []))) origins.0;
       second_origins = subst (All IsTumbler) (sym (not_moved (get_or (origins_table (second_axis w) nodes) k []))) origins.1;
-      rows = subst (All (IsRightRow w)) (sym (rows-not_moved (rows_of nodes k))) (rows-right w nodes k right lt);
+      rows = subst (All (IsWellFormedRow w)) (sym (rows-not_moved (rows_of nodes k))) (rows-well_formed w nodes k well_formed lt);
     }
 
 pub seen_from_root : {L : Type 0} (a b : List ℕ) (rows : List (Row L)) → a ≡ [] → b ≡ [] → map (moved a b) rows ≡ rows
 seen_from_root a b rows za zb = rw (za, zb) (rows-not_moved rows)
 
-pub exchange_right : {L : Type 0} (w : Widths L) (gap : Gap) (new rows seen : List (Row L)) → seen ≡ rows → IsRightRows w (exchanged gap new rows) → IsRightRows w (exchanged gap new seen)
-exchange_right w gap new rows seen is right = subst (λ (rs : List (Row _)). IsRightRows w (exchanged gap new rs)) (sym is) right
+pub exchange_well_formed : {L : Type 0} (w : Widths L) (gap : Gap) (new rows seen : List (Row L)) → seen ≡ rows → IsWellFormedRows w (exchanged gap new rows) → IsWellFormedRows w (exchanged gap new seen)
+exchange_well_formed w gap new rows seen is well_formed = subst (λ (rs : List (Row _)). IsWellFormedRows w (exchanged gap new rs)) (sym is) well_formed
 
 -- ---- what an exchange at the root leaves
 
 pub may_be_root : {L : Type 0} (w : Widths L) (nodes : List (Shape L)) (height : ℕ) (rows : List (Row L)) (node : Shape L) → MayHaveChildren w nodes height rows node → MayBeRoot w nodes node
-may_be_root w nodes height rows (Rows own) may = may.right
+may_be_root w nodes height rows (Rows own) may = may.well_formed
 may_be_root w nodes height rows (Branches []) may = tt
-may_be_root w nodes height rows (Branches (branch ∷ branches)) may = may.right
+may_be_root w nodes height rows (Branches (branch ∷ branches)) may = may.well_formed
 
 pub root_rows : {L : Type 0} (w : Widths L) (nodes : List (Shape L)) (height : ℕ) (rows : List (Row L)) (node : Shape L) → MayHaveChildren w nodes height rows node → rows_in (rows_table nodes) node ≡ rows
 root_rows w nodes height rows (Rows own) may = may.rows_are

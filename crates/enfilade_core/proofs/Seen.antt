@@ -8,7 +8,7 @@ use Rattle.enfilade_core.specs.declared.tree.Row.{Row}
 use Rattle.enfilade_core.specs.declared.tree.Branch.{Branch}
 use Rattle.enfilade_core.specs.Rows.{Shape, Rows, Branches, moved, branch_rows, rows_in, rows_table, rows_of, node_at}
 use Rattle.enfilade_core.specs.Axes.{Widths}
-use Rattle.enfilade_core.specs.Right.{AreRight}
+use Rattle.enfilade_core.specs.WellFormed.{AreWellFormed}
 use Rattle.enfilade_core.specs.Laws.{rows_from, below_from, RowsOfChildren, RowsStay}
 use Rattle.enfilade_core.proofs.Parts.{rows-said, keeps_rows}
 
@@ -41,8 +41,8 @@ seen : {L : Type 0} (nodes : List (Shape L)) (node : Shape L) (a b : List ℕ) �
 seen nodes (Rows rows) a b = refl
 seen nodes (Branches branches) a b = flat-moved nodes a b branches
 
-pub rows_of_children : {L : Type 0} (w : Widths L) (nodes : List (Shape L)) → AreRight w nodes → RowsOfChildren nodes
-rows_of_children w nodes right k a b lt = ap (map (moved a b)) (rows-said w nodes k right lt) ∙ seen nodes (node_at nodes k) a b
+pub rows_of_children : {L : Type 0} (w : Widths L) (nodes : List (Shape L)) → AreWellFormed w nodes → RowsOfChildren nodes
+rows_of_children w nodes well_formed k a b lt = ap (map (moved a b)) (rows-said w nodes k well_formed lt) ∙ seen nodes (node_at nodes k) a b
 
 pub rows_stay : {L : Type 0} (nodes : List (Shape L)) → RowsStay nodes
 rows_stay nodes more = keeps_rows nodes more

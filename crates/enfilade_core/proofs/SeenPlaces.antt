@@ -1,5 +1,5 @@
 -- Places, and rows of branches, as they are seen from a base.
-use Rattle.std.proofs.Common.{◌≡◌, inl, inr, ℕ, true, false, List, [], ◌∷◌, ◌++◌, take, drop, map, refl, ap, ◌∙◌, sym, subst}
+use Rattle.std.proofs.Common.{◌≡◌, ℕ, true, false, List, [], ◌∷◌, ◌++◌, take, drop, map, refl, ap, ◌∙◌, sym, subst}
 use Rattle.std.specs.List.{All}
 use Rattle.std.proofs.lemmas.List.{map-append, take-map, drop-map}
 use Rattle.std.proofs.lemmas.List.Elements.{All-head, All-tail, All-nil, All-cons, All-map, All-weaker}
@@ -13,30 +13,30 @@ use Rattle.enfilade_core.specs.declared.tree.Row.{Row}
 use Rattle.enfilade_core.specs.declared.tree.Branch.{Branch}
 use Rattle.enfilade_core.specs.declared.gap.Gap.{Gap}
 use Rattle.enfilade_core.specs.Rows.{Shape, moved, branch_rows, rows_table, rows_of}
-use Rattle.enfilade_core.specs.Axes.{Widths, IsRightRow}
-use Rattle.enfilade_core.specs.Right.{IsRightPart}
+use Rattle.enfilade_core.specs.Axes.{Widths, IsWellFormedRow}
+use Rattle.enfilade_core.specs.WellFormed.{IsWellFormedPart}
 use Rattle.enfilade_core.specs.Edits.{shifted, shift_row}
 use Rattle.enfilade_core.specs.Exchange.{branch_at}
-use Rattle.enfilade_core.specs.Touched.{IsSeenFrom, StandBefore, StandPast, AreStill}
+use Rattle.enfilade_core.specs.Touched.{IsSeenFrom, StandBefore, StandPast}
 use Rattle.enfilade_core.proofs.Orders.{All-flat}
 use Rattle.enfilade_core.proofs.Seen.{rows-moved_twice}
 use Rattle.enfilade_core.proofs.ExchangeLists.{AllBefore, NoneBefore}
 use Rattle.enfilade_core.proofs.ExchangeGrown.{flat_rows}
 
--- ---- a place
+-- ---- a coordinate
 
 pub seen-zero : (at base seen : List ℕ) → seen ≡ [] → IsBefore at base → IsSeenFrom at base seen
 seen-zero at base seen is lt = rw is record {
-  before = λ place e. absurd (never_before_none place (before_if_true place [] e));
-  past = λ place ends e. false_if_up_to (sum base place) at (upto_upto at base (sum base place) (upto_if_before at base lt) (sum-upto base place ends));
+  before = λ coordinate e. absurd (never_before_none coordinate (before_if_true coordinate [] e));
+  past = λ coordinate ends e. false_if_up_to (sum base coordinate) at (upto_upto at base (sum base coordinate) (upto_if_before at base lt) (sum-upto base coordinate ends));
 }
 
 pub seen-minus : (at base seen : List ℕ) → IsUpTo base at → EndsWell seen → seen ≡ difference at base → IsSeenFrom at base seen
 seen-minus at base seen le ends e =
     let is : sum base seen ≡ at = ap (sum base) e ∙ sum-difference base at le in
     record {
-      before = λ place b. true_if_before (sum base place) at (subst (IsBefore (sum base place)) is (sums_keep_order base place seen ends (before_if_true place seen b)));
-      past = λ place well b. false_if_up_to (sum base place) at (subst (λ (x : List ℕ). IsUpTo x (sum base place)) is (sums_up_to base seen place well (up_to_if_false place seen b)));
+      before = λ coordinate b. true_if_before (sum base coordinate) at (subst (IsBefore (sum base coordinate)) is (sums_keep_order base coordinate seen ends (before_if_true coordinate seen b)));
+      past = λ coordinate well b. false_if_up_to (sum base coordinate) at (subst (λ (x : List ℕ). IsUpTo x (sum base coordinate)) is (sums_up_to base seen coordinate well (up_to_if_false coordinate seen b)));
     }
 
 -- ---- rows of branches
@@ -53,10 +53,10 @@ seen-past at base seen (row ∷ rows) s ends h =
     (seen-past at base seen rows s (All-tail P row rows ends) (All-tail Q row rows h))
 
 -- the rows of parts end well
-pub parts-end : {L : Type 0} (w : Widths L) (nodes : List (Shape L)) (branches : List Branch) → All (IsRightPart w nodes) branches → All (λ (r : Row L). EndsWell r.first) (flat_rows nodes branches)
+pub parts-end : {L : Type 0} (w : Widths L) (nodes : List (Shape L)) (branches : List Branch) → All (IsWellFormedPart w nodes) branches → All (λ (r : Row L). EndsWell r.first) (flat_rows nodes branches)
 parts-end {L} w nodes branches parts =
-    All-weaker (IsRightRow w) (λ (r : Row L). EndsWell r.first) (λ r h. h.first_place.ends) (flat_rows nodes branches)
-    (All-flat (IsRightRow w) (branch_rows (rows_table nodes)) branches (All-weaker (IsRightPart w nodes) (λ b. All (IsRightRow w) (branch_rows (rows_table nodes) b)) (λ b p. p.rows) branches parts))
+    All-weaker (IsWellFormedRow w) (λ (r : Row L). EndsWell r.first) (λ r h. h.first_coordinate.ends) (flat_rows nodes branches)
+    (All-flat (IsWellFormedRow w) (branch_rows (rows_table nodes)) branches (All-weaker (IsWellFormedPart w nodes) (λ b. All (IsWellFormedRow w) (branch_rows (rows_table nodes) b)) (λ b p. p.rows) branches parts))
 
 -- the rows of branches that are moved are theirs, moved
 pub flat-moved : {L : Type 0} (nodes : List (Shape L)) (a b : List ℕ) (branches : List Branch) → flat_rows nodes (map (branch_at a b) branches) ≡ map (moved a b) (flat_rows nodes branches)
@@ -87,16 +87,3 @@ shift-still {L} to (row ∷ rows) h =
   where
     one : {L : Type 0} (row : Row L) → comes_before row.first to ≡ false → shift_row to to row ≡ row
     one row e = rw e (ap (λ (x : List ℕ). record row { first = x }) (sum-difference to row.first (up_to_if_false row.first to e)))
-
--- what stands still behind the gap
-pub still-past : {L : Type 0} (nodes : List (Shape L)) (gap : Gap) (a b : List ℕ) (n : ℕ) (branches : List Branch) → AreStill nodes gap a (drop n branches) → NoneBefore gap.to (flat_rows nodes (drop n (map (branch_at a b) branches)))
-still-past {L} nodes gap a b n branches (inl none) =
-    subst (NoneBefore gap.to) (sym (ap (flat_rows nodes) (drop-map (branch_at a b) n branches ∙ ap (map (branch_at a b)) none))) (All-nil (λ (r : Row L). comes_before r.first gap.to ≡ false))
-still-past nodes gap a b n branches (inr still) = past-there nodes gap.to a b n branches still.1
-
-pub still-there : {L : Type 0} (nodes : List (Shape L)) (gap : Gap) (a b : List ℕ) (n : ℕ) (branches : List Branch) → AreStill nodes gap a (drop n branches) → shifted gap.to gap.onto (flat_rows nodes (drop n (map (branch_at a b) branches))) ≡ flat_rows nodes (drop n (map (branch_at a b) branches))
-still-there {L} nodes gap a b n branches (inl none) =
-    subst (λ (bs : List Branch). shifted gap.to gap.onto (flat_rows nodes bs) ≡ flat_rows nodes bs) (sym (drop-map (branch_at a b) n branches ∙ ap (map (branch_at a b)) none)) refl
-still-there {L} nodes gap a b n branches (inr still) =
-    let rows = flat_rows nodes (drop n (map (branch_at a b) branches)) in
-    subst (λ (to : List ℕ). shifted gap.to to rows ≡ rows) still.0 (shift-still gap.to rows (past-there nodes gap.to a b n branches still.1))

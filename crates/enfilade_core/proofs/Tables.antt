@@ -7,7 +7,7 @@ use Rattle.std.proofs.lemmas.List.Sums.{fold-append}
 use Rattle.std.proofs.lemmas.List.Elements.{All-head, All-tail}
 use Rattle.enfilade_core.specs.declared.tree.Branch.{Branch}
 use Rattle.enfilade_core.specs.Rows.{Shape, Rows, table, node_at}
-use Rattle.enfilade_core.specs.Right.{NamesBelow}
+use Rattle.enfilade_core.specs.WellFormed.{NamesBelow}
 
 -- one more node
 abbrev pub stepped : {L T : Type 0} → (List T → Shape L → T) → List T → Shape L → List T

@@ -1,4 +1,4 @@
--- The last row that comes before a place, where rows are counted and a branch is chosen as they are seen from a base.
+-- The last row that comes before a coordinate, where rows are counted and a branch is chosen as they are seen from a base.
 use Rattle.std.proofs.Common.{◌≡◌, ◌≢◌, ◌⊎◌, inl, inr, ℕ, zero, suc, ◌+◌, ◌-◌, ◌<◌, Bool, true, false, cond, List, [], ◌∷◌, ◌++◌, length, get_or, take, drop, map, refl, arith, ap, ◌∙◌, sym, subst, Option, Some, None, Contains}
 use Rattle.std.specs.List.{All}
 use Rattle.std.proofs.lemmas.List.{drop_more}
@@ -10,15 +10,15 @@ use Rattle.tumbler.proofs.Order.{upto_before}
 use Rattle.enfilade_core.specs.declared.tree.Row.{Row}
 use Rattle.enfilade_core.specs.declared.tree.Branch.{Branch}
 use Rattle.enfilade_core.specs.Rows.{Shape, Branches, moved, branch_rows, rows_table, rows_of}
-use Rattle.enfilade_core.specs.Axes.{Widths, first_axis, second_axis, InOrder, IsRightRow, IsRightRows}
-use Rattle.enfilade_core.specs.Right.{origins_table, IsRight, IsRightPart}
+use Rattle.enfilade_core.specs.Axes.{Widths, first_axis, second_axis, InOrder, IsWellFormedRow, IsWellFormedRows}
+use Rattle.enfilade_core.specs.WellFormed.{origins_table, IsWellFormed, IsWellFormedPart}
 use Rattle.enfilade_core.specs.Plain.{plain_row}
 use Rattle.enfilade_core.specs.Edits.{or_else, last_before}
-use Rattle.enfilade_core.specs.Following.{first_place}
+use Rattle.enfilade_core.specs.Following.{first_coordinate}
 use Rattle.enfilade_core.specs.Exchange.{rows_before, branch_at, IsChosen}
 use Rattle.enfilade_core.specs.Touched.{IsSeenFrom}
 use Rattle.enfilade_core.proofs.Nodes.{node-parts}
-use Rattle.enfilade_core.proofs.GoneThrough.{around, mapped_at, item-right}
+use Rattle.enfilade_core.proofs.GoneThrough.{around, mapped_at, item-well_formed}
 use Rattle.enfilade_core.proofs.Seen.{rows-moved_twice}
 use Rattle.enfilade_core.proofs.BesideRows.{all_past}
 use Rattle.enfilade_core.proofs.ExchangeLists.{NoneBefore, before-none}
@@ -29,16 +29,16 @@ use Rattle.enfilade_core.proofs.SeenPlaces.{flat-moved}
 
 -- ---- rows behind others
 
--- where none of the rows behind comes before the place, they change nothing
+-- where none of the rows behind comes before the coordinate, they change nothing
 before-front : {L : Type 0} (at : List ℕ) (rows more : List (Row L)) → last_before at more ≡ None → last_before at (rows ++ more) ≡ last_before at rows
 before-front at [] more none = none
 before-front at (row ∷ rows) more none = ap (λ (o : Option (Row _)). cond (comes_before row.first at) (or_else o row) None) (before-front at rows more none)
 
-none-before : {L : Type 0} (at : List ℕ) (rows more : List (Row L)) → rows ≢ [] → comes_before (first_place rows) at ≡ false → last_before at (rows ++ more) ≡ None
+none-before : {L : Type 0} (at : List ℕ) (rows more : List (Row L)) → rows ≢ [] → comes_before (first_coordinate rows) at ≡ false → last_before at (rows ++ more) ≡ None
 none-before at [] more some past = absurd (some refl)
 none-before at (row ∷ rows) more some past = rw past refl
 
--- where none of all rows comes before the place, there is no last one
+-- where none of all rows comes before the coordinate, there is no last one
 none-past : {L : Type 0} (at : List ℕ) (rows : List (Row L)) → NoneBefore at rows → last_before at rows ≡ None
 none-past at [] past = refl
 none-past {L} at (row ∷ rows) past = rw (All-head (λ (r : Row L). comes_before r.first at ≡ false) row rows past) refl
@@ -50,22 +50,22 @@ or_else-twice None a b = refl
 first-found : {L : Type 0} (at : List ℕ) (row : Row L) (rows : List (Row L)) → comes_before row.first at ≡ true → last_before at (row ∷ rows) ≡ or_else (last_before at rows) row
 first-found at row rows before = rw before refl
 
-keeps : {L : Type 0} (at : List ℕ) (rows : List (Row L)) (row : Row L) → rows ≢ [] → comes_before (first_place rows) at ≡ true → or_else (last_before at rows) row ≡ last_before at rows
+keeps : {L : Type 0} (at : List ℕ) (rows : List (Row L)) (row : Row L) → rows ≢ [] → comes_before (first_coordinate rows) at ≡ true → or_else (last_before at rows) row ≡ last_before at rows
 keeps at [] row some before = absurd (some refl)
 keeps at (next ∷ rows) row some before =
     let is = first-found at next rows before in
     ap (λ (o : Option (Row _)). or_else o row) is ∙ or_else-twice (last_before at rows) next row ∙ sym is
 
-up_to_first : {L : Type 0} (place : List ℕ) (rows : List (Row L)) → rows ≢ [] → All (λ (r : Row L). IsUpTo place r.first) rows → IsUpTo place (first_place rows)
-up_to_first place [] some h = absurd (some refl)
-up_to_first {L} place (row ∷ rows) some h = All-head (λ (r : Row L). IsUpTo place r.first) row rows h
+up_to_first : {L : Type 0} (coordinate : List ℕ) (rows : List (Row L)) → rows ≢ [] → All (λ (r : Row L). IsUpTo coordinate r.first) rows → IsUpTo coordinate (first_coordinate rows)
+up_to_first coordinate [] some h = absurd (some refl)
+up_to_first {L} coordinate (row ∷ rows) some h = All-head (λ (r : Row L). IsUpTo coordinate r.first) row rows h
 
--- where the first of the rows behind comes before the place, the last is among those
-before-back : {L : Type 0} (at : List ℕ) (rows more : List (Row L)) → InOrder (rows ++ more) → more ≢ [] → comes_before (first_place more) at ≡ true → last_before at (rows ++ more) ≡ last_before at more
+-- where the first of the rows behind comes before the coordinate, the last is among those
+before-back : {L : Type 0} (at : List ℕ) (rows more : List (Row L)) → InOrder (rows ++ more) → more ≢ [] → comes_before (first_coordinate more) at ≡ true → last_before at (rows ++ more) ≡ last_before at more
 before-back at [] more ordered some before = refl
 before-back {L} at (row ∷ rows) more ordered some before =
     let up = up_to_first row.first more some (All-back (λ (r : Row L). IsUpTo row.first r.first) rows more ordered.0) in
-    let own : comes_before row.first at ≡ true = true_if_before row.first at (upto_before row.first (first_place more) at up (before_if_true (first_place more) at before)) in
+    let own : comes_before row.first at ≡ true = true_if_before row.first at (upto_before row.first (first_coordinate more) at up (before_if_true (first_coordinate more) at before)) in
     first-found at row (rows ++ more) own ∙ ap (λ (o : Option (Row L)). or_else o row) (before-back at rows more ordered.1 some before) ∙ keeps at more row some before
 
 -- ---- rows that are counted
@@ -80,7 +80,7 @@ none-counted at (row ∷ rows) e = elim (comes_before row.first at) as (λ b. co
   | false ↦ λ past. rw past refl
 ] refl
 
--- row n of some in order, where as many come before the place and one more
+-- row n of some in order, where as many come before the coordinate and one more
 abbrev CountedAt : {L : Type 0} → List ℕ → List (Row L) → Row L → ℕ → Type 0
 CountedAt at rows row n = length (rows_before at rows) ≡ suc n → row ≡ get_or rows n row → last_before at rows ≡ Some row
 
@@ -101,10 +101,10 @@ abbrev moved_if : {L : Type 0} → List ℕ → List ℕ → Option (Row L) → 
 moved_if a b (Some row) = Some (moved a b row)
 moved_if a b None = None
 
-stands-seen : (at base seen place : List ℕ) → IsSeenFrom at base seen → EndsWell place → comes_before (sum base place) at ≡ comes_before place seen
-stands-seen at base seen place s ends = elim (comes_before place seen) as (λ b. comes_before place seen ≡ b → comes_before (sum base place) at ≡ comes_before place seen) [
-  | true ↦ λ e. s.before place e ∙ sym e
-  | false ↦ λ e. s.past place ends e ∙ sym e
+stands-seen : (at base seen coordinate : List ℕ) → IsSeenFrom at base seen → EndsWell coordinate → comes_before (sum base coordinate) at ≡ comes_before coordinate seen
+stands-seen at base seen coordinate s ends = elim (comes_before coordinate seen) as (λ b. comes_before coordinate seen ≡ b → comes_before (sum base coordinate) at ≡ comes_before coordinate seen) [
+  | true ↦ λ e. s.before coordinate e ∙ sym e
+  | false ↦ λ e. s.past coordinate ends e ∙ sym e
 ] refl
 
 or_else-moved : {L : Type 0} (a b : List ℕ) (t : Bool) (o : Option (Row L)) (row : Row L) → cond t (or_else (moved_if a b o) (moved a b row)) None ≡ moved_if a b (cond t (or_else o row) None)
@@ -112,7 +112,7 @@ or_else-moved a b true (Some x) row = refl
 or_else-moved a b true None row = refl
 or_else-moved a b false o row = refl
 
--- the last one is the last one that comes before the place as it is seen, moved
+-- the last one is the last one that comes before the coordinate as it is seen, moved
 last-seen : {L : Type 0} (at a b seen : List ℕ) (rows : List (Row L)) → IsSeenFrom at a seen → All (λ (r : Row L). EndsWell r.first) rows → last_before at (map (moved a b) rows) ≡ moved_if a b (last_before seen rows)
 last-seen at a b seen [] s ends = refl
 last-seen {L} at a b seen (row ∷ rows) s ends =
@@ -121,35 +121,35 @@ last-seen {L} at a b seen (row ∷ rows) s ends =
     ∙ ap (λ (o : Option (Row L)). cond (comes_before row.first seen) (or_else o (moved a b row)) None) (last-seen at a b seen rows s (All-tail P row rows ends))
     ∙ or_else-moved a b (comes_before row.first seen) (last_before seen rows) row
 
-all-end : {L : Type 0} (w : Widths L) (rows : List (Row L)) → All (IsRightRow w) rows → All (λ (r : Row L). EndsWell r.first) rows
-all-end {L} w rows right = All-weaker (IsRightRow w) (λ (r : Row L). EndsWell r.first) (λ r h. h.first_place.ends) rows right
+all-end : {L : Type 0} (w : Widths L) (rows : List (Row L)) → All (IsWellFormedRow w) rows → All (λ (r : Row L). EndsWell r.first) rows
+all-end {L} w rows well_formed = All-weaker (IsWellFormedRow w) (λ (r : Row L). EndsWell r.first) (λ r h. h.first_coordinate.ends) rows well_formed
 
 -- ---- rows of a bottom node
 
 pub row-short : {L : Type 0} (at : List ℕ) (rows : List (Row L)) (n : ℕ) → n ≡ length (rows_before at rows) → n ≢ 0 → n - 1 < length rows
 row-short at rows n is some = omega (arith, is, some, count-short at rows)
 
-pub row-found : {L : Type 0} (plain : L → L) (w : Widths L) (at a b seen : List ℕ) (rows : List (Row L)) (n : ℕ) (row : Row L) → IsSeenFrom at a seen → IsRightRows w (map (plain_row plain) rows) → n ≡ length (rows_before seen rows) → n ≢ 0 → row ≡ get_or rows (n - 1) row
+pub row-found : {L : Type 0} (plain : L → L) (w : Widths L) (at a b seen : List ℕ) (rows : List (Row L)) (n : ℕ) (row : Row L) → IsSeenFrom at a seen → IsWellFormedRows w (map (plain_row plain) rows) → n ≡ length (rows_before seen rows) → n ≢ 0 → row ≡ get_or rows (n - 1) row
     → last_before at (map (moved a b) (map (plain_row plain) rows)) ≡ Some (moved a b (plain_row plain row))
-row-found plain w at a b seen rows n row s right is some item =
+row-found plain w at a b seen rows n row s well_formed is some item =
     let own = map (plain_row plain) rows in
     let there = mapped_at (plain_row plain) rows (n - 1) row (row-short seen rows n is some) item in
-    last-seen at a b seen own s (all-end w own right.each)
-    ∙ ap (moved_if a b) (last-counted seen own (plain_row plain row) right.ordered (n - 1) (omega (arith, is, some, count-plain plain seen rows)) there.at)
+    last-seen at a b seen own s (all-end w own well_formed.each)
+    ∙ ap (moved_if a b) (last-counted seen own (plain_row plain row) well_formed.ordered (n - 1) (omega (arith, is, some, count-plain plain seen rows)) there.at)
 
-pub no-row : {L : Type 0} (plain : L → L) (w : Widths L) (at a b seen : List ℕ) (rows : List (Row L)) (n : ℕ) → IsSeenFrom at a seen → IsRightRows w (map (plain_row plain) rows) → n ≡ length (rows_before seen rows) → n ≡ 0
+pub no-row : {L : Type 0} (plain : L → L) (w : Widths L) (at a b seen : List ℕ) (rows : List (Row L)) (n : ℕ) → IsSeenFrom at a seen → IsWellFormedRows w (map (plain_row plain) rows) → n ≡ length (rows_before seen rows) → n ≡ 0
     → last_before at (map (moved a b) (map (plain_row plain) rows)) ≡ None
-no-row plain w at a b seen rows n s right is none =
+no-row plain w at a b seen rows n s well_formed is none =
     let own = map (plain_row plain) rows in
-    last-seen at a b seen own s (all-end w own right.each) ∙ ap (moved_if a b) (none-counted seen own (omega (arith, is, none, count-plain plain seen rows)))
+    last-seen at a b seen own s (all-end w own well_formed.each) ∙ ap (moved_if a b) (none-counted seen own (omega (arith, is, none, count-plain plain seen rows)))
 
 -- ---- branches of an inner node
 
--- the branch that was chosen for a place as it is seen from the node
+-- the branch that was chosen for a coordinate as it is seen from the node
 pub record ChosenSeen {L : Type 0} (w : Widths L) (nodes : List (Shape L)) (branches : List Branch) (seen : List ℕ) (k : ℕ) (branch : Branch) : Type 0 where
-  pub right : IsRight w nodes (Branches branches)
+  pub well_formed : IsWellFormed w nodes (Branches branches)
   pub chosen : IsChosen nodes branches seen k
-  pub here : (k ≡ 0) ⊎ (comes_before (first_place (flat_rows nodes (drop k branches))) seen ≡ true)
+  pub here : (k ≡ 0) ⊎ (comes_before (first_coordinate (flat_rows nodes (drop k branches))) seen ≡ true)
   pub item : branch ≡ get_or branches k branch
   pub some : branch_rows (rows_table nodes) branch ≢ []
 
@@ -157,7 +157,7 @@ parted : {L : Type 0} (w : Widths L) (nodes : List (Shape L)) (branches : List B
     → flat_rows nodes branches ≡ flat_rows nodes (take k branches) ++ (branch_rows (rows_table nodes) branch ++ flat_rows nodes (drop (k + 1) branches))
 parted w nodes branches seen k branch c = flat-around nodes branches k branch (around branches k branch c.chosen.there c.item)
 
-last-own : {L : Type 0} (w : Widths L) (nodes : List (Shape L)) (branches : List Branch) (seen : List ℕ) (k : ℕ) (branch : Branch) → ChosenSeen w nodes branches seen k branch → comes_before (first_place (branch_rows (rows_table nodes) branch)) seen ≡ true
+last-own : {L : Type 0} (w : Widths L) (nodes : List (Shape L)) (branches : List Branch) (seen : List ℕ) (k : ℕ) (branch : Branch) → ChosenSeen w nodes branches seen k branch → comes_before (first_coordinate (branch_rows (rows_table nodes) branch)) seen ≡ true
     → last_before seen (flat_rows nodes branches) ≡ last_before seen (branch_rows (rows_table nodes) branch)
 last-own w nodes branches seen k branch c before =
     let rows = branch_rows (rows_table nodes) branch in
@@ -165,17 +165,17 @@ last-own w nodes branches seen k branch c before =
     let rest = flat_rows nodes (drop (k + 1) branches) in
     let whole = parted w nodes branches seen k branch c in
     ap (last_before seen) whole
-    ∙ before-back seen front (rows ++ rest) (subst InOrder whole c.right.ordered) (filled-append rows rest c.some) (ap (λ (p : List ℕ). comes_before p seen) (first-append rows rest c.some) ∙ before)
+    ∙ before-back seen front (rows ++ rest) (subst InOrder whole c.well_formed.ordered) (filled-append rows rest c.some) (ap (λ (p : List ℕ). comes_before p seen) (first-append rows rest c.some) ∙ before)
     ∙ before-front seen rows rest (none-past seen rest c.chosen.back)
 
-none-own : {L : Type 0} (w : Widths L) (nodes : List (Shape L)) (branches : List Branch) (seen : List ℕ) (k : ℕ) (branch : Branch) → ChosenSeen w nodes branches seen k branch → comes_before (first_place (branch_rows (rows_table nodes) branch)) seen ≡ false
+none-own : {L : Type 0} (w : Widths L) (nodes : List (Shape L)) (branches : List Branch) (seen : List ℕ) (k : ℕ) (branch : Branch) → ChosenSeen w nodes branches seen k branch → comes_before (first_coordinate (branch_rows (rows_table nodes) branch)) seen ≡ false
     → last_before seen (flat_rows nodes branches) ≡ None
 none-own {L} w nodes branches seen k branch c past =
     let rows = branch_rows (rows_table nodes) branch in
     let rest = flat_rows nodes (drop (k + 1) branches) in
     let item : drop k branches ≡ branch ∷ drop (k + 1) branches = drop_more branches k branch c.chosen.there ∙ ap (λ (b : Branch). b ∷ drop (k + 1) branches) (sym c.item) in
-    let past_here : comes_before (first_place (flat_rows nodes (drop k branches))) seen ≡ false =
-    ap (λ (bs : List Branch). comes_before (first_place (flat_rows nodes bs)) seen) item ∙ ap (λ (p : List ℕ). comes_before p seen) (first-append rows rest c.some) ∙ past in
+    let past_here : comes_before (first_coordinate (flat_rows nodes (drop k branches))) seen ≡ false =
+    ap (λ (bs : List Branch). comes_before (first_coordinate (flat_rows nodes bs)) seen) item ∙ ap (λ (p : List ℕ). comes_before p seen) (first-append rows rest c.some) ∙ past in
     elim c.here [
       | inl start ↦ ap (last_before seen) (parted w nodes branches seen k branch c ∙ ap (λ (n : ℕ). flat_rows nodes (take n branches) ++ (rows ++ rest)) start) ∙ none-before seen rows rest c.some past
       | inr before ↦ absurd (true_not_false _ before past_here)
@@ -185,28 +185,28 @@ none-own {L} w nodes branches seen k branch c past =
     true_not_false true e f = cc
     true_not_false false e f = cc
 
-own-end : {L : Type 0} (w : Widths L) (nodes : List (Shape L)) (branches : List Branch) → IsRight w nodes (Branches branches) → All (λ (r : Row L). EndsWell r.first) (flat_rows nodes branches)
-own-end w nodes branches right = all-end w (flat_rows nodes branches) right.rows
+own-end : {L : Type 0} (w : Widths L) (nodes : List (Shape L)) (branches : List Branch) → IsWellFormed w nodes (Branches branches) → All (λ (r : Row L). EndsWell r.first) (flat_rows nodes branches)
+own-end w nodes branches well_formed = all-end w (flat_rows nodes branches) well_formed.rows
 
 branch-end : {L : Type 0} (w : Widths L) (nodes : List (Shape L)) (branches : List Branch) (seen : List ℕ) (k : ℕ) (branch : Branch) → ChosenSeen w nodes branches seen k branch → All (λ (r : Row L). EndsWell r.first) (branch_rows (rows_table nodes) branch)
 branch-end w nodes branches seen k branch c =
-    all-end w (branch_rows (rows_table nodes) branch) (item-right (IsRightPart w nodes) branches k branch c.chosen.there c.item (node-parts w nodes branches c.right)).rows
+    all-end w (branch_rows (rows_table nodes) branch) (item-well_formed (IsWellFormedPart w nodes) branches k branch c.chosen.there c.item (node-parts w nodes branches c.well_formed)).rows
 
--- the last row of all is that of the branch that was chosen, where it has a row before the place
-pub branch-found : {L : Type 0} (w : Widths L) (nodes : List (Shape L)) (at a b seen : List ℕ) (branches : List Branch) (k : ℕ) (branch : Branch) → IsSeenFrom at a seen → ChosenSeen w nodes branches seen k branch → comes_before (first_place (branch_rows (rows_table nodes) branch)) seen ≡ true
+-- the last row of all is that of the branch that was chosen, where it has a row before the coordinate
+pub branch-found : {L : Type 0} (w : Widths L) (nodes : List (Shape L)) (at a b seen : List ℕ) (branches : List Branch) (k : ℕ) (branch : Branch) → IsSeenFrom at a seen → ChosenSeen w nodes branches seen k branch → comes_before (first_coordinate (branch_rows (rows_table nodes) branch)) seen ≡ true
     → last_before at (flat_rows nodes (map (branch_at a b) branches)) ≡ last_before at (branch_rows (rows_table nodes) (branch_at a b branch))
 branch-found w nodes at a b seen branches k branch s c before =
     ap (last_before at) (flat-moved nodes a b branches)
-    ∙ last-seen at a b seen (flat_rows nodes branches) s (own-end w nodes branches c.right)
+    ∙ last-seen at a b seen (flat_rows nodes branches) s (own-end w nodes branches c.well_formed)
     ∙ ap (moved_if a b) (last-own w nodes branches seen k branch c before)
     ∙ sym (last-seen at a b seen (branch_rows (rows_table nodes) branch) s (branch-end w nodes branches seen k branch c))
     ∙ ap (last_before at) (rows-moved_twice a b branch.first branch.second (rows_of nodes branch.node.0))
 
-pub no-branch : {L : Type 0} (w : Widths L) (nodes : List (Shape L)) (at a b seen : List ℕ) (branches : List Branch) (k : ℕ) (branch : Branch) → IsSeenFrom at a seen → ChosenSeen w nodes branches seen k branch → comes_before (first_place (branch_rows (rows_table nodes) branch)) seen ≡ false
+pub no-branch : {L : Type 0} (w : Widths L) (nodes : List (Shape L)) (at a b seen : List ℕ) (branches : List Branch) (k : ℕ) (branch : Branch) → IsSeenFrom at a seen → ChosenSeen w nodes branches seen k branch → comes_before (first_coordinate (branch_rows (rows_table nodes) branch)) seen ≡ false
     → last_before at (flat_rows nodes (map (branch_at a b) branches)) ≡ None
 no-branch w nodes at a b seen branches k branch s c past =
     ap (last_before at) (flat-moved nodes a b branches)
-    ∙ last-seen at a b seen (flat_rows nodes branches) s (own-end w nodes branches c.right)
+    ∙ last-seen at a b seen (flat_rows nodes branches) s (own-end w nodes branches c.well_formed)
     ∙ ap (moved_if a b) (none-own w nodes branches seen k branch c past)
 
 -- the branch that was chosen is one of those, where it stands
@@ -216,10 +216,10 @@ one-moved a b branches k branch lt item =
     (k, m.short, sym m.at)
 
 -- a branch fits where it is moved to
-pub moved-fits : {L : Type 0} (w : Widths L) (nodes : List (Shape L)) (a b : List ℕ) (branches : List Branch) (i : ℕ) (item : Branch) → i < length branches → item ≡ get_or branches i item → All (IsRightPart w nodes) (map (branch_at a b) branches) → IsTumbler (sum a item.first) × IsTumbler (sum b item.second)
+pub moved-fits : {L : Type 0} (w : Widths L) (nodes : List (Shape L)) (a b : List ℕ) (branches : List Branch) (i : ℕ) (item : Branch) → i < length branches → item ≡ get_or branches i item → All (IsWellFormedPart w nodes) (map (branch_at a b) branches) → IsTumbler (sum a item.first) × IsTumbler (sum b item.second)
 moved-fits w nodes a b branches i item lt at parts =
     let m = mapped_at (branch_at a b) branches i item lt at in
-    let part = item-right (IsRightPart w nodes) (map (branch_at a b) branches) i (branch_at a b item) m.short m.at parts in
+    let part = item-well_formed (IsWellFormedPart w nodes) (map (branch_at a b) branches) i (branch_at a b item) m.short m.at parts in
     let first = map (sum (sum a item.first)) (get_or (origins_table (first_axis w) nodes) item.node.0 []) in
     let second = map (sum (sum b item.second)) (get_or (origins_table (second_axis w) nodes) item.node.0 []) in
     (All-head IsTumbler (sum a item.first) first part.first_origins, All-head IsTumbler (sum b item.second) second part.second_origins)

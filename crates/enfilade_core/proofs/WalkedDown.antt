@@ -1,17 +1,17 @@
--- The last row below a node that comes before a place, by the node's children.
+-- The last row below a node that comes before a coordinate, by the node's children.
 use Rattle.std.proofs.Common.{◌≡◌, ℕ, ◌+◌, ◌<◌, List, map, min, refl, arith, ap, ◌∙◌, sym, subst, Option, Some, None, Contains, IfSome, IfNone, length}
 use Rattle.std.specs.List.{All, flat_map}
 use Rattle.std.proofs.lemmas.List.Elements.{All-contains}
 use Rattle.enfilade_core.specs.declared.tree.Row.{Row}
 use Rattle.enfilade_core.specs.declared.tree.Branch.{Branch}
 use Rattle.enfilade_core.specs.Rows.{Shape, Rows, Branches, moved, branch_rows, rows_table, rows_of, node_at}
-use Rattle.enfilade_core.specs.Axes.{Widths, IsRightRow, IsRightRows}
-use Rattle.enfilade_core.specs.Right.{IsRight, AreRight, IsRightPart}
+use Rattle.enfilade_core.specs.Axes.{Widths, IsWellFormedRow, IsWellFormedRows}
+use Rattle.enfilade_core.specs.WellFormed.{IsWellFormed, AreWellFormed, IsWellFormedPart}
 use Rattle.enfilade_core.specs.Edits.{last_before}
 use Rattle.enfilade_core.specs.declared.summary.Summary.{Summary}
 use Rattle.enfilade_core.specs.Summary.{height_of, no_summary, summary_in, summaries}
-use Rattle.enfilade_core.specs.Exchange.{IsRightAt, IsOpened, branch_at}
-use Rattle.enfilade_core.proofs.Parts.{right-now, summary-said}
+use Rattle.enfilade_core.specs.Exchange.{IsWellFormedAt, IsOpened, branch_at}
+use Rattle.enfilade_core.proofs.Parts.{well_formed-now, summary-said}
 use Rattle.enfilade_core.proofs.Heights.{rows_height}
 use Rattle.enfilade_core.proofs.ExchangeNodes.{level-height}
 use Rattle.enfilade_core.proofs.OpenedAt.{at-of_part, rows-at, bottom-fits, rows-moved, inner-opened}
@@ -20,63 +20,63 @@ use Rattle.enfilade_core.proofs.WalkedRows.{parts-at}
 -- ---- a bottom node
 
 pub record BottomSeen {L : Type 0} (w : Widths L) (nodes : List (Shape L)) (k : ℕ) (a b : List ℕ) (rows : List (Row L)) : Type 0 where
-  pub own : IsRightRows w rows
-  pub right : All (IsRightRow w) (map (moved a b) rows)
+  pub own : IsWellFormedRows w rows
+  pub well_formed : All (IsWellFormedRow w) (map (moved a b) rows)
   pub same : map (moved a b) (rows_of nodes k) ≡ map (moved a b) rows
   pub level : height_of w nodes k ≡ 0
 
-bottom-level : {L : Type 0} (w : Widths L) (nodes : List (Shape L)) (k : ℕ) (rows : List (Row L)) → AreRight w nodes → k < length nodes → node_at nodes k ≡ Rows rows → height_of w nodes k ≡ 0
-bottom-level {L} w nodes k rows right lt is =
-    ap (λ (s : Summary). s.height) (summary-said w nodes k right lt) ∙ ap (λ (node : Shape L). (summary_in w (summaries w nodes) node).height) is ∙ rows_height w rows no_summary refl
+bottom-level : {L : Type 0} (w : Widths L) (nodes : List (Shape L)) (k : ℕ) (rows : List (Row L)) → AreWellFormed w nodes → k < length nodes → node_at nodes k ≡ Rows rows → height_of w nodes k ≡ 0
+bottom-level {L} w nodes k rows well_formed lt is =
+    ap (λ (s : Summary). s.height) (summary-said w nodes k well_formed lt) ∙ ap (λ (node : Shape L). (summary_in w (summaries w nodes) node).height) is ∙ rows_height w rows no_summary refl
 
-pub bottom-seen : {L : Type 0} (w : Widths L) (nodes : List (Shape L)) (k : ℕ) (a b : List ℕ) (rows : List (Row L)) → AreRight w nodes → IsRightAt w nodes k a b → node_at nodes k ≡ Rows rows → BottomSeen w nodes k a b rows
-bottom-seen w nodes k a b rows right at is =
-    let now = subst (IsRight w nodes) is (right-now w nodes k right at.below) in
+pub bottom-seen : {L : Type 0} (w : Widths L) (nodes : List (Shape L)) (k : ℕ) (a b : List ℕ) (rows : List (Row L)) → AreWellFormed w nodes → IsWellFormedAt w nodes k a b → node_at nodes k ≡ Rows rows → BottomSeen w nodes k a b rows
+bottom-seen w nodes k a b rows well_formed at is =
+    let now = subst (IsWellFormed w nodes) is (well_formed-now w nodes k well_formed at.below) in
     record {
       own = record { each = now.rows; ordered = now.ordered };
-      right = bottom-fits w nodes k a b rows right at is;
-      same = ap (map (moved a b)) (rows-at w nodes k a b rows right at is);
-      level = bottom-level w nodes k rows right at.below is;
+      well_formed = bottom-fits w nodes k a b rows well_formed at is;
+      same = ap (map (moved a b)) (rows-at w nodes k a b rows well_formed at is);
+      level = bottom-level w nodes k rows well_formed at.below is;
     }
 
 -- ---- an inner node
 
 pub record InnerSeen {L : Type 0} (w : Widths L) (nodes : List (Shape L)) (k : ℕ) (a b : List ℕ) (branches : List Branch) : Type 0 where
-  pub right : IsRight w nodes (Branches branches)
-  pub parts : All (IsRightPart w nodes) (map (branch_at a b) branches)
+  pub well_formed : IsWellFormed w nodes (Branches branches)
+  pub parts : All (IsWellFormedPart w nodes) (map (branch_at a b) branches)
   pub named : All (λ (branch : Branch). branch.node.0 < k) (map (branch_at a b) branches)
   pub same : map (moved a b) (rows_of nodes k) ≡ flat_map (branch_rows (rows_table nodes)) (map (branch_at a b) branches)
   pub opened : IsOpened w nodes k a b (Branches (map (branch_at a b) branches))
 
-pub inner-seen : {L : Type 0} (w : Widths L) (nodes : List (Shape L)) (k : ℕ) (a b : List ℕ) (branches : List Branch) → AreRight w nodes → IsRightAt w nodes k a b → node_at nodes k ≡ Branches branches → InnerSeen w nodes k a b branches
-inner-seen w nodes k a b branches right at is =
+pub inner-seen : {L : Type 0} (w : Widths L) (nodes : List (Shape L)) (k : ℕ) (a b : List ℕ) (branches : List Branch) → AreWellFormed w nodes → IsWellFormedAt w nodes k a b → node_at nodes k ≡ Branches branches → InnerSeen w nodes k a b branches
+inner-seen w nodes k a b branches well_formed at is =
     record {
-      right = subst (IsRight w nodes) is (right-now w nodes k right at.below);
-      parts = parts-at w nodes k a b branches right at is;
-      named = (inner-opened w nodes k a b branches (map (branch_at a b) branches) right at is refl).named;
-      same = sym (rows-moved w nodes k a b branches right at.below is);
-      opened = inner-opened w nodes k a b branches (map (branch_at a b) branches) right at is refl;
+      well_formed = subst (IsWellFormed w nodes) is (well_formed-now w nodes k well_formed at.below);
+      parts = parts-at w nodes k a b branches well_formed at is;
+      named = (inner-opened w nodes k a b branches (map (branch_at a b) branches) well_formed at is refl).named;
+      same = sym (rows-moved w nodes k a b branches well_formed at.below is);
+      opened = inner-opened w nodes k a b branches (map (branch_at a b) branches) well_formed at is refl;
     }
 
 pub record OneBelow {L : Type 0} (w : Widths L) (nodes : List (Shape L)) (k : ℕ) (branch : Branch) : Type 0 where
   pub lower : branch.node.0 < k
-  pub at : IsRightAt w nodes branch.node.0 branch.first branch.second
+  pub at : IsWellFormedAt w nodes branch.node.0 branch.first branch.second
   pub level : height_of w nodes k ≡ height_of w nodes branch.node.0 + 1
 
 level-of_one : {L : Type 0} (w : Widths L) (nodes : List (Shape L)) (k : ℕ) (a b : List ℕ) (all : List Branch) (branch : Branch) → IsOpened w nodes k a b (Branches all) → Contains all branch → height_of w nodes k ≡ height_of w nodes branch.node.0 + 1
 level-of_one w nodes k a b all branch opened one =
-    let height = opened.right.branches.height in
+    let height = opened.well_formed.branches.height in
     omega (
       arith,
       opened.level,
-      level-height w nodes height all opened.right.branches.some opened.right.branches.level,
-      All-contains (λ (x : Branch). height_of w nodes x.node.0 ≡ height) all branch opened.right.branches.level one,
+      level-height w nodes height all opened.well_formed.branches.some opened.well_formed.branches.level,
+      All-contains (λ (x : Branch). height_of w nodes x.node.0 ≡ height) all branch opened.well_formed.branches.level one,
     )
 
 pub one-below : {L : Type 0} (w : Widths L) (nodes : List (Shape L)) (k : ℕ) (a b : List ℕ) (branches : List Branch) (branch : Branch) → InnerSeen w nodes k a b branches → Contains (map (branch_at a b) branches) branch → OneBelow w nodes k branch
 one-below w nodes k a b branches branch seen one = record {
   lower = All-contains (λ (x : Branch). x.node.0 < k) (map (branch_at a b) branches) branch seen.named one;
-  at = at-of_part w nodes branch (All-contains (IsRightPart w nodes) (map (branch_at a b) branches) branch seen.parts one);
+  at = at-of_part w nodes branch (All-contains (IsWellFormedPart w nodes) (map (branch_at a b) branches) branch seen.parts one);
   level = level-of_one w nodes k a b (map (branch_at a b) branches) branch seen.opened one;
 }
 

@@ -14,26 +14,26 @@ pub record Widths (L : Type 0) : Type 0 where
 
 -- one of the axes: where rows stand on it and how wide they are, and a branch's displacement and extent
 pub record Axis (L : Type 0) : Type 0 where
-  pub place : Row L → List ℕ
+  pub coordinate : Row L → List ℕ
   pub width : Row L → List ℕ
   pub strict : Bool
   pub origin : Branch → List ℕ
   pub extent : Branch → List ℕ
 
 abbrev pub first_axis : {L : Type 0} → Widths L → Axis L
-first_axis w = record { place = λ row. row.first; width = w.first; strict = w.first_strict; origin = λ branch. branch.first; extent = λ branch. branch.first_extent }
+first_axis w = record { coordinate = λ row. row.first; width = w.first; strict = w.first_strict; origin = λ branch. branch.first; extent = λ branch. branch.first_extent }
 
 abbrev pub second_axis : {L : Type 0} → Widths L → Axis L
-second_axis w = record { place = λ row. row.second; width = w.second; strict = w.second_strict; origin = λ branch. branch.second; extent = λ branch. branch.second_extent }
+second_axis w = record { coordinate = λ row. row.second; width = w.second; strict = w.second_strict; origin = λ branch. branch.second; extent = λ branch. branch.second_extent }
 
--- where an axis is strict, the row's width is not zero and has as many places as the row's place
+-- where an axis is strict, the row's width is not zero and has as many places as the row's coordinate
 abbrev pub IsProperOn : {L : Type 0} → Axis L → Row L → Type 0
-IsProperOn axis row = IsTrue axis.strict → (axis.width row ≢ []) × (length (axis.width row) ≡ length (axis.place row))
+IsProperOn axis row = IsTrue axis.strict → (axis.width row ≢ []) × (length (axis.width row) ≡ length (axis.coordinate row))
 
 abbrev pub IsProper : {L : Type 0} → Widths L → Row L → Type 0
 IsProper w row = IsProperOn (first_axis w) row × IsProperOn (second_axis w) row
 
--- where an axis is strict, the row's place on it is not zero
+-- where an axis is strict, the row's coordinate on it is not zero
 pub record StandsOff {L : Type 0} (w : Widths L) (row : Row L) : Type 0 where
   pub first : IsTrue w.first_strict → row.first ≢ []
   pub second : IsTrue w.second_strict → row.second ≢ []
@@ -44,7 +44,7 @@ WidthsStay {L} w = (a b : List ℕ) (row : Row L) → EndsWell row.first → End
 
 -- where a row ends on an axis: its place plus its width
 abbrev pub end_on : {L : Type 0} → Axis L → Row L → List ℕ
-end_on axis row = sum (axis.place row) (axis.width row)
+end_on axis row = sum (axis.coordinate row) (axis.width row)
 
 -- the one of two places that comes later
 abbrev pub later : List ℕ → List ℕ → List ℕ
@@ -61,16 +61,16 @@ InOrder [] = Unit {0}
 InOrder (row ∷ rows) = All (λ r. IsUpTo row.first r.first) rows × InOrder rows
 
 -- a row whose places, widths and ends are tumblers, and whose widths are as the plane wants them
-pub record IsRightRow {L : Type 0} (w : Widths L) (row : Row L) : Type 0 where
-  pub first_place : IsTumbler row.first
-  pub second_place : IsTumbler row.second
+pub record IsWellFormedRow {L : Type 0} (w : Widths L) (row : Row L) : Type 0 where
+  pub first_coordinate : IsTumbler row.first
+  pub second_coordinate : IsTumbler row.second
   pub first_width : IsTumbler (w.first row)
   pub second_width : IsTumbler (w.second row)
   pub first_end : IsTumbler (sum row.first (w.first row))
   pub second_end : IsTumbler (sum row.second (w.second row))
   pub proper : IsProper w row
 
--- right rows in order: those that a bottom node, or a tree, may have
-pub record IsRightRows {L : Type 0} (w : Widths L) (rows : List (Row L)) : Type 0 where
-  pub each : All (IsRightRow w) rows
+-- well formed rows in order: those that a bottom node, or a tree, may have
+pub record IsWellFormedRows {L : Type 0} (w : Widths L) (rows : List (Row L)) : Type 0 where
+  pub each : All (IsWellFormedRow w) rows
   pub ordered : InOrder rows

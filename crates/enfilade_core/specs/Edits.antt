@@ -5,7 +5,7 @@ use Rattle.tumbler.specs.Places.{comes_before, sum, difference}
 use Rattle.enfilade_core.specs.declared.tree.Row.{Row}
 use Rattle.enfilade_core.specs.Rows.{Shape, rows_of}
 
--- new rows come in before the first row at or past a place
+-- new rows come in before the first row at or past a coordinate
 abbrev pub put_before : {L : Type 0} → List ℕ → List (Row L) → List (Row L) → List (Row L)
 put_before at new [] = new
 put_before at new (row ∷ rows) = if comes_before row.first at then row ∷ put_before at new rows else new ++ row ∷ rows
@@ -21,12 +21,12 @@ taken_out from to rows = filter (is_within from to) rows
 abbrev pub left_by : {L : Type 0} → List ℕ → List ℕ → List (Row L) → List (Row L)
 left_by from to rows = filter (λ row. not (is_within from to row)) rows
 
--- a place before `from` stays, another is as far from `to` as it was from `from`
-abbrev pub shift_place : List ℕ → List ℕ → List ℕ → List ℕ
-shift_place from to place = if comes_before place from then place else sum to (difference place from)
+-- a coordinate before `from` stays, another is as far from `to` as it was from `from`
+abbrev pub shift_coordinate : List ℕ → List ℕ → List ℕ → List ℕ
+shift_coordinate from to coordinate = if comes_before coordinate from then coordinate else sum to (difference coordinate from)
 
 abbrev pub shift_row : {L : Type 0} → List ℕ → List ℕ → Row L → Row L
-shift_row from to row = record row { first = shift_place from to row.first }
+shift_row from to row = record row { first = shift_coordinate from to row.first }
 
 abbrev pub shifted : {L : Type 0} → List ℕ → List ℕ → List (Row L) → List (Row L)
 shifted from to rows = map (shift_row from to) rows
@@ -40,7 +40,7 @@ abbrev pub or_else : {L : Type 0} → Option (Row L) → Row L → Option (Row L
 or_else (Some found) row = Some found
 or_else None row = Some row
 
--- the last of the rows that come before a place, where the rows are in order
+-- the last of the rows that come before a coordinate, where the rows are in order
 abbrev pub last_before : {L : Type 0} → List ℕ → List (Row L) → Option (Row L)
 last_before at [] = None
 last_before at (row ∷ rows) = if comes_before row.first at then or_else (last_before at rows) row else None

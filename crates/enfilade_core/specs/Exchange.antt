@@ -5,17 +5,17 @@ use Rattle.tumbler.specs.Places.{IsTumbler, comes_before, sum}
 use Rattle.enfilade_core.specs.declared.tree.Row.{Row}
 use Rattle.enfilade_core.specs.declared.tree.Branch.{Branch}
 use Rattle.enfilade_core.specs.declared.gap.Gap.{Gap}
-use Rattle.enfilade_core.specs.declared.beside.Beside.{Beside}
-use Rattle.enfilade_core.specs.declared.beside.Beside.TheVariants.{Before, Within, Past, Across}
+use Rattle.enfilade_core.specs.declared.compare_gap.Beside.{Beside}
+use Rattle.enfilade_core.specs.declared.compare_gap.Beside.TheVariants.{Before, Within, Past, Across}
 use Rattle.enfilade_core.specs.declared.exchange.Whole.{Whole}
 use Rattle.enfilade_core.specs.declared.exchange.Whole.TheVariants.{Left, Parts}
 use Rattle.enfilade_core.specs.Rows.{Shape, Rows, Branches, moved, branch_rows, rows_in, rows_table, rows_of}
-use Rattle.enfilade_core.specs.Axes.{Widths, first_axis, second_axis, IsRightRow}
-use Rattle.enfilade_core.specs.Right.{NamesBelow, origins_table, IsRight, IsRightPart}
+use Rattle.enfilade_core.specs.Axes.{Widths, first_axis, second_axis, IsWellFormedRow}
+use Rattle.enfilade_core.specs.WellFormed.{NamesBelow, origins_table, IsWellFormed, IsWellFormedPart}
 use Rattle.enfilade_core.specs.Summary.{summary_in, summaries, height_of}
 use Rattle.enfilade_core.specs.Edits.{is_within, taken_out, shifted}
 
--- the rows that come before a place, and the others
+-- the rows that come before a coordinate, and the others
 abbrev pub rows_before : {L : Type 0} → List ℕ → List (Row L) → List (Row L)
 rows_before at rows = filter (λ row. comes_before row.first at) rows
 
@@ -35,11 +35,11 @@ pub record Grows {L : Type 0} (old new : List (Shape L)) : Type 0 where
 -- ---- how nodes are taken apart and made anew; only functions that copy paths cite these
 
 -- a node seen from a base: all that is below it fits there
-pub record IsRightAt {L : Type 0} (w : Widths L) (nodes : List (Shape L)) (k : ℕ) (a b : List ℕ) : Type 0 where
+pub record IsWellFormedAt {L : Type 0} (w : Widths L) (nodes : List (Shape L)) (k : ℕ) (a b : List ℕ) : Type 0 where
   pub below : k < length nodes
   pub first_origins : All IsTumbler (map (sum a) (slice_index_or (origins_table (first_axis w) nodes) k []))
   pub second_origins : All IsTumbler (map (sum b) (slice_index_or (origins_table (second_axis w) nodes) k []))
-  pub rows : All (IsRightRow w) (map (moved a b) (rows_of nodes k))
+  pub rows : All (IsWellFormedRow w) (map (moved a b) (rows_of nodes k))
 
 -- a branch, moved on both axes
 abbrev pub branch_at : List ℕ → List ℕ → Branch → Branch
@@ -51,32 +51,32 @@ height_in w nodes node = (summary_in w (summaries w nodes) node).height
 
 -- the children of a node, moved to where they stand from a base
 pub record IsOpened {L : Type 0} (w : Widths L) (nodes : List (Shape L)) (k : ℕ) (a b : List ℕ) (node : Shape L) : Type 0 where
-  pub right : IsRight w nodes node
+  pub well_formed : IsWellFormed w nodes node
   pub named : NamesBelow k node
   pub rows : rows_in (rows_table nodes) node ≡ map (moved a b) (rows_of nodes k)
   pub level : height_in w nodes node ≡ height_of w nodes k
 
 -- a new node with these children, seen from their own base
 pub record IsPacked {L : Type 0} (w : Widths L) (old new : List (Shape L)) (node : Shape L) (branch : Branch) : Type 0 where
-  pub part : IsRightPart w new branch
+  pub part : IsWellFormedPart w new branch
   pub rows : branch_rows (rows_table new) branch ≡ rows_in (rows_table old) node
   pub level : height_of w new branch.node.0 ≡ height_in w old node
 
 -- children with these rows, at this height
 pub record HasRows {L : Type 0} (w : Widths L) (nodes : List (Shape L)) (height : ℕ) (rows : List (Row L)) (node : Shape L) : Type 0 where
-  pub right : IsRight w nodes node
+  pub well_formed : IsWellFormed w nodes node
   pub rows_are : rows_in (rows_table nodes) node ≡ rows
   pub level : height_in w nodes node ≡ height
 
 -- a branch with these rows, at this height
 pub record BranchHasRows {L : Type 0} (w : Widths L) (nodes : List (Shape L)) (height : ℕ) (rows : List (Row L)) (branch : Branch) : Type 0 where
-  pub part : IsRightPart w nodes branch
+  pub part : IsWellFormedPart w nodes branch
   pub rows_are : branch_rows (rows_table nodes) branch ≡ rows
   pub level : height_of w nodes branch.node.0 ≡ height
 
 -- branches with these rows, all at this height
 pub record BranchesHaveRows {L : Type 0} (w : Widths L) (nodes : List (Shape L)) (height : ℕ) (rows : List (Row L)) (branches : List Branch) : Type 0 where
-  pub parts : All (IsRightPart w nodes) branches
+  pub parts : All (IsWellFormedPart w nodes) branches
   pub rows_are : rows_in (rows_table nodes) (Branches branches) ≡ rows
   pub level : All (λ branch. height_of w nodes branch.node.0 ≡ height) branches
 
@@ -92,7 +92,7 @@ IsBeside gap rows Within = All (λ row. is_within gap.from gap.to row ≡ true) 
 IsBeside gap rows Past = All (λ row. comes_before row.first gap.to ≡ false) rows
 IsBeside gap rows Across = Unit {0}
 
--- a branch that has all rows before a place in it or in front of it, and the others in it or behind it
+-- a branch that has all rows before a coordinate in it or in front of it, and the others in it or behind it
 pub record IsChosen {L : Type 0} (nodes : List (Shape L)) (branches : List Branch) (at : List ℕ) (k : ℕ) : Type 0 where
   pub there : k < length branches
   pub front : All (λ row. comes_before row.first at ≡ true) (rows_in (rows_table nodes) (Branches (take k branches)))
@@ -104,11 +104,11 @@ MayHaveChildren w nodes height rows (Rows own) = HasRows w nodes height rows (Ro
 MayHaveChildren w nodes height rows (Branches []) = rows ≡ []
 MayHaveChildren w nodes height rows (Branches (branch ∷ branches)) = HasRows w nodes height rows (Branches (branch ∷ branches))
 
--- children of a root: right ones, or none
+-- children of a root: well formed ones, or none
 abbrev pub MayBeRoot : {L : Type 0} → Widths L → List (Shape L) → Shape L → Type 0
-MayBeRoot w nodes (Rows rows) = IsRight w nodes (Rows rows)
+MayBeRoot w nodes (Rows rows) = IsWellFormed w nodes (Rows rows)
 MayBeRoot w nodes (Branches []) = Unit {0}
-MayBeRoot w nodes (Branches (branch ∷ branches)) = IsRight w nodes (Branches (branch ∷ branches))
+MayBeRoot w nodes (Branches (branch ∷ branches)) = IsWellFormed w nodes (Branches (branch ∷ branches))
 
 -- a branch, or none, as a list
 abbrev pub branches_if : Option Branch → List Branch

@@ -9,15 +9,15 @@ abbrev pub Follows : Summary → Summary → Type 0
 Follows s part = (s.leaves ≡ 0) ⊎ ((s.height ≡ part.height) × IsUpTo s.last part.first)
 
 -- where the first of the rows stands on the first axis, and where the last one does
-abbrev pub first_place : {L : Type 0} → List (Row L) → List ℕ
-first_place [] = []
-first_place (row ∷ rows) = row.first
+abbrev pub first_coordinate : {L : Type 0} → List (Row L) → List ℕ
+first_coordinate [] = []
+first_coordinate (row ∷ rows) = row.first
 
-abbrev pub last_place : {L : Type 0} → List (Row L) → List ℕ
-last_place [] = []
-last_place (row ∷ []) = row.first
-last_place (row ∷ next ∷ rows) = last_place (next ∷ rows)
+abbrev pub last_coordinate : {L : Type 0} → List (Row L) → List ℕ
+last_coordinate [] = []
+last_coordinate (row ∷ []) = row.first
+last_coordinate (row ∷ next ∷ rows) = last_coordinate (next ∷ rows)
 
--- a summary with another place for its last row
+-- a summary with another coordinate for its last row
 abbrev pub with_last : List ℕ → Summary → Summary
-with_last place s = record s { last = place }
+with_last coordinate s = record s { last = coordinate }

@@ -1,11 +1,13 @@
 -- The laws of rows: how those of a tree are made of its children's, that added nodes change none, and what an
--- exchange comes to.
-use Rattle.std.specs.Prelude.{◌≡◌, ℕ, ◌<◌, List, ◌++◌, map, length}
+-- exchange comes to. And what the depth of a tree is.
+use Rattle.std.specs.Prelude.{◌≡◌, ℕ, ◌<◌, ◌+◌, List, ◌++◌, map, length, All}
 use Rattle.std.specs.List.{flat_map}
 use Rattle.tumbler.specs.Places.{IsUpTo, sum}
 use Rattle.enfilade_core.specs.declared.tree.Row.{Row}
 use Rattle.enfilade_core.specs.declared.tree.Branch.{Branch}
 use Rattle.enfilade_core.specs.Rows.{Shape, Rows, Branches, moved, rows_of, node_at}
+use Rattle.enfilade_core.specs.Axes.{Widths}
+use Rattle.enfilade_core.specs.Summary.{depth_of}
 use Rattle.enfilade_core.specs.declared.gap.Gap.{Gap}
 use Rattle.enfilade_core.specs.Edits.{KeepsRows, put_before, left_by, shifted}
 use Rattle.enfilade_core.specs.Exchange.{exchanged}
@@ -32,3 +34,8 @@ RowsStay {L} nodes = (more : List (Shape L)) → KeepsRows nodes (nodes ++ more)
 -- behind the gap, and then a splice at its beginning would leave
 abbrev pub ExchangeIsThreeEdits : {L : Type 0} → List (Row L) → Type 0
 ExchangeIsThreeEdits {L} rows = (gap : Gap) (new : List (Row L)) → IsUpTo gap.from gap.to → IsUpTo gap.from gap.onto → exchanged gap new rows ≡ put_before gap.from new (shifted gap.to gap.onto (left_by gap.from gap.to rows))
+
+-- a node with rows is one level deep, and any other node one level deeper than each of its children
+pub record DepthsCountLevels {L : Type 0} (w : Widths L) (nodes : List (Shape L)) : Type 0 where
+  pub bottom : (k : ℕ) (rows : List (Row L)) → k < length nodes → node_at nodes k ≡ Rows rows → depth_of w nodes k ≡ 1
+  pub inner : (k : ℕ) (branches : List Branch) → k < length nodes → node_at nodes k ≡ Branches branches → All (λ branch. depth_of w nodes k ≡ depth_of w nodes branch.node.0 + 1) branches

@@ -1,11 +1,12 @@
 pub mod Rows
 pub mod Axes
 pub mod Summary
-pub mod Standing
-pub mod Right
+pub mod BalanceState
+pub mod WellFormed
+pub mod Reach
 pub mod Edits
 pub mod Plain
-pub mod Held
+pub mod StoredNode
 pub mod Laws
 pub mod Planes
 pub mod PlaneLaws

@@ -4,8 +4,8 @@ use Rattle.tumbler.specs.Places.{IsTumbler, sum, difference}
 use Rattle.enfilade_core.specs.declared.tree.Row.{Row}
 use Rattle.enfilade_core.specs.declared.tree.Branch.{Branch}
 use Rattle.enfilade_core.specs.Rows.{Shape, moved, branch_rows, rows_in, rows_table}
-use Rattle.enfilade_core.specs.Axes.{Widths, first_axis, second_axis, IsRightRow}
-use Rattle.enfilade_core.specs.Right.{origins_in, origins_table, IsRight, IsRightPart}
+use Rattle.enfilade_core.specs.Axes.{Widths, first_axis, second_axis, IsWellFormedRow}
+use Rattle.enfilade_core.specs.WellFormed.{origins_in, origins_table, IsWellFormed, IsWellFormedPart}
 use Rattle.enfilade_core.specs.Summary.{height_of}
 use Rattle.enfilade_core.specs.Exchange.{height_in}
 
@@ -18,14 +18,14 @@ branch_back a b branch = record branch { first = difference branch.first a; seco
 
 -- children that a new node may have whose origin stands at these places
 pub record MayStandAt {L : Type 0} (w : Widths L) (nodes : List (Shape L)) (node : Shape L) (a b : List ℕ) : Type 0 where
-  pub right : IsRight w nodes node
+  pub well_formed : IsWellFormed w nodes node
   pub filled : rows_in (rows_table nodes) node ≢ []
   pub first_origins : All IsTumbler (a ∷ map (sum a) (origins_in (first_axis w) (origins_table (first_axis w) nodes) node))
   pub second_origins : All IsTumbler (b ∷ map (sum b) (origins_in (second_axis w) (origins_table (second_axis w) nodes) node))
-  pub rows : All (IsRightRow w) (map (moved a b) (rows_in (rows_table nodes) node))
+  pub rows : All (IsWellFormedRow w) (map (moved a b) (rows_in (rows_table nodes) node))
 
 -- a branch to a new node with these children, whose origin stands at these places
 pub record IsPlaced {L : Type 0} (w : Widths L) (old new : List (Shape L)) (node : Shape L) (a b : List ℕ) (branch : Branch) : Type 0 where
-  pub part : IsRightPart w new branch
+  pub part : IsWellFormedPart w new branch
   pub rows : branch_rows (rows_table new) branch ≡ map (moved a b) (rows_in (rows_table old) node)
   pub level : height_of w new branch.node.0 ≡ height_in w old node

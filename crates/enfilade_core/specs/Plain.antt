@@ -1,7 +1,7 @@
 -- Children as a contract sees them, without what their lists keep in reserve.
 use Rattle.std.specs.Prelude.{ℕ, map, length}
 use Rattle.enfilade_core.specs.declared.tree.Row.{Row}
-use Rattle.enfilade_core.specs.declared.found.RowAt.{RowAt}
+use Rattle.enfilade_core.specs.declared.find_before.RowAt.{RowAt}
 use Rattle.enfilade_core.specs.declared.tree.Children.{Children}
 use Rattle.enfilade_core.specs.declared.tree.Children.TheVariants.{Bottom, Inner}
 use Rattle.enfilade_core.specs.Rows.{Shape, Rows, Branches}

@@ -4,7 +4,7 @@ use Rattle.tumbler.specs.ListView.{ListView}
 use Rattle.tumbler.specs.Places.{place_bound, width_at}
 use Rattle.enfilade_core.specs.Axes.{Widths}
 
--- a number that is a place, or 0 where it is too great for one
+-- a number that is a coordinate, or 0 where it is too great for one
 abbrev pub as_place : ℕ → ℕ
 as_place n = if nat_lt n place_bound then n else 0
 

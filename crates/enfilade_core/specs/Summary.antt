@@ -1,10 +1,8 @@
 -- What is kept of a node beside its children, so that no call walks a whole tree.
 use Rattle.std.specs.Prelude.{ℕ, ◌+◌, ◌==◌, min, if◌then◌else◌, List, [], map, fold, slice_index_or}
 use Rattle.tumbler.specs.Places.{sum}
-use Rattle.tumbler.specs.Reach.{lead, greater}
 use Rattle.enfilade_core.specs.declared.tree.Row.{Row}
 use Rattle.enfilade_core.specs.declared.tree.Branch.{Branch}
-use Rattle.enfilade_core.specs.declared.summary.Along.{Along}
 use Rattle.enfilade_core.specs.declared.summary.Summary.{Summary}
 use Rattle.enfilade_core.specs.Rows.{Shape, Rows, Branches, table}
 use Rattle.enfilade_core.specs.Axes.{Widths, later}
@@ -13,26 +11,10 @@ use Rattle.enfilade_core.specs.Axes.{Widths, later}
 abbrev pub most_count : ℕ
 most_count = 18446744073709551615
 
--- ---- along one axis
-
--- a row's end, and the reach of its place and its end
-abbrev pub along_row : List ℕ → List ℕ → Along
-along_row place width = record { extent = sum place width; reach = greater (lead place) (lead (sum place width)) }
-
--- all moved by d, with d itself among the places that have to fit
-abbrev pub along_moved : List ℕ → Along → Along
-along_moved d along = record { extent = sum d along.extent; reach = sum along.reach (lead d) }
-
-abbrev pub no_along : Along
-no_along = record { extent = []; reach = [] }
-
-abbrev pub along_joined : Along → Along → Along
-along_joined a b = record { extent = later a.extent b.extent; reach = greater a.reach b.reach }
-
 -- ---- of a row, a branch and a list of children
 
 abbrev pub no_summary : Summary
-no_summary = record { height = 0; leaves = 0; first = []; last = []; along_first = no_along; along_second = no_along }
+no_summary = record { height = 0; leaves = 0; first = []; last = []; first_extent = []; second_extent = [] }
 
 -- of a row that stands at these places and is this wide
 abbrev pub placed_summary : List ℕ → List ℕ → List ℕ → List ℕ → Summary
@@ -41,8 +23,8 @@ placed_summary first first_width second second_width = record {
   leaves = 1;
   first = first;
   last = first;
-  along_first = along_row first first_width;
-  along_second = along_row second second_width;
+  first_extent = sum first first_width;
+  second_extent = sum second second_width;
 }
 
 abbrev pub row_summary : {L : Type 0} → Widths L → Row L → Summary
@@ -55,8 +37,8 @@ summary_moved a b s = record {
   leaves = s.leaves;
   first = sum a s.first;
   last = sum a s.last;
-  along_first = along_moved a s.along_first;
-  along_second = along_moved b s.along_second;
+  first_extent = sum a s.first_extent;
+  second_extent = sum b s.second_extent;
 }
 
 -- of two neighbours, of which the first may be nothing
@@ -66,8 +48,8 @@ summary_joined a b = record {
   leaves = a.leaves + b.leaves;
   first = (if a.leaves == 0 then b.first else a.first);
   last = b.last;
-  along_first = along_joined a.along_first b.along_first;
-  along_second = along_joined a.along_second b.along_second;
+  first_extent = later a.first_extent b.first_extent;
+  second_extent = later a.second_extent b.second_extent;
 }
 
 abbrev pub branch_summary : List Summary → Branch → Summary

@@ -1,16 +1,16 @@
 //! Arenas: nodes that never change, the later ones made of earlier ones.
 ghost use Rattle.std.specs.Prelude.{◌≡◌, ◌≢◌, ℕ, ◌+◌, ◌^◌, ◌<◌, ◌≤◌, ◌↔◌, min, List as ListOf, [], ◌∷◌, ◌++◌, length, take, map, All, IsTrue, IfOk, IfSome, IfNone, OnOk, OnErr};
 ghost use Rattle.enfilade_core.specs.Rows.{Shape, Rows, rows_of, node_at, IsBottom};
-ghost use Rattle.enfilade_core.specs.Right.{IsRight, AreRight};
+ghost use Rattle.enfilade_core.specs.WellFormed.{IsWellFormed, AreWellFormed};
 ghost use Rattle.enfilade_core.specs.Plain.{shape, plain_row};
 ghost use Rattle.enfilade_core.specs.Summary.{summary_of, kept};
-ghost use Rattle.enfilade_core.specs.Standing.{standing_of, kept_standing};
+ghost use Rattle.enfilade_core.specs.BalanceState.{balance_state_of, kept_balance_state};
 ghost use Rattle.enfilade_core.specs.Edits.{KeepsRows};
 
+use crate::balance_state::BalanceState;
 use crate::exchange::append_copies;
-use crate::held::Held;
 use crate::plane::Plane;
-use crate::standing::Standing;
+use crate::stored_node::StoredNode;
 use crate::summary::Summary;
 use crate::tree::{Children, Node};
 use std::alloc::Global;
@@ -23,7 +23,7 @@ use tumbler::{List, Memory};
 /// equally deep, and trees may share nodes. A tree is named by its root, whose origin is zero.
 #[derive(Drop)]
 pub struct Arena<P: Plane> {
-    nodes: List<Held<P::Leaf>>,
+    nodes: List<StoredNode<P::Leaf>>,
     alloc: Global,
     plane: PhantomData<P>,
 }
@@ -31,7 +31,7 @@ pub struct Arena<P: Plane> {
 impl<P: Plane> Model for Arena<P> {
     ghost use Rattle.std.specs.Prelude.{List as ListOf};
     ghost use Rattle.enfilade_core.specs.Rows.{Shape};
-    ghost use Rattle.enfilade_core.specs.Held.{held_shapes, IsArena};
+    ghost use Rattle.enfilade_core.specs.StoredNode.{held_shapes, IsArena};
 
     ghost Value = { ListOf (Shape P.Leaf) };
 
@@ -109,7 +109,7 @@ impl<P: Plane> Arena<P> {
 
     /// Where memory comes from.
     pub fn allocator(&self) -> Global
-        ensures right { AreRight P.widths self.now }
+        ensures well_formed { AreWellFormed P.widths self.now }
         ensures few { length self.now < 2 ^ 64 }
     {
         let _count = self.nodes.len();
@@ -120,7 +120,7 @@ impl<P: Plane> Arena<P> {
     pub(crate) fn summary(&self, node: Node) -> &Summary
         requires { node.0 < length self.now }
         ensures told { result.now ≡ kept (summary_of P.widths self.now node.0) }
-        ensures right { AreRight P.widths self.now }
+        ensures well_formed { AreWellFormed P.widths self.now }
         ensures few { length self.now < 2 ^ 64 }
     {
         let _count = self.nodes.len();
@@ -128,27 +128,27 @@ impl<P: Plane> Arena<P> {
     }
 
     /// What is kept of the shape of the tree below a node. It takes no memory.
-    pub fn standing(&self, node: Node) -> Standing
+    pub fn balance_state(&self, node: Node) -> BalanceState
         requires { node.0 < length self.now }
-        ensures { result ≡ kept_standing (standing_of self.now node.0) }
+        ensures { result ≡ kept_balance_state (balance_state_of self.now node.0) }
     {
-        self.nodes.as_slice()[node.0 as usize].standing
+        self.nodes.as_slice()[node.0 as usize].balance_state
     }
 
     /// Adds a node with these children, which is the last one then.
     pub fn add_node(&mut self, children: Children<P::Leaf>) -> Result<Node, Memory>
-        requires { IsRight P.widths self.old (shape P.plain children) }
+        requires { IsWellFormed P.widths self.old (shape P.plain children) }
         ensures made { IfOk result (λ node. node.0 ≡ length self.old) }
         ensures ok { OnOk result (self.new ≡ self.old ++ shape P.plain children ∷ []) }
         ensures err { OnErr result (self.new ≡ self.old) }
     {
         let summary = self.children_told(&children);
-        let standing = self.children_standing(&children);
+        let balance_state = self.children_balance_state(&children);
         let node = Node(self.count());
-        self.nodes.push(Held {
+        self.nodes.push(StoredNode {
             children,
             summary,
-            standing,
+            balance_state,
         })?;
         Ok(node)
     }
@@ -167,10 +167,10 @@ impl<P: Plane> Arena<P> {
         rows.reserve(held.len())?;
         append_copies::<P>(self.alloc, held, &mut rows)?;
         let made = Node(self.count());
-        self.nodes.push(Held {
+        self.nodes.push(StoredNode {
             children: Children::Bottom(rows),
             summary: other.summary(node).copy(),
-            standing: other.standing(node),
+            balance_state: other.balance_state(node),
         })?;
         Ok(made)
     }

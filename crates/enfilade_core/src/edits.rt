@@ -2,7 +2,7 @@
 ghost use Rattle.std.specs.Prelude.{◌≡◌, ◌≢◌, ◌<◌, [], map, length, All, IfOk};
 ghost use Rattle.tumbler.specs.Places.{IsUpTo};
 ghost use Rattle.enfilade_core.specs.Rows.{rows_in, rows_table, rows_of};
-ghost use Rattle.enfilade_core.specs.Axes.{IsRightRow, IsRightRows, InOrder};
+ghost use Rattle.enfilade_core.specs.Axes.{IsWellFormedRow, IsWellFormedRows, InOrder};
 ghost use Rattle.enfilade_core.specs.Plain.{shape, plain_row};
 ghost use Rattle.enfilade_core.specs.Edits.{put_before, left_by, taken_out, shifted, KeepsRows};
 ghost use Rattle.enfilade_core.specs.Summary.{height_of, depth_of};
@@ -50,7 +50,7 @@ impl<P: Plane> Arena<P> {
     ) -> Result<Exchanged<P::Leaf>, Memory>
         requires below { root.0 < length self.old }
         requires up_to { IsUpTo gap.now.from gap.now.to }
-        requires right { IsRightRows P.widths (exchanged gap.now (map (plain_row P.plain) rows.now.items) (rows_of self.old root.0)) }
+        requires well_formed { IsWellFormedRows P.widths (exchanged gap.now (map (plain_row P.plain) rows.now.items) (rows_of self.old root.0)) }
         ensures kept { KeepsRows self.old self.new }
         ensures grows { Grows self.old self.new }
         ensures below { IfOk result (λ made. made.root.0 < length self.new) }
@@ -64,7 +64,7 @@ impl<P: Plane> Arena<P> {
         Ok(Exchanged { root, out })
     }
 
-    /// Puts rows in before the first one that stands at or past a place.
+    /// Puts rows in before the first one that stands at or past a coordinate.
     pub fn splice(
         &mut self,
         root: Node,
@@ -72,7 +72,7 @@ impl<P: Plane> Arena<P> {
         rows: &List<Row<P::Leaf>>,
     ) -> Result<Node, Memory>
         requires below { root.0 < length self.old }
-        requires right { All (IsRightRow P.widths) (map (plain_row P.plain) rows.now.items) }
+        requires well_formed { All (IsWellFormedRow P.widths) (map (plain_row P.plain) rows.now.items) }
         requires ordered { InOrder (put_before at.now (map (plain_row P.plain) rows.now.items) (rows_of self.old root.0)) }
         ensures kept { KeepsRows self.old self.new }
         ensures grows { Grows self.old self.new }
@@ -80,7 +80,7 @@ impl<P: Plane> Arena<P> {
         ensures rows { IfOk result (λ made. rows_of self.new made.0 ≡ put_before at.now (map (plain_row P.plain) rows.now.items) (rows_of self.old root.0)) }
         ensures level { IfOk result (λ made. rows_of self.new made.0 ≢ [] → depth_of P.widths self.new made.0 ≡ depth_of P.widths self.old root.0) }
     {
-        let _right = self.allocator();
+        let _well_formed = self.allocator();
         let gap = Gap {
             from: at.copy(),
             to: at.copy(),
@@ -122,7 +122,7 @@ impl<P: Plane> Arena<P> {
     /// Moves each row that stands at or past `from`: it comes to stand as far from `to` as it was from `from`.
     pub fn shift(&mut self, root: Node, from: &Tumbler, to: &Tumbler) -> Result<Node, Memory>
         requires below { root.0 < length self.old }
-        requires right { IsRightRows P.widths (shifted from.now to.now (rows_of self.old root.0)) }
+        requires well_formed { IsWellFormedRows P.widths (shifted from.now to.now (rows_of self.old root.0)) }
         ensures kept { KeepsRows self.old self.new }
         ensures grows { Grows self.old self.new }
         ensures below { IfOk result (λ made. made.0 < length self.new) }

@@ -3,19 +3,19 @@ ghost use Rattle.std.specs.Prelude.{ℕ, List as ListOf, ◌≡◌, ◌≢◌, �
 ghost use Rattle.tumbler.specs.Places.{IsUpTo, IsTumbler, comes_before};
 ghost use Rattle.enfilade_core.specs.Rows.{Rows, Branches, moved, branch_rows, rows_in, rows_table, rows_of, node_at, IsInner, IsBottom, branches_under};
 ghost use Rattle.enfilade_core.specs.Touched.{branches_at, with_middle, LiesWithin};
-ghost use Rattle.enfilade_core.specs.Axes.{IsRightRow, IsRightRows, InOrder};
-ghost use Rattle.enfilade_core.specs.Right.{IsRight, IsRightPart, NamesBelow};
+ghost use Rattle.enfilade_core.specs.Axes.{IsWellFormedRow, IsWellFormedRows, InOrder};
+ghost use Rattle.enfilade_core.specs.WellFormed.{IsWellFormed, IsWellFormedPart, NamesBelow};
 ghost use Rattle.enfilade_core.specs.Summary.{height_of};
 ghost use Rattle.enfilade_core.specs.Plain.{shape, plain_row};
-ghost use Rattle.enfilade_core.specs.Following.{first_place};
-ghost use Rattle.enfilade_core.specs.Edits.{taken_out, shift_place, shift_row, shifted, is_within, KeepsRows};
-ghost use Rattle.enfilade_core.specs.Exchange.{exchanged, rows_before, rows_past, IsRightAt, height_in, Grows, HasRows, BranchesHaveRows, MayHaveRows, MayHaveChildren, BranchHasRows, IsBeside, IsChosen, branches_if, IsWhole, LevelRows, AppendsRows};
+ghost use Rattle.enfilade_core.specs.Following.{first_coordinate};
+ghost use Rattle.enfilade_core.specs.Edits.{taken_out, shift_coordinate, shift_row, shifted, is_within, KeepsRows};
+ghost use Rattle.enfilade_core.specs.Exchange.{exchanged, rows_before, rows_past, IsWellFormedAt, height_in, Grows, HasRows, BranchesHaveRows, MayHaveRows, MayHaveChildren, BranchHasRows, IsBeside, IsChosen, branches_if, IsWhole, LevelRows, AppendsRows};
 
 use crate::arena::Arena;
-use crate::around::Touched;
-use crate::beside::Beside;
+use crate::compare_gap::Beside;
 use crate::gap::Gap;
 use crate::plane::Plane;
+use crate::rebuild_node::Touched;
 use crate::tree::{Branch, Children, Node, Row};
 use std::alloc::Global;
 use tumbler::{List, Memory, Tumbler};
@@ -29,7 +29,7 @@ enum Whole {
     Parts,
 }
 
-/// How many rows come before a place.
+/// How many rows come before a coordinate.
 pub(crate) fn count_before<L>(rows: &[Row<L>], at: &Tumbler) -> usize
     requires { InOrder rows.now }
     ensures { result ≡ length (rows_before at.now rows.now) }
@@ -62,7 +62,7 @@ fn row_shifted<P: Plane>(
     gap: &Gap,
 ) -> Result<Row<P::Leaf>, Memory>
     requires past { comes_before row.now.first gap.now.to ≡ false }
-    requires right { IsTumbler (shift_place gap.now.to gap.now.onto row.now.first) }
+    requires well_formed { IsTumbler (shift_coordinate gap.now.to gap.now.onto row.now.first) }
     ensures { IfOk result (λ made. plain_row P.plain made ≡ shift_row gap.now.to gap.now.onto (plain_row P.plain row.now)) }
 {
     let distance = row.first.minus(&gap.to);
@@ -81,7 +81,7 @@ fn append_shifted<P: Plane>(
     into: &mut List<Row<P::Leaf>>,
 ) -> Result<(), Memory>
     requires past { All (λ row. comes_before row.first gap.now.to ≡ false) (map (plain_row P.plain) rows.now) }
-    requires right { All (IsRightRow P.widths) (shifted gap.now.to gap.now.onto (map (plain_row P.plain) rows.now)) }
+    requires well_formed { All (IsWellFormedRow P.widths) (shifted gap.now.to gap.now.onto (map (plain_row P.plain) rows.now)) }
     ensures { OnOk result (map (plain_row P.plain) into.new.items ≡ map (plain_row P.plain) into.old.items ++ shifted gap.now.to gap.now.onto (map (plain_row P.plain) rows.now)) }
 {
     for row in rows {
@@ -99,8 +99,8 @@ pub(crate) fn rows_exchanged<P: Plane>(
     out: &mut List<Row<P::Leaf>>,
 ) -> Result<List<Row<P::Leaf>>, Memory>
     requires up_to { IsUpTo gap.now.from gap.now.to }
-    requires old_right { IsRightRows P.widths (map (plain_row P.plain) old.now) }
-    requires right { All (IsRightRow P.widths) (exchanged gap.now (map (plain_row P.plain) rows.now) (map (plain_row P.plain) old.now)) }
+    requires old_well_formed { IsWellFormedRows P.widths (map (plain_row P.plain) old.now) }
+    requires well_formed { All (IsWellFormedRow P.widths) (exchanged gap.now (map (plain_row P.plain) rows.now) (map (plain_row P.plain) old.now)) }
     ensures rows { IfOk result (λ made. map (plain_row P.plain) made.items ≡ exchanged gap.now (map (plain_row P.plain) rows.now) (map (plain_row P.plain) old.now)) }
     ensures out { OnOk result (map (plain_row P.plain) out.new.items ≡ map (plain_row P.plain) out.old.items ++ taken_out gap.now.from gap.now.to (map (plain_row P.plain) old.now)) }
 {
@@ -122,9 +122,7 @@ fn branches_copied(alloc: Global, branches: &[Branch], room: usize) -> Result<Li
 {
     let mut made = List::new(alloc);
     made.reserve(room)?;
-    for branch in branches {
-        made.push(branch.copy())?;
-    }
+    made.extend_from_slice(branches)?;
     Ok(made)
 }
 
@@ -139,14 +137,59 @@ fn append_branch(branch: Option<Branch>, into: &mut List<Branch>) -> Result<(), 
 }
 
 impl<P: Plane> Arena<P> {
-    /// The last branch that has a row before a place, or the first one: new rows go in there.
+    /// The last branch that has a row before a coordinate, or the first one: new rows go in there.
+    ///
+    /// It is mostly the last one whose origin comes before the coordinate, so that one node is looked at.
     pub(crate) fn chosen(&self, branches: &[Branch], at: &Tumbler) -> usize
-        requires right { IsRight P.widths self.now (Branches branches.now) }
+        requires well_formed { IsWellFormed P.widths self.now (Branches branches.now) }
         ensures is { IsChosen self.now branches.now at.now result }
-        ensures here { (result ≡ 0) ⊎ (comes_before (first_place (rows_in (rows_table self.now) (Branches (drop result branches.now)))) at.now ≡ true) }
+        ensures here { (result ≡ 0) ⊎ (comes_before (first_coordinate (rows_in (rows_table self.now) (Branches (drop result branches.now)))) at.now ≡ true) }
+    {
+        let end = self.none_from(branches, at);
+        let last = end - 1;
+        if last == 0 {
+            return 0;
+        }
+        if self.starts_before(&branches[last], at) {
+            return last;
+        }
+        self.chosen_in_front(branches, last, at)
+    }
+
+    /// A number from which on no row comes before a coordinate, told by the branches' origins alone: no row of a
+    /// branch comes before its origin. The origins need not be in order, so an earlier number may do too.
+    fn none_from(&self, branches: &[Branch], at: &Tumbler) -> usize
+        requires well_formed { IsWellFormed P.widths self.now (Branches branches.now) }
+        ensures some { 0 < result }
+        ensures short { result ≤ length branches.now }
+        ensures back { All (λ row. comes_before row.first at.now ≡ false) (rows_in (rows_table self.now) (Branches (drop result branches.now))) }
+    {
+        let _well_formed = self.allocator();
+        let mut near = 0;
+        let mut far = branches.len();
+        while near + 1 < far {
+            let middle = near + (far - near) / 2;
+            if branches[middle].first.is_before(at) {
+                near = middle;
+            } else {
+                far = middle;
+            }
+        }
+        far
+    }
+
+    /// The branch that `chosen` finds, in front of a number from which on no row comes before the coordinate. It
+    /// looks at nodes of branches, where `none_from` does not.
+    fn chosen_in_front(&self, branches: &[Branch], end: usize, at: &Tumbler) -> usize
+        requires well_formed { IsWellFormed P.widths self.now (Branches branches.now) }
+        requires some { 0 < end }
+        requires short { end ≤ length branches.now }
+        requires back { All (λ row. comes_before row.first at.now ≡ false) (rows_in (rows_table self.now) (Branches (drop end branches.now))) }
+        ensures is { IsChosen self.now branches.now at.now result }
+        ensures here { (result ≡ 0) ⊎ (comes_before (first_coordinate (rows_in (rows_table self.now) (Branches (drop result branches.now)))) at.now ≡ true) }
     {
         let mut low = 0;
-        let mut high = branches.len();
+        let mut high = end;
         while low + 1 < high {
             let middle = low + (high - low) / 2;
             if self.starts_before(&branches[middle], at) {
@@ -166,8 +209,8 @@ impl<P: Plane> Arena<P> {
         out: &mut List<Row<P::Leaf>>,
     ) -> Result<Whole, Memory>
         requires up_to { IsUpTo gap.now.from gap.now.to }
-        requires part { IsRightPart P.widths self.now branch.now }
-        requires right { IsRightRows P.widths (exchanged gap.now [] (branch_rows (rows_table self.now) branch.now)) }
+        requires part { IsWellFormedPart P.widths self.now branch.now }
+        requires well_formed { IsWellFormedRows P.widths (exchanged gap.now [] (branch_rows (rows_table self.now) branch.now)) }
         ensures { IfOk result (IsWhole P.widths self.now branch.now gap.now (map (plain_row P.plain) out.old.items) (map (plain_row P.plain) out.new.items)) }
     {
         match self.beside(branch, gap) {
@@ -194,8 +237,8 @@ impl<P: Plane> Arena<P> {
         out: &mut List<Row<P::Leaf>>,
     ) -> Result<Option<Branch>, Memory>
         requires up_to { IsUpTo gap.now.from gap.now.to }
-        requires part { IsRightPart P.widths self.old branch.now }
-        requires right { IsRightRows P.widths (exchanged gap.now (map (plain_row P.plain) rows.now) (branch_rows (rows_table self.old) branch.now)) }
+        requires part { IsWellFormedPart P.widths self.old branch.now }
+        requires well_formed { IsWellFormedRows P.widths (exchanged gap.now (map (plain_row P.plain) rows.now) (branch_rows (rows_table self.old) branch.now)) }
         ensures grows { Grows self.old self.new }
         ensures rows { IfOk result (MayHaveRows P.widths self.new (height_of P.widths self.old branch.now.node.0) (exchanged gap.now (map (plain_row P.plain) rows.now) (branch_rows (rows_table self.old) branch.now))) }
         ensures out { OnOk result (map (plain_row P.plain) out.new.items ≡ map (plain_row P.plain) out.old.items ++ taken_out gap.now.from gap.now.to (branch_rows (rows_table self.old) branch.now)) }
@@ -220,8 +263,8 @@ impl<P: Plane> Arena<P> {
         out: &mut List<Row<P::Leaf>>,
     ) -> Result<Option<Branch>, Memory>
         requires up_to { IsUpTo gap.now.from gap.now.to }
-        requires part { IsRightPart P.widths self.old branch.now }
-        requires right { IsRightRows P.widths (exchanged gap.now (map (plain_row P.plain) rows.now) (branch_rows (rows_table self.old) branch.now)) }
+        requires part { IsWellFormedPart P.widths self.old branch.now }
+        requires well_formed { IsWellFormedRows P.widths (exchanged gap.now (map (plain_row P.plain) rows.now) (branch_rows (rows_table self.old) branch.now)) }
         ensures grows { Grows self.old self.new }
         ensures rows { IfOk result (MayHaveRows P.widths self.new (height_of P.widths self.old branch.now.node.0) (exchanged gap.now (map (plain_row P.plain) rows.now) (branch_rows (rows_table self.old) branch.now))) }
         ensures out { OnOk result (map (plain_row P.plain) out.new.items ≡ map (plain_row P.plain) out.old.items ++ taken_out gap.now.from gap.now.to (branch_rows (rows_table self.old) branch.now)) }
@@ -252,9 +295,9 @@ impl<P: Plane> Arena<P> {
     ) -> Result<(), Memory>
         requires up_to { IsUpTo gap.now.from gap.now.to }
         requires named { All (λ branch. branch.node.0 < below.0) branches.now }
-        requires parts { All (IsRightPart P.widths self.old) branches.now }
+        requires parts { All (IsWellFormedPart P.widths self.old) branches.now }
         requires past { All (λ row. comes_before row.first gap.now.from ≡ false) (rows_in (rows_table self.old) (Branches branches.now)) }
-        requires right { IsRightRows P.widths (exchanged gap.now [] (rows_in (rows_table self.old) (Branches branches.now))) }
+        requires well_formed { IsWellFormedRows P.widths (exchanged gap.now [] (rows_in (rows_table self.old) (Branches branches.now))) }
         ensures grows { Grows self.old self.new }
         ensures rows { OnOk result (AppendsRows P.widths self.old self.new branches.now (exchanged gap.now [] (rows_in (rows_table self.old) (Branches branches.now))) made.old.items made.new.items) }
         ensures out { OnOk result (map (plain_row P.plain) out.new.items ≡ map (plain_row P.plain) out.old.items ++ taken_out gap.now.from gap.now.to (rows_in (rows_table self.old) (Branches branches.now))) }
@@ -279,8 +322,8 @@ impl<P: Plane> Arena<P> {
     ) -> Result<List<Branch>, Memory>
         requires up_to { IsUpTo gap.now.from gap.now.to }
         requires named { All (λ branch. branch.node.0 < below.0) branches.now }
-        requires node { IsRight P.widths self.old (Branches branches.now) }
-        requires right { IsRightRows P.widths (exchanged gap.now (map (plain_row P.plain) rows.now) (rows_in (rows_table self.old) (Branches branches.now))) }
+        requires node { IsWellFormed P.widths self.old (Branches branches.now) }
+        requires well_formed { IsWellFormedRows P.widths (exchanged gap.now (map (plain_row P.plain) rows.now) (rows_in (rows_table self.old) (Branches branches.now))) }
         ensures grows { Grows self.old self.new }
         ensures rows { IfOk result (λ made. LevelRows P.widths self.old self.new branches.now (exchanged gap.now (map (plain_row P.plain) rows.now) (rows_in (rows_table self.old) (Branches branches.now))) made.items) }
         ensures out { OnOk result (map (plain_row P.plain) out.new.items ≡ map (plain_row P.plain) out.old.items ++ taken_out gap.now.from gap.now.to (rows_in (rows_table self.old) (Branches branches.now))) }
@@ -308,22 +351,29 @@ impl<P: Plane> Arena<P> {
         out: &mut List<Row<P::Leaf>>,
     ) -> Result<Touched, Memory>
         requires up_to { IsUpTo gap.now.from gap.now.to }
-        requires at { IsRightAt P.widths self.old node.0 first.now second.now }
+        requires at { IsWellFormedAt P.widths self.old node.0 first.now second.now }
         requires inner { IsInner (node_at self.old node.0) }
-        requires right { IsRightRows P.widths (exchanged gap.now (map (plain_row P.plain) rows.now) (map (moved first.now second.now) (rows_of self.old node.0))) }
+        requires well_formed { IsWellFormedRows P.widths (exchanged gap.now (map (plain_row P.plain) rows.now) (map (moved first.now second.now) (rows_of self.old node.0))) }
         ensures grows { Grows self.old self.new }
         ensures same { node_at self.new node.0 ≡ node_at self.old node.0 }
-        ensures within { IfOk result (λ made. LiesWithin (branches_under (node_at self.old node.0)) made) }
-        ensures rows { IfOk result (λ made. MayHaveChildren P.widths self.new (height_of P.widths self.old node.0) (exchanged gap.now (map (plain_row P.plain) rows.now) (map (moved first.now second.now) (rows_of self.old node.0))) (Branches (with_middle (branches_at first.now second.now (branches_under (node_at self.old node.0))) made))) }
+        ensures within { IfOk result (λ made. LiesWithin first.now second.now (branches_under (node_at self.old node.0)) made) }
+        ensures rows { IfOk result (λ made. MayHaveChildren P.widths self.new (height_of P.widths self.old node.0) (exchanged gap.now (map (plain_row P.plain) rows.now) (map (moved first.now second.now) (rows_of self.old node.0))) (Branches (with_middle first.now second.now (branches_at first.now second.now (branches_under (node_at self.old node.0))) made))) }
         ensures out { OnOk result (map (plain_row P.plain) out.new.items ≡ map (plain_row P.plain) out.old.items ++ taken_out gap.now.from gap.now.to (map (moved first.now second.now) (rows_of self.old node.0))) }
     {
-        let _right = self.allocator();
+        let _well_formed = self.allocator();
         let touched = self.touched(node, first, second, gap)?;
-        let branches = self.branches_exchanged(node, touched.branches.as_slice(), gap, rows, out)?;
+        let Touched {
+            front,
+            behind,
+            branches: middle,
+            rest,
+        } = touched;
+        let branches = self.branches_exchanged(node, middle.as_slice(), gap, rows, out)?;
         Ok(Touched {
-            front: touched.front,
-            behind: touched.behind,
+            front,
+            behind,
             branches,
+            rest,
         })
     }
 
@@ -337,7 +387,7 @@ impl<P: Plane> Arena<P> {
     ) -> Result<Children<P::Leaf>, Memory>
         requires below { root.0 < length self.old }
         requires up_to { IsUpTo gap.now.from gap.now.to }
-        requires right { IsRightRows P.widths (exchanged gap.now (map (plain_row P.plain) rows.now) (rows_of self.old root.0)) }
+        requires well_formed { IsWellFormedRows P.widths (exchanged gap.now (map (plain_row P.plain) rows.now) (rows_of self.old root.0)) }
         ensures grows { Grows self.old self.new }
         ensures rows { IfOk result (λ made. MayHaveChildren P.widths self.new (height_of P.widths self.old root.0) (exchanged gap.now (map (plain_row P.plain) rows.now) (rows_of self.old root.0)) (shape P.plain made)) }
         ensures out { OnOk result (map (plain_row P.plain) out.new.items ≡ map (plain_row P.plain) out.old.items ++ taken_out gap.now.from gap.now.to (rows_of self.old root.0)) }

@@ -1,8 +1,8 @@
 //! The laws of rows. Each is a function that does nothing, whose contract says the law.
 ghost use Rattle.std.specs.Prelude.{◌<◌, length};
 ghost use Rattle.enfilade_core.specs.Rows.{rows_of};
-ghost use Rattle.enfilade_core.specs.Right.{AreRight};
-ghost use Rattle.enfilade_core.specs.Laws.{RowsOfChildren, RowsStay, ExchangeIsThreeEdits};
+ghost use Rattle.enfilade_core.specs.WellFormed.{AreWellFormed};
+ghost use Rattle.enfilade_core.specs.Laws.{RowsOfChildren, RowsStay, ExchangeIsThreeEdits, DepthsCountLevels};
 
 use crate::arena::Arena;
 use crate::plane::Plane;
@@ -32,10 +32,18 @@ pub fn exchange_is_three_edits<P: Plane>(arena: &Arena<P>, root: Node)
     let _alloc = arena.allocator();
 }
 
-/// Each node of an arena has right children among those before it: with lesser numbers, and all bottom nodes
+/// Each node of an arena has well formed children among those before it: with lesser numbers, and all bottom nodes
 /// below it equally deep.
-pub fn nodes_are_right<P: Plane>(arena: &Arena<P>)
-    ensures { AreRight P.widths arena.now }
+pub fn nodes_are_well_formed<P: Plane>(arena: &Arena<P>)
+    ensures { AreWellFormed P.widths arena.now }
+{
+    let _alloc = arena.allocator();
+}
+
+/// How many levels of nodes a tree has: a node with rows is one level, and any other node is one level more than each
+/// of its children.
+pub fn depths_count_levels<P: Plane>(arena: &Arena<P>)
+    ensures { DepthsCountLevels P.widths arena.now }
 {
     let _alloc = arena.allocator();
 }

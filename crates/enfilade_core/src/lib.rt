@@ -2,32 +2,34 @@
 #![tactic(auto)]
 
 mod arena;
-mod around;
-mod beside;
-mod bottom;
+mod balance_state;
+mod check_children;
+mod compare_gap;
 mod edits;
 mod exchange;
-mod found;
+mod exchange_bottom;
+mod find_before;
 mod gap;
-mod held;
-mod kept;
 pub mod laws;
-mod opening;
-mod packing;
+mod list_rows;
+mod move_children;
+mod pack_children;
 mod plane;
 mod planes;
-mod right;
-mod standing;
+mod reach;
+mod rebuild_node;
+mod siblings;
+mod stored_node;
+mod summarize;
 mod summary;
 mod tree;
-mod walk;
 
 pub use arena::Arena;
+pub use balance_state::BalanceState;
 pub use edits::Exchanged;
-pub use found::RowAt;
+pub use find_before::RowAt;
 pub use gap::Gap;
-pub use opening::{branches_moved, rows_moved};
+pub use move_children::{branches_moved, rows_moved};
 pub use plane::Plane;
 pub use planes::{ContentPlane, KeyPlane, TextPlane};
-pub use standing::Standing;
 pub use tree::{Branch, Children, Node, Row, TreeMark};

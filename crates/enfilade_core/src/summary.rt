@@ -1,22 +1,13 @@
 //! What an arena keeps of the rows below a node.
 ghost use Rattle.std.specs.Prelude.{◌≡◌, ◌↔◌, ◌+◌, ◌^◌, ◌<◌, ◌≤◌, [], min, IsTrue, IfSome, IfNone};
 ghost use Rattle.tumbler.specs.Places.{IsTumbler, sum, Fits};
-ghost use Rattle.tumbler.specs.Reach.{HasRoom};
+ghost use Rattle.enfilade_core.specs.Axes.{later};
 
 use std::alloc::Global;
 use tumbler::Tumbler;
 
-/// Of the rows below a node, on one axis.
-#[derive(Drop)]
-pub struct Along {
-    /// The greatest end, from the node's origin.
-    pub extent: Tumbler,
-    /// How far the node's origin may move so that all places, ends and origins below stay tumblers.
-    pub reach: Tumbler,
-}
-
 /// Of the rows below a node.
-#[derive(Drop)]
+#[derive(Clone, Copy)]
 pub struct Summary {
     /// How many levels of nodes are below.
     pub height: u64,
@@ -26,110 +17,18 @@ pub struct Summary {
     pub first: Tumbler,
     /// Where the last row stands on the first axis.
     pub last: Tumbler,
-    pub along_first: Along,
-    pub along_second: Along,
+    /// The greatest end on the first axis, from the node's origin.
+    pub first_extent: Tumbler,
+    /// The greatest end on the second axis, from the node's origin.
+    pub second_extent: Tumbler,
 }
 
-impl Along {
-    ghost use Rattle.enfilade_core.specs.Summary.{along_row, along_moved, along_joined, no_along};
-
-    /// Of no rows.
-    fn none(alloc: Global) -> Along
-        ensures { result ≡ no_along }
-    {
-        Along {
-            extent: Tumbler::zero(alloc),
-            reach: Tumbler::zero(alloc),
-        }
-    }
-
-    /// Of one row.
-    #[tactic(auto, using(crate::proofs::Rooms::fitting))]
-    pub(crate) fn of_row(place: &Tumbler, width: &Tumbler) -> Along
-        requires { IsTumbler (sum place.now width.now) }
-        ensures { result ≡ along_row place.now width.now }
-    {
-        let extent = place.add(width);
-        Along {
-            reach: place.lead().greater(&extent.lead()),
-            extent,
-        }
-    }
-
-    /// The same.
-    fn copy(&self) -> Along
-        ensures { result ≡ self.now }
-    {
-        Along {
-            extent: self.extent.copy(),
-            reach: self.reach.copy(),
-        }
-    }
-
-    /// All moved.
-    #[tactic(auto, using(crate::proofs::Rooms::rooms))]
-    fn moved(&self, d: &Tumbler) -> Along
-        requires fits { Fits d.now self.now.extent }
-        requires room { HasRoom d.now self.now.reach }
-        ensures { result ≡ along_moved d.now self.now }
-    {
-        let _places = d.places();
-        Along {
-            extent: d.add(&self.extent),
-            reach: self.reach.add(&d.lead()),
-        }
-    }
-
-    /// A row of no width joins these rows.
-    #[tactic(auto, using(crate::proofs::Rooms::points))]
-    fn join_point(&mut self, place: &Tumbler)
-        ensures { self.new ≡ along_joined self.old (along_row place.now []) }
-    {
-        self.reach.raise_by_lead(place);
-        if self.extent.is_before(place) {
-            self.extent = place.copy();
-        }
-    }
-
-    /// A row joins these rows.
-    #[tactic(auto, using(crate::proofs::Rooms::row_reaches))]
-    fn join_row(&mut self, place: &Tumbler, width: &Tumbler)
-        requires { IsTumbler (sum place.now width.now) }
-        ensures { self.new ≡ along_joined self.old (along_row place.now width.now) }
-    {
-        if width.places().is_empty() {
-            self.join_point(place);
-            return;
-        }
-        let extent = place.add(width);
-        self.reach.raise_by_lead(place);
-        self.reach.raise_by_lead(&extent);
-        if self.extent.is_before(&extent) {
-            self.extent = extent;
-        }
-    }
-
-    /// Others, moved, join these rows.
-    fn join_moved(&mut self, d: &Tumbler, others: &Along)
-        requires fits { Fits d.now others.now.extent }
-        requires room { HasRoom d.now others.now.reach }
-        ensures { self.new ≡ along_joined self.old (along_moved d.now others.now) }
-    {
-        self.reach.raise_by_moved(&others.reach, d);
-        let extent = d.add(&others.extent);
-        if self.extent.is_before(&extent) {
-            self.extent = extent;
-        }
-    }
-
-    /// Others join these rows.
-    fn join(&mut self, others: &Along)
-        ensures { self.new ≡ along_joined self.old others.now }
-    {
-        self.reach.raise(&others.reach);
-        if self.extent.is_before(&others.extent) {
-            self.extent = others.extent.copy();
-        }
+/// From now on an extent is up to an end too.
+fn extend(extent: &mut Tumbler, end: Tumbler)
+    ensures { extent.new ≡ later extent.old end }
+{
+    if extent.is_before(&end) {
+        *extent = end;
     }
 }
 
@@ -141,13 +40,14 @@ impl Summary {
     pub(crate) fn none(alloc: Global) -> Summary
         ensures { result ≡ no_summary }
     {
+        let zero = Tumbler::zero(alloc);
         Summary {
             height: 0,
             leaves: 0,
-            first: Tumbler::zero(alloc),
-            last: Tumbler::zero(alloc),
-            along_first: Along::none(alloc),
-            along_second: Along::none(alloc),
+            first: zero,
+            last: zero,
+            first_extent: zero,
+            second_extent: zero,
         }
     }
 
@@ -155,24 +55,15 @@ impl Summary {
     pub(crate) fn copy(&self) -> Summary
         ensures { result ≡ self.now }
     {
-        Summary {
-            height: self.height,
-            leaves: self.leaves,
-            first: self.first.copy(),
-            last: self.last.copy(),
-            along_first: self.along_first.copy(),
-            along_second: self.along_second.copy(),
-        }
+        *self
     }
 
     /// Of these rows, moved on both axes.
     pub(crate) fn moved(&self, first: &Tumbler, second: &Tumbler) -> Summary
         requires first { Fits first.now self.now.first }
         requires last { Fits first.now self.now.last }
-        requires first_extent { Fits first.now self.now.along_first.extent }
-        requires first_room { HasRoom first.now self.now.along_first.reach }
-        requires second_extent { Fits second.now self.now.along_second.extent }
-        requires second_room { HasRoom second.now self.now.along_second.reach }
+        requires first_extent { Fits first.now self.now.first_extent }
+        requires second_extent { Fits second.now self.now.second_extent }
         ensures { result ≡ summary_moved first.now second.now self.now }
     {
         Summary {
@@ -180,8 +71,8 @@ impl Summary {
             leaves: self.leaves,
             first: first.add(&self.first),
             last: first.add(&self.last),
-            along_first: self.along_first.moved(first),
-            along_second: self.along_second.moved(second),
+            first_extent: first.add(&self.first_extent),
+            second_extent: second.add(&self.second_extent),
         }
     }
 
@@ -200,25 +91,18 @@ impl Summary {
     fn join(&mut self, part: Summary)
         ensures { self.new ≡ kept (summary_joined self.old part) }
     {
-        let Summary {
-            height,
-            leaves,
-            first,
-            last,
-            along_first,
-            along_second,
-        } = part;
         if self.leaves == 0 {
-            self.first = first;
+            self.first = part.first;
         }
-        self.height = height;
-        self.leaves = self.leaves.saturating_add(leaves);
-        self.last = last;
-        self.along_first.join(&along_first);
-        self.along_second.join(&along_second);
+        self.height = part.height;
+        self.leaves = self.leaves.saturating_add(part.leaves);
+        self.last = part.last;
+        extend(&mut self.first_extent, part.first_extent);
+        extend(&mut self.second_extent, part.second_extent);
     }
 
     /// A row at these places, with these widths, joins these rows. Where the last row stands is left as it was.
+    #[tactic(auto, using(crate::proofs::Rooms::fitting))]
     pub(crate) fn join_row(
         &mut self,
         first: &Tumbler,
@@ -231,21 +115,19 @@ impl Summary {
         ensures { self.new ≡ with_last self.old.last (kept (summary_joined self.old (placed_summary first.now first_width.now second.now second_width.now))) }
     {
         if self.leaves == 0 {
-            self.first = first.copy();
+            self.first = *first;
         }
         self.height = 0;
         self.leaves = self.leaves.saturating_add(1);
-        self.along_first.join_row(first, first_width);
-        self.along_second.join_row(second, second_width);
+        extend(&mut self.first_extent, first.add(first_width));
+        extend(&mut self.second_extent, second.add(second_width));
     }
 
     /// What is told of a node joins these rows, moved on both axes. Where the last row stands is left as it was.
     pub(crate) fn join_moved(&mut self, first: &Tumbler, second: &Tumbler, part: &Summary)
         requires first { Fits first.now part.now.first }
-        requires first_extent { Fits first.now part.now.along_first.extent }
-        requires first_room { HasRoom first.now part.now.along_first.reach }
-        requires second_extent { Fits second.now part.now.along_second.extent }
-        requires second_room { HasRoom second.now part.now.along_second.reach }
+        requires first_extent { Fits first.now part.now.first_extent }
+        requires second_extent { Fits second.now part.now.second_extent }
         ensures { self.new ≡ with_last self.old.last (kept (summary_joined self.old (summary_moved first.now second.now part.now))) }
     {
         if self.leaves == 0 {
@@ -253,8 +135,8 @@ impl Summary {
         }
         self.height = part.height;
         self.leaves = self.leaves.saturating_add(part.leaves);
-        self.along_first.join_moved(first, &part.along_first);
-        self.along_second.join_moved(second, &part.along_second);
+        extend(&mut self.first_extent, first.add(&part.first_extent));
+        extend(&mut self.second_extent, second.add(&part.second_extent));
     }
 
     /// The rows of the neighbour behind join these, if that one may stand there.

@@ -18,9 +18,9 @@ pub struct Row<L> {
 
 /// A child that is a node, and where its origin is from the parent's.
 ///
-/// An extent is the greatest end, place plus width, of the child's rows on that axis, from the child's
+/// An extent is the greatest end, coordinate plus width, of the child's rows on that axis, from the child's
 /// own origin.
-#[derive(Drop)]
+#[derive(Clone, Copy)]
 pub struct Branch {
     pub node: Node,
     pub first: Tumbler,
@@ -48,13 +48,7 @@ impl Branch {
     pub fn copy(&self) -> Branch
         ensures { result ≡ self.now }
     {
-        Branch {
-            node: self.node,
-            first: self.first.copy(),
-            second: self.second.copy(),
-            first_extent: self.first_extent.copy(),
-            second_extent: self.second_extent.copy(),
-        }
+        *self
     }
 }
 

@@ -7,10 +7,10 @@ use Rattle.tumbler.specs.Places.{Fits, IsTumbler, sum}
 use Rattle.tumbler.proofs.SumOrder.{fits_if_tumbler}
 use Rattle.enfilade_core.specs.declared.tree.Row.{Row}
 use Rattle.enfilade_core.specs.Rows.{moved}
-use Rattle.enfilade_core.specs.Axes.{Widths, WidthsStay, IsRightRow}
+use Rattle.enfilade_core.specs.Axes.{Widths, WidthsStay, IsWellFormedRow}
 use Rattle.enfilade_core.specs.Plain.{plain_row}
 use Rattle.enfilade_core.proofs.Tells.{Moves, moves}
-use Rattle.enfilade_core.proofs.GoneThrough.{item-right, mapped_at}
+use Rattle.enfilade_core.proofs.GoneThrough.{item-well_formed, mapped_at}
 use Rattle.enfilade_search.specs.declared.sought.By.{By}
 use Rattle.enfilade_search.specs.declared.sought.By.TheVariants.{Place, First, Second}
 use Rattle.enfilade_search.specs.declared.sought.Sought.{Sought}
@@ -19,21 +19,21 @@ use Rattle.enfilade_search.specs.Sought.{side_by, width_by, is_sought}
 
 -- ---- sums
 
-pub first_fits : {L : Type 0} (w : Widths L) (a b : List ℕ) (row : Row L) → IsRightRow w (moved a b row) → Fits a row.first
-first_fits w a b row right = fits_if_tumbler a row.first right.first_place
+pub first_fits : {L : Type 0} (w : Widths L) (a b : List ℕ) (row : Row L) → IsWellFormedRow w (moved a b row) → Fits a row.first
+first_fits w a b row well_formed = fits_if_tumbler a row.first well_formed.first_coordinate
 
-pub second_fits : {L : Type 0} (w : Widths L) (a b : List ℕ) (row : Row L) → IsRightRow w (moved a b row) → Fits b row.second
-second_fits w a b row right = fits_if_tumbler b row.second right.second_place
+pub second_fits : {L : Type 0} (w : Widths L) (a b : List ℕ) (row : Row L) → IsWellFormedRow w (moved a b row) → Fits b row.second
+second_fits w a b row well_formed = fits_if_tumbler b row.second well_formed.second_coordinate
 
-pub first_end_fits : {L : Type 0} (w : Widths L) → WidthsStay w → (a b place : List ℕ) (row : Row L) → place ≡ sum a row.first → IsRightRow w row → IsRightRow w (moved a b row) → Fits place (w.first row)
-first_end_fits w stay a b place row is own right =
+pub first_end_fits : {L : Type 0} (w : Widths L) → WidthsStay w → (a b coordinate : List ℕ) (row : Row L) → coordinate ≡ sum a row.first → IsWellFormedRow w row → IsWellFormedRow w (moved a b row) → Fits coordinate (w.first row)
+first_end_fits w stay a b coordinate row is own well_formed =
     let stays = (moves w stay row own).first_stays a b in
-    subst (λ (x : List ℕ). Fits x (w.first row)) (sym is) (fits_if_tumbler (sum a row.first) (w.first row) (subst (λ (x : List ℕ). IsTumbler (sum (sum a row.first) x)) stays right.first_end))
+    subst (λ (x : List ℕ). Fits x (w.first row)) (sym is) (fits_if_tumbler (sum a row.first) (w.first row) (subst (λ (x : List ℕ). IsTumbler (sum (sum a row.first) x)) stays well_formed.first_end))
 
-pub second_end_fits : {L : Type 0} (w : Widths L) → WidthsStay w → (a b place : List ℕ) (row : Row L) → place ≡ sum b row.second → IsRightRow w row → IsRightRow w (moved a b row) → Fits place (w.second row)
-second_end_fits w stay a b place row is own right =
+pub second_end_fits : {L : Type 0} (w : Widths L) → WidthsStay w → (a b coordinate : List ℕ) (row : Row L) → coordinate ≡ sum b row.second → IsWellFormedRow w row → IsWellFormedRow w (moved a b row) → Fits coordinate (w.second row)
+second_end_fits w stay a b coordinate row is own well_formed =
     let stays = (moves w stay row own).second_stays a b in
-    subst (λ (x : List ℕ). Fits x (w.second row)) (sym is) (fits_if_tumbler (sum b row.second) (w.second row) (subst (λ (x : List ℕ). IsTumbler (sum (sum b row.second) x)) stays right.second_end))
+    subst (λ (x : List ℕ). Fits x (w.second row)) (sym is) (fits_if_tumbler (sum b row.second) (w.second row) (subst (λ (x : List ℕ). IsTumbler (sum (sum b row.second) x)) stays well_formed.second_end))
 
 -- ---- whether it is sought
 
@@ -42,7 +42,7 @@ width_moved w Place a b row m = refl
 width_moved w First a b row m = m.first_stays a b
 width_moved w Second a b row m = m.second_stays a b
 
-pub met_is : {L : Type 0} (w : Widths L) → WidthsStay w → (sought : Sought) (a b first second : List ℕ) (row : Row L) (met : Bool) → IsRightRow w row → first ≡ sum a row.first → second ≡ sum b row.second
+pub met_is : {L : Type 0} (w : Widths L) → WidthsStay w → (sought : Sought) (a b first second : List ℕ) (row : Row L) (met : Bool) → IsWellFormedRow w row → first ≡ sum a row.first → second ≡ sum b row.second
     → met ≡ touches sought.from sought.to (side_by sought.by first second) (width_by w sought.by row) → met ≡ is_sought w sought (moved a b row)
 met_is w stay sought a b first second row met own f s is =
     is
@@ -86,15 +86,15 @@ rows_more plain test a b rows i row held so_far now lt at before is =
 
 -- row i, as it stands in its node and from the base
 pub record RowAt {L : Type 0} (w : Widths L) (a b : List ℕ) (row : Row L) : Type 0 where
-  pub own : IsRightRow w row
-  pub there : IsRightRow w (moved a b row)
+  pub own : IsWellFormedRow w row
+  pub there : IsWellFormedRow w (moved a b row)
 
-pub row_at : {L : Type 0} (w : Widths L) (plain : L → L) (a b : List ℕ) (rows : List (Row L)) (i : ℕ) (row : Row L) → All (IsRightRow w) (map (plain_row plain) rows) → All (IsRightRow w) (map (moved a b) (map (plain_row plain) rows))
+pub row_at : {L : Type 0} (w : Widths L) (plain : L → L) (a b : List ℕ) (rows : List (Row L)) (i : ℕ) (row : Row L) → All (IsWellFormedRow w) (map (plain_row plain) rows) → All (IsWellFormedRow w) (map (moved a b) (map (plain_row plain) rows))
     → i < length rows → row ≡ get_or rows i row → RowAt w a b (plain_row plain row)
 row_at w plain a b rows i row own there lt at =
     let once = mapped_at (plain_row plain) rows i row lt at in
     let twice = mapped_at (moved a b) (map (plain_row plain) rows) i (plain_row plain row) once.short once.at in
     record {
-      own = item-right (IsRightRow w) (map (plain_row plain) rows) i (plain_row plain row) once.short once.at own;
-      there = item-right (IsRightRow w) (map (moved a b) (map (plain_row plain) rows)) i (moved a b (plain_row plain row)) twice.short twice.at there;
+      own = item-well_formed (IsWellFormedRow w) (map (plain_row plain) rows) i (plain_row plain row) once.short once.at own;
+      there = item-well_formed (IsWellFormedRow w) (map (moved a b) (map (plain_row plain) rows)) i (moved a b (plain_row plain row)) twice.short twice.at there;
     }

@@ -8,8 +8,8 @@ use Rattle.tumbler.specs.Places.{sum}
 use Rattle.enfilade_core.specs.declared.tree.Row.{Row}
 use Rattle.enfilade_core.specs.declared.tree.Branch.{Branch}
 use Rattle.enfilade_core.specs.Rows.{Shape, moved, rows_of}
-use Rattle.enfilade_core.specs.Axes.{Widths, InOrder, IsRightRow}
-use Rattle.enfilade_core.specs.Right.{IsRightBranch, AreRight}
+use Rattle.enfilade_core.specs.Axes.{Widths, InOrder, IsWellFormedRow}
+use Rattle.enfilade_core.specs.WellFormed.{IsWellFormedBranch, AreWellFormed}
 use Rattle.enfilade_core.specs.Laws.{rows_from}
 use Rattle.enfilade_core.specs.Plain.{plain_row}
 use Rattle.enfilade_search.specs.declared.sought.Sought.{Sought}
@@ -104,12 +104,12 @@ module _ {L : Type 0} (plain : L → L) (test : Row L → Bool) (a b : List ℕ)
   pub rows_all_held : (rows : List (Row L)) (i : ℕ) (held now : List (Row L)) → length rows ≤ i → HoldsUpTo limit (held ++ all_of (take i rows)) now → HoldsUpTo limit (held ++ all_of rows) now
   rows_all_held rows i held now le so_far = as_well limit (held ++ all_of (take i rows)) (held ++ all_of rows) now (ap (λ (rs : List (Row L)). held ++ all_of rs) (take_all i rows le)) so_far
 
-pub rows_stop_held : {L : Type 0} (w : Widths L) (plain : L → L) (sought : Sought) (a b : List ℕ) (limit : ℕ) (rows : List (Row L)) (i : ℕ) (row : Row L) (more : Bool) (held now : List (Row L)) → All (IsRightRow w) (map (moved a b) (map (plain_row plain) rows))
+pub rows_stop_held : {L : Type 0} (w : Widths L) (plain : L → L) (sought : Sought) (a b : List ℕ) (limit : ℕ) (rows : List (Row L)) (i : ℕ) (row : Row L) (more : Bool) (held now : List (Row L)) → All (IsWellFormedRow w) (map (moved a b) (map (plain_row plain) rows))
     → InOrder (map (moved a b) (map (plain_row plain) rows)) → i < length rows → row ≡ get_or rows i row → more ≡ not (is_past sought (sum a row.first)) → more ≡ false
     → HoldsUpTo limit (held ++ filter (is_sought w sought) (map (moved a b) (map (plain_row plain) (take (i + 1) rows)))) now → HoldsUpTo limit (held ++ filter (is_sought w sought) (map (moved a b) (map (plain_row plain) rows))) now
-rows_stop_held w plain sought a b limit rows i row more held now right ordered lt is goes_on stops so_far =
+rows_stop_held w plain sought a b limit rows i row more held now well_formed ordered lt is goes_on stops so_far =
     let front = held ++ filter (is_sought w sought) (map (moved a b) (map (plain_row plain) (take (i + 1) rows))) in
-    as_well limit front (held ++ filter (is_sought w sought) (map (moved a b) (map (plain_row plain) rows))) now (held_rows_stop w plain sought a b rows i row more held front right ordered lt is goes_on stops refl) so_far
+    as_well limit front (held ++ filter (is_sought w sought) (map (moved a b) (map (plain_row plain) rows))) now (held_rows_stop w plain sought a b rows i row more held front well_formed ordered lt is goes_on stops refl) so_far
 
 module _ {A X : Type 0} (test : X → Bool) (items_of : A → List X) (limit : ℕ) where
   pub children_more_held : (xs : List A) (i : ℕ) (x : A) (held so_far now : List X) → i < length xs → x ≡ get_or xs i x → HoldsUpTo limit (held ++ filter test (flat_map items_of (take i xs))) so_far → HoldsUpTo limit (so_far ++ filter test (items_of x)) now
@@ -133,12 +133,12 @@ children_given_up plain test items_of limit k count xs held whole out is counted
     let fewer = fewer_children test items_of held k xs in
     given_up limit (held ++ filter test (flat_map items_of (take k xs))) (held ++ filter test whole) (map (plain_row plain) out) (omega arith) (omega arith) so_far
 
-pub children_stop_held : {L : Type 0} (w : Widths L) (nodes : List (Shape L)) (sought : Sought) (limit k : ℕ) (a b : List ℕ) (children : List Branch) (i : ℕ) (child : Branch) (more : Bool) (held now : List (Row L)) → AreRight w nodes → FitsAt w nodes k a b
-    → rows_from nodes k a b ≡ flat_map (child_rows nodes a b) children → IsRightBranch w nodes child → i < length children → child ≡ get_or children i child → more ≡ not (is_past sought (sum a child.first)) → more ≡ false
+pub children_stop_held : {L : Type 0} (w : Widths L) (nodes : List (Shape L)) (sought : Sought) (limit k : ℕ) (a b : List ℕ) (children : List Branch) (i : ℕ) (child : Branch) (more : Bool) (held now : List (Row L)) → AreWellFormed w nodes → FitsAt w nodes k a b
+    → rows_from nodes k a b ≡ flat_map (child_rows nodes a b) children → IsWellFormedBranch w nodes child → i < length children → child ≡ get_or children i child → more ≡ not (is_past sought (sum a child.first)) → more ≡ false
     → HoldsUpTo limit (held ++ filter (is_sought w sought) (flat_map (child_rows nodes a b) (take (i + 1) children))) now → HoldsUpTo limit (held ++ filter (is_sought w sought) (rows_from nodes k a b)) now
-children_stop_held w nodes sought limit k a b children i child more held now right fits rows branch lt is goes_on stops so_far =
+children_stop_held w nodes sought limit k a b children i child more held now well_formed fits rows branch lt is goes_on stops so_far =
     let front = held ++ filter (is_sought w sought) (flat_map (child_rows nodes a b) (take (i + 1) children)) in
-    as_well limit front (held ++ filter (is_sought w sought) (rows_from nodes k a b)) now (held_children_stop w nodes sought k a b children i child more held front right fits rows branch lt is goes_on stops refl) so_far
+    as_well limit front (held ++ filter (is_sought w sought) (rows_from nodes k a b)) now (held_children_stop w nodes sought k a b children i child more held front well_formed fits rows branch lt is goes_on stops refl) so_far
 
 module _ {L : Type 0} (plain : L → L) (test : Row L → Bool) (nodes : List (Shape L)) (k limit count : ℕ) (zero_place : List ℕ) (held out : List (Row L)) (zero_is : zero_place ≡ []) (none : held ≡ []) (counted : count ≡ length out) where
   abbrev all_from : List (Row L)

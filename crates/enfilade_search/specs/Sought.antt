@@ -4,8 +4,8 @@ use Rattle.tumbler.specs.Places.{IsTumbler, comes_before, sum}
 use Rattle.enfilade_core.specs.declared.tree.Row.{Row}
 use Rattle.enfilade_core.specs.declared.tree.Branch.{Branch}
 use Rattle.enfilade_core.specs.Rows.{Shape}
-use Rattle.enfilade_core.specs.Axes.{Widths, Axis, first_axis, second_axis, IsRightRow}
-use Rattle.enfilade_core.specs.Right.{origins_table, IsRightBranch}
+use Rattle.enfilade_core.specs.Axes.{Widths, Axis, first_axis, second_axis, IsWellFormedRow}
+use Rattle.enfilade_core.specs.WellFormed.{origins_table, IsWellFormedBranch}
 use Rattle.enfilade_core.specs.Laws.{rows_from}
 use Rattle.enfilade_search.specs.declared.sought.By.{By}
 use Rattle.enfilade_search.specs.declared.sought.By.TheVariants.{Place, First, Second}
@@ -18,7 +18,7 @@ axis_by w Place = first_axis w
 axis_by w First = first_axis w
 axis_by w Second = second_axis w
 
--- the place, or the extent, on that axis, of a first and a second one
+-- the coordinate, or the extent, on that axis, of a first and a second one
 abbrev pub side_by : By → List ℕ → List ℕ → List ℕ
 side_by Place first second = first
 side_by First first second = first
@@ -33,7 +33,7 @@ width_by w Second row = w.second row
 abbrev pub is_sought : {L : Type 0} → Widths L → Sought → Row L → Bool
 is_sought w sought row = touches sought.from sought.to (side_by sought.by row.first row.second) (width_by w sought.by row)
 
--- whether no row can be sought that stands at a place or after it on the first axis
+-- whether no row can be sought that stands at a coordinate or after it on the first axis
 abbrev pub past_by : By → List ℕ → List ℕ → Bool
 past_by Place to first = not (comes_before first to)
 past_by First to first = not (comes_before first to)
@@ -51,11 +51,11 @@ pub record FitsAt {L : Type 0} (w : Widths L) (nodes : List (Shape L)) (k : ℕ)
   pub there : k < length nodes
   pub first_origins : All IsTumbler (map (sum a) (slice_index_or (origins_table (first_axis w) nodes) k []))
   pub second_origins : All IsTumbler (map (sum b) (slice_index_or (origins_table (second_axis w) nodes) k []))
-  pub rows : All (IsRightRow w) (rows_from nodes k a b)
+  pub rows : All (IsWellFormedRow w) (rows_from nodes k a b)
 
 -- a child of a node that is seen from a base
 pub record ChildFits {L : Type 0} (w : Widths L) (nodes : List (Shape L)) (child : Branch) (a b : List ℕ) : Type 0 where
-  pub branch : IsRightBranch w nodes child
+  pub branch : IsWellFormedBranch w nodes child
   pub first_origin : IsTumbler (sum a child.first)
   pub second_origin : IsTumbler (sum b child.second)
   pub below : FitsAt w nodes child.node.0 (sum a child.first) (sum b child.second)

@@ -4,7 +4,7 @@ ghost use Rattle.std.specs.List.{filter};
 ghost use Rattle.tumbler.specs.Places.{sum};
 ghost use Rattle.tumbler.specs.Span.{SpanFits};
 ghost use Rattle.enfilade_core.specs.Rows.{moved, rows_of};
-ghost use Rattle.enfilade_core.specs.Axes.{IsRightRow, InOrder, first_axis};
+ghost use Rattle.enfilade_core.specs.Axes.{IsWellFormedRow, InOrder, first_axis};
 ghost use Rattle.enfilade_core.specs.Plain.{plain_row};
 ghost use Rattle.enfilade_core.specs.Laws.{rows_from};
 ghost use Rattle.enfilade_search.specs.Meeting.{meets};
@@ -27,8 +27,8 @@ fn take_rows_up_to<P: Plane>(
     limit: usize,
     out: &mut List<Row<P::Leaf>>,
 ) -> Result<(), Memory>
-    requires own { All (IsRightRow P.widths) (map (plain_row P.plain) rows.now) }
-    requires there { All (IsRightRow P.widths) (map (moved first.now second.now) (map (plain_row P.plain) rows.now)) }
+    requires own { All (IsWellFormedRow P.widths) (map (plain_row P.plain) rows.now) }
+    requires there { All (IsWellFormedRow P.widths) (map (moved first.now second.now) (map (plain_row P.plain) rows.now)) }
     requires ordered { InOrder (map (moved first.now second.now) (map (plain_row P.plain) rows.now)) }
     ensures { OnOk result (HoldsUpTo limit (map (plain_row P.plain) out.old.items ++ filter (is_sought P.widths sought.now) (map (moved first.now second.now) (map (plain_row P.plain) rows.now))) (map (plain_row P.plain) out.new.items)) }
 {

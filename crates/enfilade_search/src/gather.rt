@@ -3,7 +3,7 @@ ghost use Rattle.std.specs.Prelude.{◌≡◌, ◌⊎◌, ◌++◌, ◌∷◌, [
 ghost use Rattle.std.specs.List.{filter};
 ghost use Rattle.tumbler.specs.Places.{comes_before, sum};
 ghost use Rattle.enfilade_core.specs.Rows.{moved, rows_of};
-ghost use Rattle.enfilade_core.specs.Axes.{IsRightRow, InOrder};
+ghost use Rattle.enfilade_core.specs.Axes.{IsWellFormedRow, InOrder};
 ghost use Rattle.enfilade_core.specs.Plain.{plain_row};
 ghost use Rattle.enfilade_core.specs.Laws.{rows_from};
 ghost use Rattle.enfilade_core.specs.Touched.{IsSeenFrom};
@@ -24,8 +24,8 @@ pub(crate) fn take_row<P: Plane>(
     sought: &Sought,
     out: &mut List<Row<P::Leaf>>,
 ) -> Result<bool, Memory>
-    requires own { IsRightRow P.widths (plain_row P.plain row.now) }
-    requires there { IsRightRow P.widths (moved first.now second.now (plain_row P.plain row.now)) }
+    requires own { IsWellFormedRow P.widths (plain_row P.plain row.now) }
+    requires there { IsWellFormedRow P.widths (moved first.now second.now (plain_row P.plain row.now)) }
     ensures taken { OnOk result (map (plain_row P.plain) out.new.items ≡ map (plain_row P.plain) out.old.items ++ filter (is_sought P.widths sought.now) (moved first.now second.now (plain_row P.plain row.now) ∷ [])) }
     ensures goes_on { IfOk result (λ more. more ≡ not (is_past sought.now (sum first.now row.now.first))) }
 {
@@ -55,8 +55,8 @@ fn take_rows_in_order<P: Plane>(
     sought: &Sought,
     out: &mut List<Row<P::Leaf>>,
 ) -> Result<(), Memory>
-    requires own { All (IsRightRow P.widths) (map (plain_row P.plain) rows.now) }
-    requires there { All (IsRightRow P.widths) (map (moved first.now second.now) (map (plain_row P.plain) rows.now)) }
+    requires own { All (IsWellFormedRow P.widths) (map (plain_row P.plain) rows.now) }
+    requires there { All (IsWellFormedRow P.widths) (map (moved first.now second.now) (map (plain_row P.plain) rows.now)) }
     requires ordered { InOrder (map (moved first.now second.now) (map (plain_row P.plain) rows.now)) }
     ensures { OnOk result (map (plain_row P.plain) out.new.items ≡ map (plain_row P.plain) out.old.items ++ filter (is_sought P.widths sought.now) (map (moved first.now second.now) (map (plain_row P.plain) rows.now))) }
 {
@@ -68,7 +68,7 @@ fn take_rows_in_order<P: Plane>(
     Ok(())
 }
 
-/// A place, as it is seen from a base. From one behind it, it is zero.
+/// A coordinate, as it is seen from a base. From one behind it, it is zero.
 fn seen_from(at: &Tumbler, base: &Tumbler) -> Tumbler
     ensures { IsSeenFrom at.now base.now result }
 {
@@ -81,9 +81,9 @@ fn seen_from(at: &Tumbler, base: &Tumbler) -> Tumbler
 }
 
 /// Whether a row begins where a range ends, or behind that, or ends before it begins, on the second axis. The range is
-/// seen from where the row's place is.
+/// seen from where the row's coordinate is.
 fn is_beside<P: Plane>(row: &Row<P::Leaf>, from: &Tumbler, to: &Tumbler) -> bool
-    requires { IsRightRow P.widths (plain_row P.plain row.now) }
+    requires { IsWellFormedRow P.widths (plain_row P.plain row.now) }
     ensures { result ≡ true → (comes_before row.now.second to.now ≡ false) ⊎ (comes_before (sum row.now.second (P.widths.second (plain_row P.plain row.now))) from.now ≡ true) }
 {
     if !row.second.is_before(to) {
@@ -102,8 +102,8 @@ fn take_rows_by_second<P: Plane>(
     sought: &Sought,
     out: &mut List<Row<P::Leaf>>,
 ) -> Result<(), Memory>
-    requires own { All (IsRightRow P.widths) (map (plain_row P.plain) rows.now) }
-    requires there { All (IsRightRow P.widths) (map (moved first.now second.now) (map (plain_row P.plain) rows.now)) }
+    requires own { All (IsWellFormedRow P.widths) (map (plain_row P.plain) rows.now) }
+    requires there { All (IsWellFormedRow P.widths) (map (moved first.now second.now) (map (plain_row P.plain) rows.now)) }
     requires second { sought.now.by ≡ Second }
     ensures { OnOk result (map (plain_row P.plain) out.new.items ≡ map (plain_row P.plain) out.old.items ++ filter (is_sought P.widths sought.now) (map (moved first.now second.now) (map (plain_row P.plain) rows.now))) }
 {
@@ -127,8 +127,8 @@ fn take_rows<P: Plane>(
     sought: &Sought,
     out: &mut List<Row<P::Leaf>>,
 ) -> Result<(), Memory>
-    requires own { All (IsRightRow P.widths) (map (plain_row P.plain) rows.now) }
-    requires there { All (IsRightRow P.widths) (map (moved first.now second.now) (map (plain_row P.plain) rows.now)) }
+    requires own { All (IsWellFormedRow P.widths) (map (plain_row P.plain) rows.now) }
+    requires there { All (IsWellFormedRow P.widths) (map (moved first.now second.now) (map (plain_row P.plain) rows.now)) }
     requires ordered { InOrder (map (moved first.now second.now) (map (plain_row P.plain) rows.now)) }
     ensures { OnOk result (map (plain_row P.plain) out.new.items ≡ map (plain_row P.plain) out.old.items ++ filter (is_sought P.widths sought.now) (map (moved first.now second.now) (map (plain_row P.plain) rows.now))) }
 {

@@ -3,7 +3,7 @@ ghost use Rattle.enfilade_search.specs.Laws.{MeetsExactly};
 
 use enfilade_core::Plane;
 
-/// On either axis a row meets a span exactly where the two have a place in common or, where the row has no width
+/// On either axis a row meets a span exactly where the two have a coordinate in common or, where the row has no width
 /// on the axis, its place is in the span.
 pub fn meets_exactly<P: Plane>()
     ensures { MeetsExactly P.widths }

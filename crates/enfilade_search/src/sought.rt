@@ -11,7 +11,7 @@ use tumbler::Tumbler;
 /// What of a row has to lie in the range.
 #[derive(Clone, Copy, Debug, PartialEq, Eq)]
 pub(crate) enum By {
-    /// Its place on the first axis.
+    /// Its coordinate on the first axis.
     Place,
     /// Some of what it takes up on the first axis.
     First,
@@ -19,7 +19,7 @@ pub(crate) enum By {
     Second,
 }
 
-/// The range from one place on and before another, and what of a row has to lie in it.
+/// The range from one coordinate on and before another, and what of a row has to lie in it.
 #[derive(Drop)]
 pub(crate) struct Sought {
     pub from: Tumbler,
@@ -28,21 +28,21 @@ pub(crate) struct Sought {
 }
 
 impl Sought {
-    /// Whether something of this width at this place lies in the range. What has no width is still at its place.
+    /// Whether something of this width at this coordinate lies in the range. What has no width is still at its place.
     #[tactic(auto, using(crate::proofs::Touching::touching))]
-    fn touches(&self, place: &Tumbler, width: &Tumbler) -> bool
-        requires { Fits place.now width.now }
-        ensures { result ≡ touches self.now.from self.now.to place.now width.now }
+    fn touches(&self, coordinate: &Tumbler, width: &Tumbler) -> bool
+        requires { Fits coordinate.now width.now }
+        ensures { result ≡ touches self.now.from self.now.to coordinate.now width.now }
     {
         if width.places().is_empty() {
-            return !place.is_before(&self.from) && place.is_before(&self.to);
+            return !coordinate.is_before(&self.from) && coordinate.is_before(&self.to);
         }
-        let start = if self.from.is_before(place) {
-            place
+        let start = if self.from.is_before(coordinate) {
+            coordinate
         } else {
             &self.from
         };
-        start.is_before(&self.to) && start.is_before(&place.add(width))
+        start.is_before(&self.to) && start.is_before(&coordinate.add(width))
     }
 
     /// Whether the row is sought, where it stands at these places.
@@ -63,7 +63,7 @@ impl Sought {
         }
     }
 
-    /// Whether no row can be sought that stands at this place or after it on the first axis.
+    /// Whether no row can be sought that stands at this coordinate or after it on the first axis.
     pub(crate) fn is_past(&self, first: &Tumbler) -> bool
         ensures { result ≡ is_past self.now first.now }
     {

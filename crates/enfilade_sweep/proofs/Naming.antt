@@ -10,9 +10,9 @@ use Rattle.enfilade_core.specs.declared.tree.Branch.{Branch}
 use Rattle.enfilade_core.specs.declared.summary.Summary.{Summary}
 use Rattle.enfilade_core.specs.Rows.{Shape, Rows, Branches, moved, branch_rows, rows_in, branches_under}
 use Rattle.enfilade_core.specs.Axes.{Widths, Axis}
-use Rattle.enfilade_core.specs.Right.{branch_origins, origins_in}
-use Rattle.enfilade_core.specs.declared.standing.Standing.{Standing}
-use Rattle.enfilade_core.specs.Standing.{no_standing, standings_below, standing_in, node_debt, split_above, most_children, lone_child_debt, has_merge, root_debt, has_lone_child}
+use Rattle.enfilade_core.specs.WellFormed.{branch_origins, origins_in}
+use Rattle.enfilade_core.specs.declared.balance_state.BalanceState.{BalanceState}
+use Rattle.enfilade_core.specs.BalanceState.{no_balance_state, balance_states_below, balance_state_in, node_debt, split_above, most_children, lone_child_debt, has_merge, root_debt, has_lone_child}
 use Rattle.enfilade_core.specs.Summary.{summary_in, branch_summary, summary_moved, summary_joined, no_summary, raised}
 use Rattle.enfilade_sweep.specs.Sweep.{renamed_branch, renamed}
 
@@ -68,34 +68,34 @@ summary_natural w = record { same = by w }
         (map-renamed (branch_summary there) (branch_summary here) place (SaidThere place no_summary there here) (λ branch said. ap (λ (s : Summary). summary_moved branch.first branch.second s) said) branches h)
 
 -- what stands under branches with other numbers
-below_natural : (place : ℕ → ℕ) (there here : List Standing) (branches : List Branch) → All (SaidThere place no_standing there here) branches → standings_below there (map (renamed_branch place) branches) ≡ standings_below here branches
+below_natural : (place : ℕ → ℕ) (there here : List BalanceState) (branches : List Branch) → All (SaidThere place no_balance_state there here) branches → balance_states_below there (map (renamed_branch place) branches) ≡ balance_states_below here branches
 below_natural place there here branches h =
-    map-renamed (λ branch. get_or there branch.node.0 no_standing) (λ branch. get_or here branch.node.0 no_standing) place (SaidThere place no_standing there here) (λ branch said. said) branches h
+    map-renamed (λ branch. get_or there branch.node.0 no_balance_state) (λ branch. get_or here branch.node.0 no_balance_state) place (SaidThere place no_balance_state there here) (λ branch said. said) branches h
 
 -- an inner node that is not the root, and the debt of a root, by what stands under the branches
-abbrev standing_over : ℕ → List Standing → Standing
-standing_over children below = record {
+abbrev balance_state_over : ℕ → List BalanceState → BalanceState
+balance_state_over children below = record {
   children = children;
   debt = node_debt children + sum_by (λ s. s.debt) below;
   allows = nat_lt split_above children || list_any (λ s. s.allows) below || has_merge below;
 }
 
-abbrev debt_over : ℕ → List Standing → ℕ
+abbrev debt_over : ℕ → List BalanceState → ℕ
 debt_over children below = (children - most_children) + (if children == 1 then lone_child_debt else 0) + sum_by (λ s. s.debt) below
 
-pub standing_natural : {L : Type 0} → IsNatural (standing_in {L = L}) no_standing
-standing_natural = record { same = by }
+pub balance_state_natural : {L : Type 0} → IsNatural (balance_state_in {L = L}) no_balance_state
+balance_state_natural = record { same = by }
   where
-    by : {L : Type 0} (place : ℕ → ℕ) (there here : List Standing) (node : Shape L) → All (SaidThere place no_standing there here) (branches_under node) → standing_in there (renamed place node) ≡ standing_in here node
+    by : {L : Type 0} (place : ℕ → ℕ) (there here : List BalanceState) (node : Shape L) → All (SaidThere place no_balance_state there here) (branches_under node) → balance_state_in there (renamed place node) ≡ balance_state_in here node
     by place there here (Rows rows) h = refl
     by place there here (Branches branches) h =
-        ap (λ (n : ℕ). standing_over n (standings_below there (map (renamed_branch place) branches))) (length-map branches (renamed_branch place))
-        ∙ ap (standing_over (length branches)) (below_natural place there here branches h)
+        ap (λ (n : ℕ). balance_state_over n (balance_states_below there (map (renamed_branch place) branches))) (length-map branches (renamed_branch place))
+        ∙ ap (balance_state_over (length branches)) (below_natural place there here branches h)
 
-pub debt_natural : {L : Type 0} (place : ℕ → ℕ) (there here : List Standing) (node : Shape L) → All (SaidThere place no_standing there here) (branches_under node) → root_debt there (renamed place node) ≡ root_debt here node
+pub debt_natural : {L : Type 0} (place : ℕ → ℕ) (there here : List BalanceState) (node : Shape L) → All (SaidThere place no_balance_state there here) (branches_under node) → root_debt there (renamed place node) ≡ root_debt here node
 debt_natural place there here (Rows rows) h = refl
 debt_natural place there here (Branches branches) h =
-    ap (λ (n : ℕ). debt_over n (standings_below there (map (renamed_branch place) branches))) (length-map branches (renamed_branch place))
+    ap (λ (n : ℕ). debt_over n (balance_states_below there (map (renamed_branch place) branches))) (length-map branches (renamed_branch place))
     ∙ ap (debt_over (length branches)) (below_natural place there here branches h)
 
 pub lone_natural : {L : Type 0} (place : ℕ → ℕ) (node : Shape L) → has_lone_child (renamed place node) ≡ has_lone_child node

@@ -6,7 +6,7 @@ use Rattle.std.proofs.lemmas.List.Elements.{All-contains, All-map}
 use Rattle.enfilade_core.specs.declared.tree.Branch.{Branch}
 use Rattle.enfilade_core.specs.Rows.{Shape, Rows, Branches, node_at, branches_under}
 use Rattle.enfilade_core.specs.Axes.{Widths}
-use Rattle.enfilade_core.specs.Right.{AreRight}
+use Rattle.enfilade_core.specs.WellFormed.{AreWellFormed}
 use Rattle.enfilade_core.proofs.Parts.{names_below}
 use Rattle.enfilade_sweep.specs.Sweep.{under, renamed, renamed_branch, Reached, is_root, hangs, AllReached, IsSwept}
 use Rattle.enfilade_sweep.proofs.Copies.{named_all}
@@ -36,6 +36,6 @@ module _ {L : Type 0} (old : List (Shape L)) (roots : List ℕ) (new : List (Sha
 
 -- ---- what hangs under a node has a lesser number
 
-pub hangs_before : {L : Type 0} (w : Widths L) (nodes : List (Shape L)) → AreRight w nodes → (j k : ℕ) → j < length nodes → Contains (under (node_at nodes j)) k → k < j
-hangs_before w nodes right j k lt c =
-    All-contains (λ (i : ℕ). i < j) (under (node_at nodes j)) k (All-map (λ (i : ℕ). i < j) (λ (branch : Branch). branch.node.0) (branches_under (node_at nodes j)) (named_all j (node_at nodes j) (names_below w nodes j right lt))) c
+pub hangs_before : {L : Type 0} (w : Widths L) (nodes : List (Shape L)) → AreWellFormed w nodes → (j k : ℕ) → j < length nodes → Contains (under (node_at nodes j)) k → k < j
+hangs_before w nodes well_formed j k lt c =
+    All-contains (λ (i : ℕ). i < j) (under (node_at nodes j)) k (All-map (λ (i : ℕ). i < j) (λ (branch : Branch). branch.node.0) (branches_under (node_at nodes j)) (named_all j (node_at nodes j) (names_below w nodes j well_formed lt))) c

@@ -1,11 +1,11 @@
 //! Nodes are copied, with the numbers that they have in the new arena.
 ghost use Rattle.std.specs.Prelude.{◌≡◌, ◌+◌, ◌<◌, [], ◌∷◌, ◌++◌, length, map, get_or, All, IfOk, OnOk, IsTrue};
 ghost use Rattle.enfilade_core.specs.Rows.{node_at, branches_under};
-ghost use Rattle.enfilade_core.specs.Right.{IsRight};
+ghost use Rattle.enfilade_core.specs.WellFormed.{IsWellFormed};
 ghost use Rattle.enfilade_sweep.specs.Sweep.{numbers, renamed_branch, renamed};
 ghost use Rattle.enfilade_sweep.specs.Marks.{AreRanks, IsClosed, AreCopied};
 
-use enfilade_core::laws::nodes_are_right;
+use enfilade_core::laws::nodes_are_well_formed;
 use enfilade_core::{Arena, Branch, Children, Node, Plane};
 use std::alloc::Global;
 use tumbler::{List, Memory};
@@ -52,7 +52,7 @@ fn add_renamed<P: Plane>(
     requires below { node.0 < length old.now }
     requires known { All (λ branch. branch.node.0 < length ranks.now) (branches_under (node_at old.now node.0)) }
     requires there { All (λ branch. get_or ranks.now branch.node.0 0 < length new.old) (branches_under (node_at old.now node.0)) }
-    requires right { IsRight P.widths new.old (renamed (λ k. get_or ranks.now k 0) (node_at old.now node.0)) }
+    requires well_formed { IsWellFormed P.widths new.old (renamed (λ k. get_or ranks.now k 0) (node_at old.now node.0)) }
     ensures { OnOk result (new.new ≡ new.old ++ renamed (λ k. get_or ranks.now k 0) (node_at old.now node.0) ∷ []) }
 {
     match old.node(node) {
@@ -82,8 +82,8 @@ fn copy_node<P: Plane>(
     requires copied { AreCopied marks.now old.now new.old number }
     ensures { OnOk result (AreCopied marks.now old.now new.new (number + 1)) }
 {
-    nodes_are_right(old);
-    nodes_are_right(new);
+    nodes_are_well_formed(old);
+    nodes_are_well_formed(new);
     if !marks[number as usize] {
         return Ok(());
     }

@@ -5,7 +5,7 @@ ghost use Rattle.enfilade_core.specs.Plain.{shape};
 ghost use Rattle.enfilade_sweep.specs.Sweep.{numbers, under, Reached};
 ghost use Rattle.enfilade_sweep.specs.Marks.{is_marked, MarksMore, AreMarked, AreRanks};
 
-use enfilade_core::laws::nodes_are_right;
+use enfilade_core::laws::nodes_are_well_formed;
 use enfilade_core::{Arena, Branch, Children, Node, Plane};
 use std::alloc::Global;
 use tumbler::Memory;
@@ -59,7 +59,7 @@ fn mark_from<P: Plane>(old: &Arena<P>, number: u64, marks: &mut Vec<bool>)
     ensures unmarked { is_marked marks.old.items number ≡ false → marks.new.items ≡ marks.old.items }
     ensures below { All (λ branch. branch.node.0 < number) (branches_under (node_at old.now number)) }
 {
-    nodes_are_right(old);
+    nodes_are_well_formed(old);
     if !marks[number as usize] {
         return;
     }

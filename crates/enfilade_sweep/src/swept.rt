@@ -1,13 +1,13 @@
 //! The sweep.
 ghost use Rattle.std.specs.Prelude.{◌≡◌, ℕ, ◌<◌, length, map, All, IfOk};
 ghost use Rattle.enfilade_core.specs.Rows.{rows_of};
-ghost use Rattle.enfilade_core.specs.Standing.{tree_debt, tree_allows};
+ghost use Rattle.enfilade_core.specs.BalanceState.{tree_debt, tree_allows};
 ghost use Rattle.enfilade_core.specs.Summary.{depth_of};
 ghost use Rattle.enfilade_sweep.specs.Sweep.{numbers, IsSwept, AllReached, reached_count, unreached_count};
 
 use crate::copying::{copied, renamed_roots};
 use crate::marks::{ranks, reached};
-use enfilade_core::laws::nodes_are_right;
+use enfilade_core::laws::nodes_are_well_formed;
 use enfilade_core::{Arena, Node, Plane};
 use tumbler::{List, Memory};
 
@@ -29,8 +29,8 @@ pub fn sweep<P: Plane>(old: &Arena<P>, roots: &List<Node>) -> Result<(Arena<P>, 
     let marks = reached(old, roots.as_slice())?;
     let ranks = ranks(old.allocator(), marks.as_slice())?;
     let new = copied(old, marks.as_slice(), ranks.as_slice())?;
-    nodes_are_right(old);
-    nodes_are_right(&new);
+    nodes_are_well_formed(old);
+    nodes_are_well_formed(&new);
     let roots = renamed_roots(&new, ranks.as_slice(), roots.as_slice())?;
     Ok((new, roots))
 }

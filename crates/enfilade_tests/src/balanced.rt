@@ -35,8 +35,8 @@ fn branch(alloc: Global, node: Node, at: u32, count: u32) -> Result<Branch, BadT
 }
 
 fn added<P: Plane>(rt: &impl Abort, arena: &mut Arena<P>, children: Children<P::Leaf>) -> Node {
-    let is_right = arena.is_right(&children);
-    assert!(rt; is_right);
+    let is_well_formed = arena.is_well_formed(&children);
+    assert!(rt; is_well_formed);
     arena.add_node(children).expect(rt, "memory")
 }
 
@@ -95,7 +95,7 @@ fn below(rt: &impl Abort, arena: &Arena<TextPlane>, root: Node, k: usize) -> u64
         panic!(rt; "not an inner root");
     };
     let branch = branches.get(k).expect(rt, "a child");
-    arena.standing(held(rt, arena, branch.node)).children
+    arena.balance_state(held(rt, arena, branch.node)).children
 }
 
 // ---- the steps

@@ -38,8 +38,8 @@ fn adds_a_run_that_has_a_width(rt: HostRuntime) -> Result<(), Fail> {
     let mut rows = List::new(alloc);
     rows.push(run(alloc, 3)?)?;
     let children = Children::Bottom(rows);
-    let is_right = arena.is_right(&children);
-    assert!(rt; is_right);
+    let is_well_formed = arena.is_well_formed(&children);
+    assert!(rt; is_well_formed);
     let root = arena.add_node(children)?;
     assert!(rt; arena.leaves(root) == 1);
     Ok(())
@@ -50,7 +50,7 @@ fn bottom(alloc: Global, arena: &mut Arena<TextPlane>) -> Result<Option<Node>, F
     let mut rows = List::new(alloc);
     rows.push(run(alloc, 3)?)?;
     let children = Children::Bottom(rows);
-    if !arena.is_right(&children) {
+    if !arena.is_well_formed(&children) {
         return Ok(None);
     }
     Ok(Some(arena.add_node(children)?))
@@ -69,7 +69,7 @@ fn root_above(alloc: Global, arena: &mut Arena<TextPlane>, node: Node) -> Result
         second_extent: Tumbler::from_places(alloc, &[7, 8])?,
     })?;
     let children = Children::Inner(branches);
-    if !arena.is_right(&children) {
+    if !arena.is_well_formed(&children) {
         return Ok(None);
     }
     Ok(Some(arena.add_node(children)?))
@@ -97,7 +97,9 @@ fn finds_the_row_before_a_place(rt: HostRuntime) -> Result<(), Fail> {
     let place = Tumbler::from_places(alloc, &[3, 1])?;
     assert!(rt; arena.row_before(root, &place).is_none());
     let behind = Tumbler::from_places(alloc, &[3, 2])?;
-    let found = arena.row_before(root, &behind).expect(&rt, "a row");
+    let Some(found) = arena.row_before(root, &behind) else {
+        panic!(rt; "a row");
+    };
     assert!(rt; *found.leaf == 3);
     assert!(rt; found.first == place);
     Ok(())

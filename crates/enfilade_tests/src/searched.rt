@@ -59,8 +59,8 @@ fn branch(
 fn add<P: Plane>(rt: &impl Abort, arena: &mut Arena<P>, children: Children<P::Leaf>) -> Node
     ensures { result.0 < length arena.new }
 {
-    let is_right = arena.is_right(&children);
-    assert!(rt; is_right);
+    let is_well_formed = arena.is_well_formed(&children);
+    assert!(rt; is_well_formed);
     arena.add_node(children).expect(rt, "memory")
 }
 

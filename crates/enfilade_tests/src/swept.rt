@@ -36,8 +36,8 @@ fn branch(alloc: Global, node: Node, at: u32, count: u32) -> Result<Branch, BadT
 fn added(rt: &impl Abort, arena: &mut Arena<TextPlane>, children: Children<u32>) -> Node
     ensures { result.0 < length arena.new }
 {
-    let is_right = arena.is_right(&children);
-    assert!(rt; is_right);
+    let is_well_formed = arena.is_well_formed(&children);
+    assert!(rt; is_well_formed);
     arena.add_node(children).expect(rt, "memory")
 }
 

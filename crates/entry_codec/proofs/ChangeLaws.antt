@@ -9,7 +9,7 @@ use Rattle.febe_data.specs.Validity.{IsText, IsSpan, IsList, IsSpecSet}
 use Rattle.febe_fields.specs.Reading.{◌>>=◌}
 use Rattle.febe_fields.proofs.ListLaws.{ReadsAgain}
 use Rattle.entry_codec.specs.Format.{u32_bytes, tumbler_bytes, span_bytes, list_bytes, specs_bytes, text_bytes, kind_of, change_bytes}
-use Rattle.entry_codec.specs.Bodies.{IsU32, IsLogged}
+use Rattle.entry_codec.specs.Bodies.{IsU32, IsEncodable}
 use Rattle.entry_codec.specs.Reading.{u32_at, tumbler_at, text_at, span_at, numbers_at, specs_at, create_at, version_at, open_copy_at, insert_at, delete_at, rearrange_at, copy_at, link_at, change_at}
 use Rattle.entry_codec.proofs.FieldLaws.{AreBytes, ReadsRight, field, u32_right, u32_again, tumbler_right, tumbler_again, text_right, text_again, list_right, list_again}
 use Rattle.entry_codec.proofs.SpecLaws.{two, span_right, span_again, specs_right, specs_again}
@@ -27,7 +27,7 @@ numbers_again = list_again IsU32 u32_at u32_bytes u32_again
 -- the change that was read, and the number of its kind
 pub record IsChange (kind : ℕ) (bytes rest : List ℕ) (change : PlainChange) : Type 0 where
   pub split : bytes ≡ change_bytes change ++ rest
-  pub right : IsLogged change
+  pub right : IsEncodable change
   pub kind_is : kind ≡ kind_of change
 
 -- what stands behind the number of a kind gives such changes alone
@@ -162,54 +162,54 @@ four_parts a b c d rest = simp append_assoc
 six_parts : (a b c d e f rest : List ℕ) → (a ++ (b ++ (c ++ (d ++ (e ++ f))))) ++ rest ≡ a ++ (b ++ (c ++ (d ++ (e ++ (f ++ rest)))))
 six_parts a b c d e f rest = simp append_assoc
 
-create_again : (document : List ℕ) (rest : List ℕ) → IsLogged (document_created document) → ChangeAgain (document_created document) rest
+create_again : (document : List ℕ) (rest : List ℕ) → IsEncodable (document_created document) → ChangeAgain (document_created document) rest
 unfolding change_at create_at
 create_again document rest h =
     rw (tumbler_again document rest h) refl
 
-version_again : (source : List ℕ) (document : List ℕ) (rest : List ℕ) → IsLogged (version_made source document) → ChangeAgain (version_made source document) rest
+version_again : (source : List ℕ) (document : List ℕ) (rest : List ℕ) → IsEncodable (version_made source document) → ChangeAgain (version_made source document) rest
 unfolding change_at version_at
 version_again source document rest h =
     ap version_at (two_parts (tumbler_bytes source) (tumbler_bytes document) rest)
     ∙ rw (tumbler_again source (tumbler_bytes document ++ rest) h.0, tumbler_again document rest h.1) refl
 
-open_copy_again : (source : List ℕ) (document : List ℕ) (rest : List ℕ) → IsLogged (copy_opened source document) → ChangeAgain (copy_opened source document) rest
+open_copy_again : (source : List ℕ) (document : List ℕ) (rest : List ℕ) → IsEncodable (copy_opened source document) → ChangeAgain (copy_opened source document) rest
 unfolding change_at open_copy_at
 open_copy_again source document rest h =
     ap open_copy_at (two_parts (tumbler_bytes source) (tumbler_bytes document) rest)
     ∙ rw (tumbler_again source (tumbler_bytes document ++ rest) h.0, tumbler_again document rest h.1) refl
 
-insert_again : (document : List ℕ) (at : ℕ) (first : ℕ) (text : List ℕ) (rest : List ℕ) → IsLogged (text_inserted document at first text) → ChangeAgain (text_inserted document at first text) rest
+insert_again : (document : List ℕ) (at : ℕ) (first : ℕ) (text : List ℕ) (rest : List ℕ) → IsEncodable (text_inserted document at first text) → ChangeAgain (text_inserted document at first text) rest
 unfolding change_at insert_at
 insert_again document at first text rest h =
     ap insert_at (four_parts (tumbler_bytes document) (u32_bytes at) (u32_bytes first) (text_bytes text) rest)
     ∙ rw (tumbler_again document (u32_bytes at ++ (u32_bytes first ++ (text_bytes text ++ rest))) h.0, u32_again at (u32_bytes first ++ (text_bytes text ++ rest)) h.1, u32_again first (text_bytes text ++ rest) h.2, text_again text rest h.3) refl
 
-delete_again : (document : List ℕ) (span : Span) (rest : List ℕ) → IsLogged (span_deleted document span) → ChangeAgain (span_deleted document span) rest
+delete_again : (document : List ℕ) (span : Span) (rest : List ℕ) → IsEncodable (span_deleted document span) → ChangeAgain (span_deleted document span) rest
 unfolding change_at delete_at
 delete_again document span rest h =
     ap delete_at (two_parts (tumbler_bytes document) (span_bytes span) rest)
     ∙ rw (tumbler_again document (span_bytes span ++ rest) h.0, span_again span rest h.1) refl
 
-rearrange_again : (document : List ℕ) (cuts : List ℕ) (rest : List ℕ) → IsLogged (blocks_swapped document cuts) → ChangeAgain (blocks_swapped document cuts) rest
+rearrange_again : (document : List ℕ) (cuts : List ℕ) (rest : List ℕ) → IsEncodable (blocks_swapped document cuts) → ChangeAgain (blocks_swapped document cuts) rest
 unfolding change_at rearrange_at
 rearrange_again document cuts rest h =
     ap rearrange_at (two_parts (tumbler_bytes document) (list_bytes u32_bytes cuts) rest)
     ∙ rw (tumbler_again document (list_bytes u32_bytes cuts ++ rest) h.0, numbers_again cuts rest h.1) refl
 
-copy_again : (document : List ℕ) (at : ℕ) (specs : List PlainSpec) (rest : List ℕ) → IsLogged (specs_copied document at specs) → ChangeAgain (specs_copied document at specs) rest
+copy_again : (document : List ℕ) (at : ℕ) (specs : List PlainSpec) (rest : List ℕ) → IsEncodable (specs_copied document at specs) → ChangeAgain (specs_copied document at specs) rest
 unfolding change_at copy_at
 copy_again document at specs rest h =
     ap copy_at (three_parts (tumbler_bytes document) (u32_bytes at) (specs_bytes specs) rest)
     ∙ rw (tumbler_again document (u32_bytes at ++ (specs_bytes specs ++ rest)) h.0, u32_again at (specs_bytes specs ++ rest) h.1, specs_again specs rest h.2) refl
 
-link_again : (home : List ℕ) (number : ℕ) (place : ℕ) (from : List PlainSpec) (to : List PlainSpec) (three : List PlainSpec) (rest : List ℕ) → IsLogged (link_made home number place from to three) → ChangeAgain (link_made home number place from to three) rest
+link_again : (home : List ℕ) (number : ℕ) (place : ℕ) (from : List PlainSpec) (to : List PlainSpec) (three : List PlainSpec) (rest : List ℕ) → IsEncodable (link_made home number place from to three) → ChangeAgain (link_made home number place from to three) rest
 unfolding change_at link_at
 link_again home number place from to three rest h =
     ap link_at (six_parts (tumbler_bytes home) (u32_bytes number) (u32_bytes place) (specs_bytes from) (specs_bytes to) (specs_bytes three) rest)
     ∙ rw (tumbler_again home (u32_bytes number ++ (u32_bytes place ++ (specs_bytes from ++ (specs_bytes to ++ (specs_bytes three ++ rest))))) h.0, u32_again number (u32_bytes place ++ (specs_bytes from ++ (specs_bytes to ++ (specs_bytes three ++ rest)))) h.1, u32_again place (specs_bytes from ++ (specs_bytes to ++ (specs_bytes three ++ rest))) h.2, specs_again from (specs_bytes to ++ (specs_bytes three ++ rest)) h.3, specs_again to (specs_bytes three ++ rest) h.4, specs_again three rest h.5) refl
 
-pub change_again : (change : PlainChange) (rest : List ℕ) → IsLogged change → ChangeAgain change rest
+pub change_again : (change : PlainChange) (rest : List ℕ) → IsEncodable change → ChangeAgain change rest
 change_again (document_created document) rest h = create_again document rest h
 change_again (version_made source document) rest h = version_again source document rest h
 change_again (copy_opened source document) rest h = open_copy_again source document rest h

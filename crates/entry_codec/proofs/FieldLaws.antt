@@ -48,20 +48,20 @@ are_bytes bytes each i d lt = subst (λ (b : ℕ). b < 256) (same_default bytes 
 
 -- what is read is right, and is what is written so
 abbrev pub ReadsRight : {X : Type 0} → (X → Type 0) → (List ℕ → Option (X × List ℕ)) → (X → List ℕ) → Type 0
-ReadsRight {X} IsRight read spell = (bytes rest : List ℕ) (x : X) → AreBytes bytes → read bytes ≡ Some (x, rest) → (bytes ≡ spell x ++ rest) × IsRight x
+ReadsRight {X} IsWellFormed read spell = (bytes rest : List ℕ) (x : X) → AreBytes bytes → read bytes ≡ Some (x, rest) → (bytes ≡ spell x ++ rest) × IsWellFormed x
 
 -- a field that was read, and what goes on behind it
-pub record Field {X Y : Type 0} (IsRight : X → Type 0) (spell : X → List ℕ) (bytes : List ℕ) (on : X × List ℕ → Option Y) (y : Y) : Type 0 where
+pub record Field {X Y : Type 0} (IsWellFormed : X → Type 0) (spell : X → List ℕ) (bytes : List ℕ) (on : X × List ℕ → Option Y) (y : Y) : Type 0 where
   pub value : X
   pub rest : List ℕ
   pub goes : on (value, rest) ≡ Some y
   pub split : bytes ≡ spell value ++ rest
-  pub right : IsRight value
+  pub right : IsWellFormed value
   pub are : AreBytes rest
 
-pub field : {X Y : Type 0} (IsRight : X → Type 0) (read : List ℕ → Option (X × List ℕ)) (spell : X → List ℕ) → ReadsRight IsRight read spell
-    → (bytes : List ℕ) → AreBytes bytes → (on : X × List ℕ → Option Y) (y : Y) → (read bytes >>= on) ≡ Some y → Field IsRight spell bytes on y
-field IsRight read spell right bytes are on y e =
+pub field : {X Y : Type 0} (IsWellFormed : X → Type 0) (read : List ℕ → Option (X × List ℕ)) (spell : X → List ℕ) → ReadsRight IsWellFormed read spell
+    → (bytes : List ℕ) → AreBytes bytes → (on : X × List ℕ → Option Y) (y : Y) → (read bytes >>= on) ≡ Some y → Field IsWellFormed spell bytes on y
+field IsWellFormed read spell right bytes are on y e =
     let s = bind_some (read bytes) on y e in
     let t = right bytes s.0.1 s.0.0 are s.1 in
     record { value = s.0.0; rest = s.0.1; goes = s.2; split = t.0; right = t.1; are = rest_are bytes (spell s.0.0) s.0.1 t.0 are }
@@ -135,45 +135,45 @@ u64_again n rest small = eight_again (u64_bytes n) rest refl ∙ ap (λ (m : ℕ
 -- ---- lists
 
 -- so many items that were read one behind the other
-pub record Many {X : Type 0} (IsRight : X → Type 0) (spell : X → List ℕ) (bytes rest : List ℕ) (count : ℕ) (xs : List X) : Type 0 where
+pub record Many {X : Type 0} (IsWellFormed : X → Type 0) (spell : X → List ℕ) (bytes rest : List ℕ) (count : ℕ) (xs : List X) : Type 0 where
   pub split : bytes ≡ flat_map spell xs ++ rest
-  pub right : All IsRight xs
+  pub right : All IsWellFormed xs
   pub counted : length xs ≡ count
 
-pub many_right : {X : Type 0} (IsRight : X → Type 0) (read : List ℕ → Option (X × List ℕ)) (spell : X → List ℕ) → ReadsRight IsRight read spell
-    → (count : ℕ) (bytes rest : List ℕ) (xs : List X) → AreBytes bytes → many_at read count bytes ≡ Some (xs, rest) → Many IsRight spell bytes rest count xs
+pub many_right : {X : Type 0} (IsWellFormed : X → Type 0) (read : List ℕ → Option (X × List ℕ)) (spell : X → List ℕ) → ReadsRight IsWellFormed read spell
+    → (count : ℕ) (bytes rest : List ℕ) (xs : List X) → AreBytes bytes → many_at read count bytes ≡ Some (xs, rest) → Many IsWellFormed spell bytes rest count xs
 unfolding many_at
-many_right {X} IsRight read spell right zero bytes rest xs are e =
+many_right {X} IsWellFormed read spell right zero bytes rest xs are e =
     let none : List X = [] in
     let p = some_pair_parts none xs bytes rest e in
-    subst (λ (ys : List X). Many IsRight spell bytes rest 0 ys) p.0 (record { split = p.1; right = All-nil IsRight; counted = refl })
-many_right {X} IsRight read spell right (suc n) bytes rest xs are e =
-    let first = field IsRight read spell right bytes are (λ first. many_at read n first.1 >>= λ others. Some (first.0 ∷ others.0, others.1)) (xs, rest) e in
+    subst (λ (ys : List X). Many IsWellFormed spell bytes rest 0 ys) p.0 (record { split = p.1; right = All-nil IsWellFormed; counted = refl })
+many_right {X} IsWellFormed read spell right (suc n) bytes rest xs are e =
+    let first = field IsWellFormed read spell right bytes are (λ first. many_at read n first.1 >>= λ others. Some (first.0 ∷ others.0, others.1)) (xs, rest) e in
     let others = bind_some (many_at read n first.rest) (λ others. Some (first.value ∷ others.0, others.1)) (xs, rest) first.goes in
     let p = some_pair_parts (first.value ∷ others.0.0) xs others.0.1 rest others.2 in
-    let ih = many_right IsRight read spell right n first.rest others.0.1 others.0.0 first.are others.1 in
+    let ih = many_right IsWellFormed read spell right n first.rest others.0.1 others.0.0 first.are others.1 in
     let whole : bytes ≡ flat_map spell (first.value ∷ others.0.0) ++ rest =
     first.split ∙ ap (λ (ds : List ℕ). spell first.value ++ ds) (ih.split ∙ ap (λ (ds : List ℕ). flat_map spell others.0.0 ++ ds) p.1) ∙ sym (append_assoc (spell first.value) (flat_map spell others.0.0) rest) in
-    subst (λ (ys : List X). Many IsRight spell bytes rest (suc n) ys) p.0 (record { split = whole; right = All-cons IsRight first.value others.0.0 first.right ih.right; counted = ap suc ih.counted })
+    subst (λ (ys : List X). Many IsWellFormed spell bytes rest (suc n) ys) p.0 (record { split = whole; right = All-cons IsWellFormed first.value others.0.0 first.right ih.right; counted = ap suc ih.counted })
 
-pub list_right : {X : Type 0} (IsRight : X → Type 0) (read : List ℕ → Option (X × List ℕ)) (spell : X → List ℕ) → ReadsRight IsRight read spell
-    → ReadsRight (IsList IsRight) (list_at read) (list_bytes spell)
+pub list_right : {X : Type 0} (IsWellFormed : X → Type 0) (read : List ℕ → Option (X × List ℕ)) (spell : X → List ℕ) → ReadsRight IsWellFormed read spell
+    → ReadsRight (IsList IsWellFormed) (list_at read) (list_bytes spell)
 unfolding list_at
-list_right IsRight read spell right bytes rest xs are e =
+list_right IsWellFormed read spell right bytes rest xs are e =
     let count = field IsU32 u32_at u32_bytes u32_right bytes are (λ count. cond (nat_lt 65536 count.0) None (many_at read count.0 count.1)) (xs, rest) e in
     let g = not_none (nat_lt 65536 count.value) (many_at read count.value count.rest) (xs, rest) count.goes in
-    let many = many_right IsRight read spell right count.value count.rest rest xs count.are g.1 in
+    let many = many_right IsWellFormed read spell right count.value count.rest rest xs count.are g.1 in
     let few : count.value ≤ 65536 = ltb-false _ _ g.0 in (
       count.split ∙ ap (λ (n : ℕ). u32_bytes n ++ count.rest) (sym many.counted) ∙ ap (λ (ds : List ℕ). u32_bytes (length xs) ++ ds) many.split ∙ sym (append_assoc (u32_bytes (length xs)) (flat_map spell xs) rest),
       record { few = omega (arith, many.counted); each = many.right },
     )
 
-pub list_again : {X : Type 0} (IsRight : X → Type 0) (read : List ℕ → Option (X × List ℕ)) (spell : X → List ℕ) → ReadsAgain IsRight read spell
-    → ReadsAgain (IsList IsRight) (list_at read) (list_bytes spell)
+pub list_again : {X : Type 0} (IsWellFormed : X → Type 0) (read : List ℕ → Option (X × List ℕ)) (spell : X → List ℕ) → ReadsAgain IsWellFormed read spell
+    → ReadsAgain (IsList IsWellFormed) (list_at read) (list_bytes spell)
 unfolding list_at
-list_again IsRight read spell again xs rest h =
+list_again IsWellFormed read spell again xs rest h =
     ap (list_at read) (append_assoc (u32_bytes (length xs)) (flat_map spell xs) rest)
-    ∙ rw (u32_again (length xs) (flat_map spell xs ++ rest) (omega (arith, h.few)), le-ltb _ _ h.few) (many_again IsRight read spell again xs rest h.each)
+    ∙ rw (u32_again (length xs) (flat_map spell xs ++ rest) (omega (arith, h.few)), le-ltb _ _ h.few) (many_again IsWellFormed read spell again xs rest h.each)
 
 -- ---- tumblers
 

@@ -9,7 +9,7 @@ use Rattle.tumbler.specs.Places.{IsTumbler}
 use Rattle.febe_data.specs.Plain.{PlainSpec, PlainChange, PlainEntry, restarted, began, ended, account_changed, document_opened, document_closed, document_created, version_made, copy_opened, text_inserted, span_deleted, blocks_swapped, specs_copied, link_made}
 use Rattle.febe_data.specs.Validity.{IsSpan, IsSpec, IsSpecSet, spans_in_all}
 use Rattle.entry_codec.specs.Format.{u32_bytes, u64_bytes, tumbler_bytes, span_bytes, list_bytes, spec_bytes, specs_bytes, text_bytes, kind_of, change_bytes, entry_bytes}
-use Rattle.entry_codec.specs.Bodies.{IsLogged, HasBody}
+use Rattle.entry_codec.specs.Bodies.{IsEncodable, HasBody}
 
 numbers_length : (numbers : List ℕ) → length (flat_map u32_bytes numbers) ≡ 4 * length numbers
 numbers_length [] = omega arith
@@ -42,7 +42,7 @@ specs_length specs h =
     omega (arith, length-append (u32_bytes (length specs)) (flat_map spec_bytes specs), each_length specs h.list.each, h.list.few, h.few_spans)
 
 -- room for three lists of specs, or a text
-change_length : (change : PlainChange) → IsLogged change → length (change_bytes change) ≤ 60000000
+change_length : (change : PlainChange) → IsEncodable change → length (change_bytes change) ≤ 60000000
 change_length (document_created document) h = omega (arith, tumbler_length document h)
 change_length (version_made source document) h = omega (arith, length-append (tumbler_bytes source) (tumbler_bytes document), tumbler_length source h.0, tumbler_length document h.1)
 change_length (copy_opened source document) h = omega (arith, length-append (tumbler_bytes source) (tumbler_bytes document), tumbler_length source h.0, tumbler_length document h.1)

@@ -16,22 +16,22 @@ IsU64 n = n < 18446744073709551616
 
 -- The changes that are logged, within the bounds of their fields: texts, lists, and the spans in all specs of one list
 -- are at most as many as one request may have.
-abbrev pub IsLogged : PlainChange → Type 0
-IsLogged (document_created document) = IsTumbler document
-IsLogged (version_made source document) = IsTumbler source × IsTumbler document
-IsLogged (copy_opened source document) = IsTumbler source × IsTumbler document
-IsLogged (text_inserted document at first text) = IsTumbler document × IsU32 at × IsU32 first × IsText text
-IsLogged (span_deleted document span) = IsTumbler document × IsSpan span
-IsLogged (blocks_swapped document cuts) = IsTumbler document × IsList IsU32 cuts
-IsLogged (specs_copied document at specs) = IsTumbler document × IsU32 at × IsSpecSet specs
-IsLogged (link_made home number place from to three) = IsTumbler home × IsU32 number × IsU32 place × IsSpecSet from × IsSpecSet to × IsSpecSet three
-IsLogged other = ⊥
+abbrev pub IsEncodable : PlainChange → Type 0
+IsEncodable (document_created document) = IsTumbler document
+IsEncodable (version_made source document) = IsTumbler source × IsTumbler document
+IsEncodable (copy_opened source document) = IsTumbler source × IsTumbler document
+IsEncodable (text_inserted document at first text) = IsTumbler document × IsU32 at × IsU32 first × IsText text
+IsEncodable (span_deleted document span) = IsTumbler document × IsSpan span
+IsEncodable (blocks_swapped document cuts) = IsTumbler document × IsList IsU32 cuts
+IsEncodable (specs_copied document at specs) = IsTumbler document × IsU32 at × IsSpecSet specs
+IsEncodable (link_made home number place from to three) = IsTumbler home × IsU32 number × IsU32 place × IsSpecSet from × IsSpecSet to × IsSpecSet three
+IsEncodable other = ⊥
 
 -- such a change, by a session and with a serial that eight bytes have room for
 pub record HasBody (entry : PlainEntry) : Type 0 where
   pub session : IsU64 entry.session
   pub serial : IsU64 entry.serial
-  pub change : IsLogged entry.change
+  pub change : IsEncodable entry.change
 
 -- these bytes are the body of this entry
 pub record IsBodyOf (entry : PlainEntry) (bytes : List ℕ) : Type 0 where

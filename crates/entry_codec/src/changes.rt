@@ -12,7 +12,9 @@ use std::alloc::Global;
 fn create_at(alloc: Global, bytes: &[u8]) -> Option<(Change, &[u8])>
     ensures { Reads (λ x. (plain_change x.0, x.1.now)) result (create_at bytes.now) }
 {
-    let (document, rest) = tumbler_at(alloc, bytes)?;
+    let Some((document, rest)) = tumbler_at(alloc, bytes) else {
+        return None;
+    };
     Some((Change::Create { document }, rest))
 }
 
@@ -20,8 +22,12 @@ fn create_at(alloc: Global, bytes: &[u8]) -> Option<(Change, &[u8])>
 fn version_at(alloc: Global, bytes: &[u8]) -> Option<(Change, &[u8])>
     ensures { Reads (λ x. (plain_change x.0, x.1.now)) result (version_at bytes.now) }
 {
-    let (source, rest) = tumbler_at(alloc, bytes)?;
-    let (document, rest) = tumbler_at(alloc, rest)?;
+    let Some((source, rest)) = tumbler_at(alloc, bytes) else {
+        return None;
+    };
+    let Some((document, rest)) = tumbler_at(alloc, rest) else {
+        return None;
+    };
     Some((Change::Version { source, document }, rest))
 }
 
@@ -29,8 +35,12 @@ fn version_at(alloc: Global, bytes: &[u8]) -> Option<(Change, &[u8])>
 fn open_copy_at(alloc: Global, bytes: &[u8]) -> Option<(Change, &[u8])>
     ensures { Reads (λ x. (plain_change x.0, x.1.now)) result (open_copy_at bytes.now) }
 {
-    let (source, rest) = tumbler_at(alloc, bytes)?;
-    let (document, rest) = tumbler_at(alloc, rest)?;
+    let Some((source, rest)) = tumbler_at(alloc, bytes) else {
+        return None;
+    };
+    let Some((document, rest)) = tumbler_at(alloc, rest) else {
+        return None;
+    };
     Some((Change::OpenCopy { source, document }, rest))
 }
 
@@ -66,8 +76,12 @@ fn insert_at(alloc: Global, bytes: &[u8]) -> Result<Option<(Change, &[u8])>, Mem
 fn delete_at(alloc: Global, bytes: &[u8]) -> Option<(Change, &[u8])>
     ensures { Reads (λ x. (plain_change x.0, x.1.now)) result (delete_at bytes.now) }
 {
-    let (document, rest) = tumbler_at(alloc, bytes)?;
-    let (span, rest) = span_at(alloc, rest)?;
+    let Some((document, rest)) = tumbler_at(alloc, bytes) else {
+        return None;
+    };
+    let Some((span, rest)) = span_at(alloc, rest) else {
+        return None;
+    };
     Some((Change::Delete { document, span }, rest))
 }
 

@@ -9,6 +9,3 @@ mod lists;
 mod writing;
 
 pub use body::{decode, encode, split_body};
-
-#[cfg(test)]
-mod tests;

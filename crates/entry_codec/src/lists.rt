@@ -51,8 +51,12 @@ pub(crate) fn numbers_at(alloc: Global, bytes: &[u8]) -> Result<Option<(List<u32
 pub(crate) fn span_at(alloc: Global, bytes: &[u8]) -> Option<(Span, &[u8])>
     ensures { Reads (λ x. (x.0, x.1.now)) result (span_at bytes.now) }
 {
-    let (start, rest) = tumbler_at(alloc, bytes)?;
-    let (width, rest) = tumbler_at(alloc, rest)?;
+    let Some((start, rest)) = tumbler_at(alloc, bytes) else {
+        return None;
+    };
+    let Some((width, rest)) = tumbler_at(alloc, rest) else {
+        return None;
+    };
     Some((Span { start, width }, rest))
 }
 

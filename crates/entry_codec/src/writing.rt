@@ -4,7 +4,7 @@ ghost use Rattle.std.specs.List.{flat_map};
 ghost use Rattle.febe_data.specs.Plain.{plain_spec, plain_specs, plain_change};
 ghost use Rattle.febe_data.specs.Validity.{IsSpec, IsList, IsSpecSet};
 ghost use Rattle.entry_codec.specs.Format.{u32_bytes, u64_bytes, tumbler_bytes, span_bytes, list_bytes, spec_bytes, specs_bytes, text_bytes, kind_of, change_bytes};
-ghost use Rattle.entry_codec.specs.Bodies.{IsLogged};
+ghost use Rattle.entry_codec.specs.Bodies.{IsEncodable};
 
 use febe_data::{Change, Memory, Span, Spec, Text, Tumbler};
 
@@ -217,7 +217,7 @@ fn append_link(
 
 /// Adds the fields of a change that is logged.
 pub(crate) fn append_change(out: &mut Text, change: &Change) -> Result<(), Memory>
-    requires { IsLogged (plain_change change.now) }
+    requires { IsEncodable (plain_change change.now) }
     ensures { OnOk result (out.new.items ≡ out.old.items ++ change_bytes (plain_change change.now)) }
 {
     match change {

@@ -1,5 +1,5 @@
 -- The change of a request that nothing refuses fits.
-use Rattle.std.proofs.Common.{◌≡◌, ◌⊎◌, ℕ, zero, suc, ◌+◌, ◌<◌, ◌≤◌, get_or, ◌&&◌, ◌||◌, Bool, true, false, not, cond, List, [], ◌∷◌, ◌++◌, length, map, All, sym, refl, subst, inl, inr, arith}
+use Rattle.std.proofs.Common.{◌≡◌, ◌⊎◌, ℕ, ◌+◌, ◌<◌, ◌≤◌, get_or, ◌&&◌, ◌||◌, Bool, true, false, not, cond, List, [], ◌∷◌, ◌++◌, length, map, All, sym, refl, subst, inl, inr, arith}
 use Rattle.std.specs.Prelude.{Option, Some, None, IfSome, unwrap_or, nat_lt, is_none}
 use Rattle.std.specs.List.{list_any}
 use Rattle.std.proofs.lemmas.Bool.{and_parts, or_parts, not-false, ltb-true, ltb-false, true≢false}
@@ -12,36 +12,24 @@ use Rattle.febe_data.specs.declared.access.Mode.{Mode}
 use Rattle.febe_data.specs.declared.access.Mode.TheVariants.{Read, Write}
 use Rattle.febe_data.specs.declared.access.Rule.{Rule}
 use Rattle.febe_data.specs.declared.access.Rule.TheVariants.{Refuse, Copy, Always}
-use Rattle.febe_data.specs.declared.refusal.Refusal.{Refusal}
 use Rattle.febe_data.specs.declared.refusal.Refusal.TheVariants.{BadAddress}
 use Rattle.febe_data.specs.LimitsView.{LimitsView}
 use Rattle.febe_data.specs.Plain.{PlainSpec, PlainRequest, insert, copy, rearrange, create, delete, version, quit, create_link, set_account, opens, closes, PlainChange, document_created, version_made, text_inserted, span_deleted, blocks_swapped, specs_copied, link_made}
 use Rattle.world_rules.specs.World.{World, has_document, account_of_session, next_version, next_document, is_of_account, text_length, content_length, link_length, links_made_in}
 use Rattle.world_rules.specs.Picking.{picked_addresses, runs_of}
 use Rattle.world_rules.specs.Apply.{world_of}
-use Rattle.world_rules.specs.History.{kept, is_counted, next_serial}
-use Rattle.world_rules.specs.Refusals.{wanted, checks, position_of, has_bad_span, is_bad_span, lacks_document, opens_version, wants_account, runs_in_all, is_too_large, is_too_long, Check, first_holding}
+use Rattle.world_rules.specs.History.{durable_entries, is_durable, next_serial}
+use Rattle.world_rules.specs.Refusals.{wanted, checks, position_of, has_bad_span, is_bad_span, lacks_document, opens_version, wants_account, runs_in_all, is_too_large, is_too_long}
 use Rattle.world_rules.specs.Effects.{Effect, effect, maker_of, version_to_come, document_to_come, opening}
 use Rattle.world_rules.specs.Placed.{IsPlaced}
 use Rattle.world_rules.proofs.Placed.{placed}
 use Rattle.world_rules.proofs.Accounts.{sets_accounts}
 use Rattle.world_rules.proofs.Kept.{keeps_contents}
+use Rattle.world_rules.proofs.Placed.{none_holds}
 use Rattle.entry_fits.specs.Fits.{IsUnder, IsBeside, IsVersionOf, SpecFits, ChangeFits}
 use Rattle.entry_fits.specs.Laws.{AcceptedFits}
 use Rattle.entry_fits.proofs.SameContents.{fits_too}
 use Rattle.entry_fits.proofs.Sessions.{live_has_begun, from_one, new_serial, kept_new}
-
--- ---- tests
-
--- where nothing is refused, no test holds
-none_holds_step : (holds : Bool) (refusal : Refusal) (others : Option Refusal) → cond holds (Some refusal) others ≡ None → (holds ≡ false) × (others ≡ None)
-none_holds_step true refusal others e = cc
-none_holds_step false refusal others e = (refl, e)
-
-none_holds : (tests : List Check) (k : ℕ) (d : Check) → k < length tests → first_holding tests ≡ None → (get_or tests k d).0 ≡ false
-none_holds [] k d lt none = absurd (omega arith)
-none_holds (test ∷ tests) zero d lt none = (none_holds_step test.0 test.1 (first_holding tests) none).0
-none_holds (test ∷ tests) (suc k) d lt none = none_holds tests k d (omega arith) (none_holds_step test.0 test.1 (first_holding tests) none).1
 
 -- ---- spans and specs
 
@@ -157,20 +145,20 @@ module _ (limits : LimitsView) (counted : ℕ) (world : World) (session : ℕ) (
       record { comes_in = place; from_each = inner.0; to_each = inner.1; three_each = outer.1; runs = ltb-false 65536 (runs_in_all world from to three) many }
 
   open_fits : (document : List ℕ) (mode : Mode) (rule : Rule) (copies : Bool) → opens_version world session document mode rule ≡ copies → Passed (opens document mode rule)
-      → is_counted (opening world session document mode copies).change ≡ true → ChangeFits world (opening world session document mode copies).change
+      → is_durable (opening world session document mode copies).change ≡ true → ChangeFits world (opening world session document mode copies).change
   open_fits document mode rule true e none counts =
       let wants : (wants_account mode rule && is_none (account_of_session world session)) ≡ false = test (opens document mode rule) 0 (omega arith) none in
       let some : is_none (account_of_session world session) ≡ false = both_false (wants_account mode rule) (is_none (account_of_session world session)) wants (wants_step world session document mode rule e) in
       version_fits world session document (not-false (has_document world document) (test (opens document mode rule) 1 (omega arith) none)) (maker_is (account_of_session world session) some account)
   open_fits document mode rule false e none counts = absurd (true≢false (sym counts))
 
-  by_effect : (request : PlainRequest) (one made : Effect) → Some one ≡ Some made → IsPlaced world made.change → is_counted made.change ≡ true
-      → (IsPlaced world one.change → is_counted one.change ≡ true → ChangeFits world one.change) → ChangeFits world made.change
+  by_effect : (request : PlainRequest) (one made : Effect) → Some one ≡ Some made → IsPlaced world made.change → is_durable made.change ≡ true
+      → (IsPlaced world one.change → is_durable one.change ≡ true → ChangeFits world one.change) → ChangeFits world made.change
   by_effect request one made e place counts then =
       let same : one ≡ made = cc in
-      subst (λ (m : Effect). ChangeFits world m.change) same (then (subst (λ (m : Effect). IsPlaced world m.change) (sym same) place) (subst (λ (m : Effect). is_counted m.change ≡ true) (sym same) counts))
+      subst (λ (m : Effect). ChangeFits world m.change) same (then (subst (λ (m : Effect). IsPlaced world m.change) (sym same) place) (subst (λ (m : Effect). is_durable m.change ≡ true) (sym same) counts))
 
-  change_fits : (request : PlainRequest) (made : Effect) → Passed request → effect world session request ≡ Some made → IsPlaced world made.change → is_counted made.change ≡ true → ChangeFits world made.change
+  change_fits : (request : PlainRequest) (made : Effect) → Passed request → effect world session request ≡ Some made → IsPlaced world made.change → is_durable made.change ≡ true → ChangeFits world made.change
   change_fits (insert document at text) made none e place counts = by_effect (insert document at text) _ made e place counts (λ p c. insert_fits document at text none p)
   change_fits (copy document at specs) made none e place counts = by_effect (copy document at specs) _ made e place counts (λ p c. copy_fits document at specs none p)
   change_fits (rearrange document cuts) made none e place counts = by_effect (rearrange document cuts) _ made e place counts (λ p c. rearrange_fits document cuts none p)
@@ -190,12 +178,12 @@ module _ (limits : LimitsView) (counted : ℕ) (world : World) (session : ℕ) (
 pub accepted_fits : AcceptedFits
 accepted_fits limits history session request made content regular accepted =
     let world : World = world_of history in
-    let place : IsPlaced world made.change = placed limits (length (kept history)) world session request made accepted.allowed accepted.effect_is in
+    let place : IsPlaced world made.change = placed limits (length (durable_entries history)) world session request made accepted.allowed accepted.effect_is in
     let here : ChangeFits world made.change =
-    change_fits limits (length (kept history)) world session content (sets_accounts history regular.placed session) request made accepted.allowed accepted.effect_is place accepted.counted in
+    change_fits limits (length (durable_entries history)) world session content (sets_accounts history regular.placed session) request made accepted.allowed accepted.effect_is place accepted.counted in
     record {
       session = from_one history session regular.sessions accepted.live;
       serial = omega arith;
       is_new = kept_new history session (next_serial history session) (new_serial history session (regular.serials session (live_has_begun history session accepted.live)));
-      change = fits_too (world_of (kept history)) world (keeps_contents history) made.change here;
+      change = fits_too (world_of (durable_entries history)) world (keeps_contents history) made.change here;
     }

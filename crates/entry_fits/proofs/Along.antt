@@ -6,14 +6,14 @@ use Rattle.std.proofs.lemmas.List.{append_assoc, append-nil}
 use Rattle.febe_data.specs.Plain.{PlainChange, PlainEntry, restarted, began, ended, account_changed, document_opened, document_closed, document_created, version_made, copy_opened, text_inserted, span_deleted, blocks_swapped, specs_copied, link_made}
 use Rattle.world_rules.specs.World.{World, empty_world, has_document}
 use Rattle.world_rules.specs.Apply.{apply, world_of}
-use Rattle.world_rules.specs.History.{kept, is_counted}
+use Rattle.world_rules.specs.History.{durable_entries, is_durable}
 use Rattle.world_rules.specs.Placed.{IsNext, IsPlaced, AllPlaced}
 use Rattle.entry_fits.specs.Fits.{IsNextOf, IsUnder, IsBeside, ChangeFits, Fits, AllFit}
 use Rattle.entry_fits.specs.Laws.{FittingAreKept, FittingArePlaced, OneMoreFits}
 
 -- ---- one change
 
-pub fits_counted : (world : World) (change : PlainChange) → ChangeFits world change → is_counted change ≡ true
+pub fits_counted : (world : World) (change : PlainChange) → ChangeFits world change → is_durable change ≡ true
 fits_counted world restarted fits = absurd fits
 fits_counted world began fits = absurd fits
 fits_counted world ended fits = absurd fits
@@ -47,7 +47,7 @@ fits_placed world (document_closed document) fits = absurd fits
 
 -- ---- a list of entries
 
-kept_along : (past entries : List PlainEntry) → AllFit past entries → kept entries ≡ entries
+kept_along : (past entries : List PlainEntry) → AllFit past entries → durable_entries entries ≡ entries
 kept_along past [] all = refl
 kept_along past (entry ∷ entries) all = rw (fits_counted (world_of past) entry.change all.0.change) (ap (λ (es : List PlainEntry). entry ∷ es) (kept_along (past ++ entry ∷ []) entries all.1))
 

@@ -6,7 +6,7 @@ use Rattle.std.proofs.lemmas.Bool.{true≢false, and_parts, eqb-true}
 use Rattle.std.proofs.lemmas.Bool.Decides.{nat_tests}
 use Rattle.std.proofs.lemmas.List.Elements.{All-nil, All-cons, All-head, All-tail, All-filter, All-append}
 use Rattle.febe_data.specs.Plain.{PlainChange, PlainEntry, restarted, began, ended}
-use Rattle.world_rules.specs.History.{kept, restart_entry, is_counted, is_live, live_after, entries_of, next_serial}
+use Rattle.world_rules.specs.History.{durable_entries, restart_entry, is_durable, is_live, live_after, entries_of, next_serial}
 use Rattle.world_rules.specs.Laws.{numbers_from}
 use Rattle.world_rules.specs.Serials.{begun_after, has_begun, CountFromOne}
 use Rattle.world_rules.proofs.Serials.{recovered_counts}
@@ -88,26 +88,26 @@ new_serial history session count k d lt same =
     let each = of_picked (λ (e : PlainEntry). e.session == session) (λ (e : PlainEntry). e.serial < 1 + n) history below in
     omega (arith, each k d lt (same_number _ session same))
 
-pub kept_new : (history : List PlainEntry) (session serial : ℕ) → IsNewSerial history session serial → IsNewSerial (kept history) session serial
-kept_new history session serial new = All-filter (λ (e : PlainEntry). is_counted e.change) (λ (e : PlainEntry). e.session ≡ session → e.serial < serial) history new
+pub kept_new : (history : List PlainEntry) (session serial : ℕ) → IsNewSerial history session serial → IsNewSerial (durable_entries history) session serial
+kept_new history session serial new = All-filter (λ (e : PlainEntry). is_durable e.change) (λ (e : PlainEntry). e.session ≡ session → e.serial < serial) history new
 
 -- ---- a back end that begins again
 
-begins_none : (change : PlainChange) → is_counted change ≡ true → change ≡ began → ⊥
-begins_none change counted e = true≢false (sym counted ∙ ap is_counted e)
+begins_none : (change : PlainChange) → is_durable change ≡ true → change ≡ began → ⊥
+begins_none change counted e = true≢false (sym counted ∙ ap is_durable e)
 
-kept_step : (entry : PlainEntry) (history : List PlainEntry) (counted : Bool) → is_counted entry.change ≡ counted → BeginsFromOne (kept history) → BeginsFromOne (kept (entry ∷ history))
-kept_step entry history true e rest = rw e (All-cons (λ (x : PlainEntry). x.change ≡ began → 1 ≤ x.session) entry (kept history) (λ begins. absurd (begins_none entry.change e begins)) rest)
+kept_step : (entry : PlainEntry) (history : List PlainEntry) (counted : Bool) → is_durable entry.change ≡ counted → BeginsFromOne (durable_entries history) → BeginsFromOne (durable_entries (entry ∷ history))
+kept_step entry history true e rest = rw e (All-cons (λ (x : PlainEntry). x.change ≡ began → 1 ≤ x.session) entry (durable_entries history) (λ begins. absurd (begins_none entry.change e begins)) rest)
 kept_step entry history false e rest = rw e rest
 
-kept_begins : (history : List PlainEntry) → BeginsFromOne (kept history)
+kept_begins : (history : List PlainEntry) → BeginsFromOne (durable_entries history)
 kept_begins [] = All-nil (λ (x : PlainEntry). x.change ≡ began → 1 ≤ x.session)
-kept_begins (entry ∷ history) = kept_step entry history (is_counted entry.change) refl (kept_begins history)
+kept_begins (entry ∷ history) = kept_step entry history (is_durable entry.change) refl (kept_begins history)
 
 pub fitting_begin : FittingBegin
 fitting_begin entries all = record {
   placed = recovered_is_placed entries (fitting_are_placed entries all);
   serials = recovered_counts entries;
-  sessions = All-append (λ (x : PlainEntry). x.change ≡ began → 1 ≤ x.session) (kept entries) (restart_entry ∷ []) (kept_begins entries)
+  sessions = All-append (λ (x : PlainEntry). x.change ≡ began → 1 ≤ x.session) (durable_entries entries) (restart_entry ∷ []) (kept_begins entries)
       (All-cons (λ (x : PlainEntry). x.change ≡ began → 1 ≤ x.session) restart_entry [] (λ begins. absurd (cc begins)) (All-nil (λ (x : PlainEntry). x.change ≡ began → 1 ≤ x.session)));
 }

@@ -4,7 +4,7 @@ use Rattle.febe_data.specs.LimitsView.{LimitsView}
 use Rattle.febe_data.specs.Plain.{PlainEntry, PlainRequest, began}
 use Rattle.world_rules.specs.World.{empty_world}
 use Rattle.world_rules.specs.Apply.{world_of}
-use Rattle.world_rules.specs.History.{kept, recovered, is_counted, is_live}
+use Rattle.world_rules.specs.History.{durable_entries, recovered, is_durable, is_live}
 use Rattle.world_rules.specs.Effects.{Effect, effect}
 use Rattle.world_rules.specs.Legal.{wanted_after, entry_after}
 use Rattle.world_rules.specs.Placed.{AllPlaced}
@@ -29,18 +29,18 @@ pub record IsAccepted (limits : LimitsView) (history : List PlainEntry) (session
   pub live : IsTrue (is_live history session)
   pub allowed : wanted_after limits history session request ≡ None
   pub effect_is : effect (world_of history) session request ≡ Some made
-  pub counted : is_counted made.change ≡ true
+  pub counted : is_durable made.change ≡ true
 
 -- its entry fits after the kept entries of the history before it
 abbrev pub AcceptedFits : Type 0
 AcceptedFits = (limits : LimitsView) (history : List PlainEntry) (session : ℕ) (request : PlainRequest) (made : Effect) → limits.text ≤ 1073741824 → IsRegular history
-    → IsAccepted limits history session request made → Fits (kept history) (entry_after history session made)
+    → IsAccepted limits history session request made → Fits (durable_entries history) (entry_after history session made)
 
 -- ---- entries that fit one after the other
 
 -- all are kept
 abbrev pub FittingAreKept : Type 0
-FittingAreKept = (entries : List PlainEntry) → AllFit [] entries → kept entries ≡ entries
+FittingAreKept = (entries : List PlainEntry) → AllFit [] entries → durable_entries entries ≡ entries
 
 -- And they are placed, so all laws of placed histories hold of a history of them.
 abbrev pub FittingArePlaced : Type 0

@@ -13,7 +13,7 @@ use crate::picking::{are_few_in_all, are_few_runs, specs_fit};
 use febe_data::bounds::{MOST_CONTENT, MOST_POSITIONS};
 use febe_data::{Change, Span, Spec, Tumbler};
 use std::alloc::Global;
-use world_rules::{Finds, Lookups, WorldError, cuts_of};
+use world_rules::{Find, LookUp, WorldError, cuts_of};
 
 /// Whether it is a position of a text of this length, or the one behind it.
 fn is_place(length: usize, at: u32) -> bool
@@ -30,7 +30,7 @@ fn has_positions(length: usize, more: usize) -> bool
 }
 
 /// Whether a text comes in at a place of the document, with its next bytes, and nothing grows too long.
-fn text_fits<W: Lookups>(
+fn text_fits<W: LookUp>(
     world: &W,
     document: &Tumbler,
     at: u32,
@@ -56,7 +56,7 @@ fn text_fits<W: Lookups>(
 }
 
 /// Whether the document is there, and the span ends at an address.
-fn delete_fits<W: Lookups>(world: &W, document: &Tumbler, span: &Span) -> bool
+fn delete_fits<W: LookUp>(world: &W, document: &Tumbler, span: &Span) -> bool
     ensures { (view : FlatView) → W.stands world.now view → IsTrue result ↔ IsTrue (has_document view.world document.now) × SpanFits span.now }
 {
     if !world.has_document(document) {
@@ -66,7 +66,7 @@ fn delete_fits<W: Lookups>(world: &W, document: &Tumbler, span: &Span) -> bool
 }
 
 /// Whether the document is there, and the cuts bound two blocks of its text.
-fn cuts_fit<W: Lookups>(world: &W, document: &Tumbler, cuts: &[u32]) -> bool
+fn cuts_fit<W: LookUp>(world: &W, document: &Tumbler, cuts: &[u32]) -> bool
     ensures { (view : FlatView) → W.stands world.now view → IsTrue result ↔ IsTrue (has_document view.world document.now) × IsCutAt view.world document.now cuts.now }
 {
     if !world.has_document(document) {
@@ -82,7 +82,7 @@ fn cuts_fit<W: Lookups>(world: &W, document: &Tumbler, cuts: &[u32]) -> bool
 }
 
 /// Whether what the specs pick, in not too many runs, comes in at a place of the document, which does not grow too long.
-fn copy_fits<W: Finds>(
+fn copy_fits<W: Find>(
     world: &W,
     alloc: Global,
     document: &Tumbler,
@@ -109,7 +109,7 @@ fn copy_fits<W: Finds>(
 }
 
 /// Whether a link comes in at the end of its home's links, with the next number.
-fn is_linked<W: Lookups>(
+fn is_linked<W: LookUp>(
     world: &W,
     home: &Tumbler,
     number: u32,
@@ -127,7 +127,7 @@ fn is_linked<W: Lookups>(
 }
 
 /// Whether the three lists of specs pick what there is, in not too many runs.
-fn ends_fit<W: Finds>(
+fn ends_fit<W: Find>(
     world: &W,
     alloc: Global,
     from: &[Spec],
@@ -150,7 +150,7 @@ fn ends_fit<W: Finds>(
 }
 
 /// Whether a link comes in as it should, with such ends.
-fn link_fits<W: Finds>(
+fn link_fits<W: Find>(
     world: &W,
     alloc: Global,
     home: &Tumbler,
@@ -170,7 +170,7 @@ fn link_fits<W: Finds>(
 }
 
 /// Whether the change can come after what made the world. One that is not kept never can.
-pub(crate) fn change_fits<W: Finds>(
+pub(crate) fn change_fits<W: Find>(
     world: &W,
     alloc: Global,
     change: &Change,

@@ -1,16 +1,15 @@
 //! Whether a document can come after what made a world.
 ghost use Rattle.std.specs.Prelude.{◌≡◌, ◌↔◌, IsTrue, IfOk};
 ghost use Rattle.std.specs.Option.{MatchOption};
-ghost use Rattle.world_rules.specs.World.{is_of_account};
 ghost use Rattle.world_rules.specs.FlatView.{FlatView};
 ghost use Rattle.entry_fits.specs.Fits.{IsNextOf, IsNextOfAccount, IsUnder, IsBeside, IsVersionOf};
 
 use febe_data::Tumbler;
 use febe_data::bounds::MOST_DOCUMENT_PLACES;
-use world_rules::{Lookups, WorldError};
+use world_rules::{LookUp, WorldError, is_of_account};
 
 /// The account whose next document this is, if it is one's.
-fn next_of<W: Lookups>(world: &W, document: &Tumbler) -> Result<Option<Tumbler>, WorldError>
+fn next_of<W: LookUp>(world: &W, document: &Tumbler) -> Result<Option<Tumbler>, WorldError>
     ensures { (view : FlatView) → W.stands world.now view → IfOk result (λ found. MatchOption found (¬ IsNextOfAccount view.world document.now) (λ account. IsNextOf view.world account document.now)) }
 {
     if !document.is_document() {
@@ -24,7 +23,7 @@ fn next_of<W: Lookups>(world: &W, document: &Tumbler) -> Result<Option<Tumbler>,
 }
 
 /// Whether the document is the next one of an account.
-pub(crate) fn is_next<W: Lookups>(world: &W, document: &Tumbler) -> Result<bool, WorldError>
+pub(crate) fn is_next<W: LookUp>(world: &W, document: &Tumbler) -> Result<bool, WorldError>
     ensures { (view : FlatView) → W.stands world.now view → IfOk result (λ fits. IsTrue fits ↔ IsNextOfAccount view.world document.now) }
 {
     let account = next_of(world, document)?;
@@ -32,7 +31,7 @@ pub(crate) fn is_next<W: Lookups>(world: &W, document: &Tumbler) -> Result<bool,
 }
 
 /// Whether the source has room for one more place, and the document is its next version.
-fn is_under<W: Lookups>(world: &W, source: &Tumbler, document: &Tumbler) -> Result<bool, WorldError>
+fn is_under<W: LookUp>(world: &W, source: &Tumbler, document: &Tumbler) -> Result<bool, WorldError>
     ensures { (view : FlatView) → W.stands world.now view → IfOk result (λ fits. IsTrue fits ↔ IsUnder view.world source.now document.now) }
 {
     if source.places().len() >= MOST_DOCUMENT_PLACES {
@@ -41,26 +40,8 @@ fn is_under<W: Lookups>(world: &W, source: &Tumbler, document: &Tumbler) -> Resu
     Ok(world.next_version(source)? == *document)
 }
 
-/// Whether the document is one of the account's.
-#[tactic(auto, using(world_rules::proofs::Fronts::accounts))]
-fn is_of_account(account: &Tumbler, document: &Tumbler) -> bool
-    ensures { result ≡ is_of_account account.now document.now }
-{
-    let account = account.places();
-    let document = document.places();
-    if document.len() <= account.len() {
-        return false;
-    }
-    let (front, rest) = document.split_at(account.len());
-    front == account && rest[0] == 0
-}
-
 /// Whether the document is the next one of an account that is not the source's, or the source has no room.
-fn is_beside<W: Lookups>(
-    world: &W,
-    source: &Tumbler,
-    document: &Tumbler,
-) -> Result<bool, WorldError>
+fn is_beside<W: LookUp>(world: &W, source: &Tumbler, document: &Tumbler) -> Result<bool, WorldError>
     ensures { (view : FlatView) → W.stands world.now view → IfOk result (λ fits. IsTrue fits ↔ IsBeside view.world source.now document.now) }
 {
     let Some(account) = next_of(world, document)? else {
@@ -70,7 +51,7 @@ fn is_beside<W: Lookups>(
 }
 
 /// Whether the source is there, and the document is the one that a version of it gets.
-pub(crate) fn is_version<W: Lookups>(
+pub(crate) fn is_version<W: LookUp>(
     world: &W,
     source: &Tumbler,
     document: &Tumbler,

@@ -10,7 +10,7 @@ ghost use Rattle.entry_fits.specs.Fits.{SpecFits};
 use febe_data::bounds::MOST_ITEMS;
 use febe_data::{Span, Spec};
 use std::alloc::Global;
-use world_rules::{Finds, Lookups, WorldError, three_runs};
+use world_rules::{Find, LookUp, WorldError, three_runs};
 
 /// Whether all the spans end at an address.
 fn spans_fit(spans: &[Span]) -> bool
@@ -25,7 +25,7 @@ fn spans_fit(spans: &[Span]) -> bool
 }
 
 /// Whether the documents that the specs name are there, and their spans end at an address.
-pub(crate) fn specs_fit<W: Lookups>(world: &W, specs: &[Spec]) -> bool
+pub(crate) fn specs_fit<W: LookUp>(world: &W, specs: &[Spec]) -> bool
     ensures { (view : FlatView) → W.stands world.now view → IsTrue result ↔ All (SpecFits view.world) (map plain_spec specs.now) }
 {
     for spec in specs {
@@ -41,7 +41,7 @@ pub(crate) fn specs_fit<W: Lookups>(world: &W, specs: &[Spec]) -> bool
 
 /// Whether the specs pick as many runs as a request may work on, or fewer.
 #[tactic(auto, using(crate::proofs::Few::counted))]
-pub(crate) fn are_few_runs<W: Finds>(
+pub(crate) fn are_few_runs<W: Find>(
     world: &W,
     alloc: Global,
     specs: &[Spec],
@@ -54,9 +54,9 @@ pub(crate) fn are_few_runs<W: Finds>(
     Ok(true)
 }
 
-/// Whether three lists of specs do together.
+/// Whether three lists of specs together pick as many runs as a request may work on, or fewer.
 #[tactic(auto, using(crate::proofs::Few::counted))]
-pub(crate) fn are_few_in_all<W: Finds>(
+pub(crate) fn are_few_in_all<W: Find>(
     world: &W,
     alloc: Global,
     from: &[Spec],

@@ -22,9 +22,9 @@ pub record IsSpan (span : Span) : Type 0 where
   pub width : IsTumbler span.width
 
 -- as many as a list may have, and each of them is right
-pub record IsList {X : Type 0} (IsRight : X → Type 0) (xs : List X) : Type 0 where
+pub record IsList {X : Type 0} (IsWellFormed : X → Type 0) (xs : List X) : Type 0 where
   pub few : length xs ≤ 65536
-  pub each : All IsRight xs
+  pub each : All IsWellFormed xs
 
 -- the document is a tumbler, and the spans are spans
 pub record IsSpec (spec : PlainSpec) : Type 0 where

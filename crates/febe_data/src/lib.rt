@@ -11,8 +11,6 @@ mod reply;
 mod request;
 mod run;
 mod spec;
-#[cfg(test)]
-mod tests;
 mod validity;
 mod want;
 mod writing;

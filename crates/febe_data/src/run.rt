@@ -4,7 +4,7 @@ ghost use Rattle.std.specs.Prelude.{◌≡◌};
 use tumbler::Tumbler;
 
 /// Bytes that follow each other in one document's content.
-#[derive(Debug, Drop)]
+#[derive(Clone, Copy, Debug)]
 pub struct Run {
     /// The document whose rows show it: the one that a spec named.
     pub origin: Tumbler,
@@ -21,12 +21,7 @@ impl Run {
     pub fn copy(&self) -> Run
         ensures { result ≡ self.now }
     {
-        Run {
-            origin: self.origin.copy(),
-            content: self.content.copy(),
-            first: self.first,
-            length: self.length,
-        }
+        *self
     }
 }
 

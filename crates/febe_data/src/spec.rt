@@ -27,12 +27,7 @@ impl Spec {
 pub(crate) fn clone_spans(alloc: Global, spans: &[Span]) -> Result<List<Span>, Memory>
     ensures { IfOk result (λ copy. copy.items ≡ spans.now) }
 {
-    let mut copy = List::new(alloc);
-    copy.reserve(spans.len())?;
-    for span in spans {
-        copy.push_reserved(span.copy());
-    }
-    Ok(copy)
+    List::from_slice(alloc, spans)
 }
 
 pub(crate) fn clone_specs(alloc: Global, specs: &[Spec]) -> Result<List<Spec>, Memory>
@@ -49,10 +44,5 @@ pub(crate) fn clone_specs(alloc: Global, specs: &[Spec]) -> Result<List<Spec>, M
 pub(crate) fn clone_tumblers(alloc: Global, tumblers: &[Tumbler]) -> Result<List<Tumbler>, Memory>
     ensures { IfOk result (λ copy. copy.items ≡ tumblers.now) }
 {
-    let mut copy = List::new(alloc);
-    copy.reserve(tumblers.len())?;
-    for tumbler in tumblers {
-        copy.push_reserved(tumbler.copy());
-    }
-    Ok(copy)
+    List::from_slice(alloc, tumblers)
 }

@@ -1,11 +1,11 @@
 //! The feed: a greeting, then requests, from pieces.
-ghost use Rattle.std.specs.Prelude.{◌≡◌, ◌++◌, ◌≤◌, ◌-◌, ◌^◌, false, true, [], length, drop, OnOk, OnErr, IfOk};
+ghost use Rattle.std.specs.Prelude.{◌≡◌, ◌++◌, ◌≤◌, ◌-◌, ◌^◌, false, true, [], length, drop, OnOk, OnErr, IfOk, IfSome, IfNone};
 
+use crate::buffer::Buffer;
 use crate::greeting::scan_greeting;
-use crate::held::Held;
 use febe_data::{Memory, Request};
 use febe_fields::Scanned;
-use febe_wire::{Got, RequestScanner, read_request};
+use febe_wire::{RequestScanner, read_at_once, read_spelled};
 use std::alloc::Global;
 use std::marker::Model;
 
@@ -27,7 +27,7 @@ pub enum Next {
 /// Each byte is looked at a bounded number of times, however the stream is cut, and bytes that were given out are let go.
 #[derive(Debug, Drop)]
 pub struct Feed {
-    held: Held,
+    held: Buffer,
     greeted: bool,
     /// How many bytes of the stream have gone, or the greatest number.
     offset: u64,
@@ -36,6 +36,8 @@ pub struct Feed {
     scanner: RequestScanner,
     /// Where the bytes held are bad, where that is known.
     bad: Option<usize>,
+    /// Room for a piece to come, kept from one to the next.
+    room: Option<Box<[u8; 4096]>>,
 }
 
 impl Model for Feed {
@@ -50,7 +52,8 @@ impl Model for Feed {
 }
 
 impl Feed {
-    ghost use Rattle.febe_feed.specs.FeedView.{FeedView, IsNext, later, with_piece};
+    ghost use Rattle.febe_data.specs.Plain.{plain_request};
+    ghost use Rattle.febe_feed.specs.FeedView.{FeedView, GivesRequest, IsNext, later, with_piece};
     ghost use Rattle.febe_fields.specs.Prefixes.{HasSpelledPrefix};
     ghost use Rattle.febe_wire.specs.Grammar.{IsSpelled};
 
@@ -59,12 +62,13 @@ impl Feed {
         ensures { result ≡ record { greeted = false; held = []; offset = 0 } }
     {
         Feed {
-            held: Held::new(alloc),
+            held: Buffer::new(alloc),
             greeted: false,
             offset: 0,
             scanned: 0,
             scanner: RequestScanner::Start,
             bad: None,
+            room: None,
         }
     }
 
@@ -88,6 +92,24 @@ impl Feed {
         ensures err { OnErr result (self.new ≡ self.old) }
     {
         self.held.push(alloc, piece)
+    }
+
+    /// Room into which a piece may be read. It takes memory only where none was given back.
+    pub fn take_room(&mut self, alloc: Global) -> Result<Box<[u8; 4096]>, Memory>
+        ensures { self.new ≡ self.old }
+    {
+        if let Some(room) = self.room.take() {
+            return Ok(room);
+        }
+        let room = Box::new(alloc, [0; 4096])?;
+        Ok(room)
+    }
+
+    /// Gives room back, for the next piece.
+    pub fn give_back_room(&mut self, room: Box<[u8; 4096]>)
+        ensures { self.new ≡ self.old }
+    {
+        self.room = Some(room);
     }
 
     /// What comes next. Where memory ran out, all is as it was.
@@ -124,6 +146,38 @@ impl Feed {
         if let Some(at) = self.bad {
             return Ok(Next::Bad { at: self.place(at) });
         }
+        match self.take_unscanned(alloc) {
+            Some(request) => Ok(Next::Request(request)),
+            None => self.scan_on(alloc),
+        }
+    }
+
+    /// The request that the first bytes spell, where that is short and none of it was scanned. A scan goes on where
+    /// this gives none, and is not begun anew, so that bytes are read in vain once at most, in whatever pieces they come.
+    fn take_unscanned(&mut self, alloc: Global) -> Option<Request>
+        requires { self.old.greeted ≡ true }
+        ensures some { IfSome result (λ request. GivesRequest self.old self.new (plain_request request)) }
+        ensures none { IfNone result (self.new ≡ self.old) }
+    {
+        if self.scanned > 0 {
+            return None;
+        }
+        let Ok(read) = read_at_once(alloc, self.held.as_slice()) else {
+            return None;
+        };
+        let Some((request, used)) = read else {
+            return None;
+        };
+        self.pass(used);
+        Some(request)
+    }
+
+    /// Goes on with the scan over the bytes that it has not passed, and reads the request that it finds whole.
+    fn scan_on(&mut self, alloc: Global) -> Result<Next, Memory>
+        requires { self.old.greeted ≡ true }
+        ensures next { IfOk result (λ next. IsNext self.old self.new next) }
+        ensures err { OnErr result (self.new ≡ self.old) }
+    {
         let total = self.held();
         let (_, rest) = self.held.as_slice().split_at(self.scanned);
         let mut scanner = self.scanner;
@@ -152,9 +206,7 @@ impl Feed {
         ensures next { IfOk result (λ next. IsNext self.old self.new next) }
         ensures err { OnErr result (self.new ≡ self.old) }
     {
-        let Got::Request { request, used } = read_request(alloc, self.held.as_slice())? else {
-            unreachable!();
-        };
+        let request = read_spelled(alloc, self.held.as_slice(), used)?;
         self.pass(used);
         Ok(Next::Request(request))
     }

@@ -33,22 +33,22 @@ rule_again rules.Always rest = rw (number_again 3 rest (omega arith)) refl
 
 -- what is right is read from its spelling, whatever stands behind it
 abbrev pub ReadsAgain : {X : Type 0} → (X → Type 0) → (List ℕ → Option (X × List ℕ)) → (X → List ℕ) → Type 0
-ReadsAgain {X} IsRight read spell = (x : X) (rest : List ℕ) → IsRight x → read (spell x ++ rest) ≡ Some (x, rest)
+ReadsAgain {X} IsWellFormed read spell = (x : X) (rest : List ℕ) → IsWellFormed x → read (spell x ++ rest) ≡ Some (x, rest)
 
-pub many_again : {X : Type 0} (IsRight : X → Type 0) (read : List ℕ → Option (X × List ℕ)) (spell : X → List ℕ) → ReadsAgain IsRight read spell
-    → (xs : List X) (rest : List ℕ) → All IsRight xs → many_at read (length xs) (flat_map spell xs ++ rest) ≡ Some (xs, rest)
+pub many_again : {X : Type 0} (IsWellFormed : X → Type 0) (read : List ℕ → Option (X × List ℕ)) (spell : X → List ℕ) → ReadsAgain IsWellFormed read spell
+    → (xs : List X) (rest : List ℕ) → All IsWellFormed xs → many_at read (length xs) (flat_map spell xs ++ rest) ≡ Some (xs, rest)
 unfolding many_at
-many_again IsRight read spell again [] rest each = refl
-many_again IsRight read spell again (x ∷ xs) rest each =
+many_again IsWellFormed read spell again [] rest each = refl
+many_again IsWellFormed read spell again (x ∷ xs) rest each =
     ap (many_at read (suc (length xs))) (append_assoc (spell x) (flat_map spell xs) rest)
-    ∙ rw (again x (flat_map spell xs ++ rest) (All-head IsRight x xs each), many_again IsRight read spell again xs rest (All-tail IsRight x xs each)) refl
+    ∙ rw (again x (flat_map spell xs ++ rest) (All-head IsWellFormed x xs each), many_again IsWellFormed read spell again xs rest (All-tail IsWellFormed x xs each)) refl
 
-pub list_again : {X : Type 0} (IsRight : X → Type 0) (read : List ℕ → Option (X × List ℕ)) (spell : X → List ℕ) → ReadsAgain IsRight read spell
-    → (xs : List X) (rest : List ℕ) → IsList IsRight xs → list_at read (spell_list spell xs ++ rest) ≡ Some (xs, rest)
+pub list_again : {X : Type 0} (IsWellFormed : X → Type 0) (read : List ℕ → Option (X × List ℕ)) (spell : X → List ℕ) → ReadsAgain IsWellFormed read spell
+    → (xs : List X) (rest : List ℕ) → IsList IsWellFormed xs → list_at read (spell_list spell xs ++ rest) ≡ Some (xs, rest)
 unfolding list_at
-list_again IsRight read spell again xs rest h =
+list_again IsWellFormed read spell again xs rest h =
     ap (list_at read) (append_assoc (spell_number (length xs)) (flat_map spell xs) rest)
-    ∙ rw (number_again (length xs) (flat_map spell xs ++ rest) (omega (arith, h.few)), le-ltb _ _ h.few) (many_again IsRight read spell again xs rest h.each)
+    ∙ rw (number_again (length xs) (flat_map spell xs ++ rest) (omega (arith, h.few)), le-ltb _ _ h.few) (many_again IsWellFormed read spell again xs rest h.each)
 
 pub tumblers_again : (tumblers : List (List ℕ)) (rest : List ℕ) → IsList IsTumbler tumblers → tumblers_at (spell_list spell_tumbler tumblers ++ rest) ≡ Some (tumblers, rest)
 tumblers_again = list_again IsTumbler tumbler_at spell_tumbler tumbler_again

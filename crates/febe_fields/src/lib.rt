@@ -13,6 +13,3 @@ pub use leaf::{Leaf, LeafStep, Terminator};
 pub use lists::{span_at, spans_at, spec_at, specs_at, tumblers_at};
 pub use scanned::Scanned;
 pub use scanner::{Ahead, Field, Progress, Role, Scanner, start};
-
-#[cfg(test)]
-mod tests;

@@ -20,9 +20,10 @@ fn many_tumblers_at(
     tumblers.reserve(count as usize)?;
     let mut rest = bytes;
     for _ in 0..count {
-        let Some((tumbler, behind)) = tumbler_at(alloc, rest) else {
+        let Some(read) = tumbler_at(alloc, rest) else {
             return Ok(None);
         };
+        let (tumbler, behind) = read;
         tumblers.push_reserved(tumbler);
         rest = behind;
     }
@@ -49,8 +50,12 @@ pub fn tumblers_at(alloc: Global, bytes: &[u8]) -> Result<Option<(List<Tumbler>,
 pub fn span_at(alloc: Global, bytes: &[u8]) -> Option<(Span, &[u8])>
     ensures { Reads (λ x. (x.0, x.1.now)) result (span_at bytes.now) }
 {
-    let (start, rest) = tumbler_at(alloc, bytes)?;
-    let (width, rest) = tumbler_at(alloc, rest)?;
+    let Some((start, rest)) = tumbler_at(alloc, bytes) else {
+        return None;
+    };
+    let Some((width, rest)) = tumbler_at(alloc, rest) else {
+        return None;
+    };
     Some((Span { start, width }, rest))
 }
 

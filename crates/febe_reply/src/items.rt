@@ -24,7 +24,9 @@ fn text_item_at(alloc: Global, bytes: &[u8]) -> Result<Option<(Item, &[u8])>, Me
 fn link_item_at(alloc: Global, bytes: &[u8]) -> Option<(Item, &[u8])>
     ensures { Reads (λ x. (plain_item x.0, x.1.now)) result (link_item_at bytes.now) }
 {
-    let (id, rest) = tumbler_at(alloc, bytes)?;
+    let Some((id, rest)) = tumbler_at(alloc, bytes) else {
+        return None;
+    };
     Some((Item::Link(id), rest))
 }
 
@@ -93,7 +95,9 @@ fn position_of(places: &[u32]) -> Option<u32>
 fn text_address_at(alloc: Global, bytes: &[u8]) -> Option<(u32, &[u8])>
     ensures { Reads (λ x. (x.0, x.1.now)) result (text_address_at bytes.now) }
 {
-    let (address, rest) = tumbler_at(alloc, bytes)?;
+    let Some((address, rest)) = tumbler_at(alloc, bytes) else {
+        return None;
+    };
     let position = position_of(address.places())?;
     Some((position, rest))
 }

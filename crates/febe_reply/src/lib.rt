@@ -7,8 +7,6 @@ pub mod laws;
 mod payload;
 mod replies;
 mod scan;
-#[cfg(test)]
-mod tests;
 mod writing;
 
 pub use febe_data::{Memory, Reply, Text};

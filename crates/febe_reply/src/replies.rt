@@ -64,7 +64,9 @@ fn with_nothing_at(number: u32, bytes: &[u8]) -> Option<(Reply, &[u8])>
 fn with_tumbler_at(alloc: Global, number: u32, bytes: &[u8]) -> Option<(Reply, &[u8])>
     ensures { Reads (λ x. (plain_reply x.0, x.1.now)) result (with_tumbler_at number bytes.now) }
 {
-    let (place, rest) = tumbler_at(alloc, bytes)?;
+    let Some((place, rest)) = tumbler_at(alloc, bytes) else {
+        return None;
+    };
     match number {
         11 => Some((Reply::Created(place), rest)),
         13 => Some((Reply::Versioned(place), rest)),
@@ -108,7 +110,9 @@ fn span_set_at(alloc: Global, bytes: &[u8]) -> Result<Option<(Reply, &[u8])>, Me
 fn whole_span_at(alloc: Global, bytes: &[u8]) -> Option<(Reply, &[u8])>
     ensures { Reads (λ x. (plain_reply x.0, x.1.now)) result (whole_span_at bytes.now) }
 {
-    let (span, rest) = span_at(alloc, bytes)?;
+    let Some((span, rest)) = span_at(alloc, bytes) else {
+        return None;
+    };
     Some((Reply::WholeSpan(span), rest))
 }
 

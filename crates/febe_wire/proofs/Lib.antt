@@ -1,3 +1,5 @@
 pub mod RequestLaws
 pub mod RequestScans
 pub mod PartScans
+pub mod PartsTaken
+pub mod RequestsTaken

@@ -21,19 +21,19 @@ use Rattle.febe_wire.specs.inside.Reading.{insert_at, copy_at, rearrange_at, del
 
 -- ---- parts one behind the other, and what stands behind them
 
-one_part : (a rest : List ℕ) → (a ++ []) ++ rest ≡ a ++ rest
+pub one_part : (a rest : List ℕ) → (a ++ []) ++ rest ≡ a ++ rest
 one_part a rest = simp append-nil
 
-two_parts : (a b rest : List ℕ) → (a ++ (b ++ [])) ++ rest ≡ a ++ (b ++ rest)
+pub two_parts : (a b rest : List ℕ) → (a ++ (b ++ [])) ++ rest ≡ a ++ (b ++ rest)
 two_parts a b rest = simp (append_assoc, append-nil)
 
-three_parts : (a b c rest : List ℕ) → (a ++ (b ++ (c ++ []))) ++ rest ≡ a ++ (b ++ (c ++ rest))
+pub three_parts : (a b c rest : List ℕ) → (a ++ (b ++ (c ++ []))) ++ rest ≡ a ++ (b ++ (c ++ rest))
 three_parts a b c rest = simp (append_assoc, append-nil)
 
-four_parts : (a b c d rest : List ℕ) → (a ++ (b ++ (c ++ (d ++ [])))) ++ rest ≡ a ++ (b ++ (c ++ (d ++ rest)))
+pub four_parts : (a b c d rest : List ℕ) → (a ++ (b ++ (c ++ (d ++ [])))) ++ rest ≡ a ++ (b ++ (c ++ (d ++ rest)))
 four_parts a b c d rest = simp (append_assoc, append-nil)
 
-six_parts : (a b c d e f rest : List ℕ) → (a ++ (b ++ (c ++ (d ++ (e ++ (f ++ [])))))) ++ rest ≡ a ++ (b ++ (c ++ (d ++ (e ++ (f ++ rest)))))
+pub six_parts : (a b c d e f rest : List ℕ) → (a ++ (b ++ (c ++ (d ++ (e ++ (f ++ [])))))) ++ rest ≡ a ++ (b ++ (c ++ (d ++ (e ++ (f ++ rest)))))
 six_parts a b c d e f rest = simp (append_assoc, append-nil)
 
 -- ---- what stands behind the number
@@ -110,11 +110,11 @@ specs_alone n specs rest r h e =
     ap (with_specs_at n) (one_part (spell_list spell_spec specs) rest) ∙ rw (specs_again specs rest h, e) refl
 
 -- what is looked for is something that the grammar can spell
-record IsWant (want : PlainWant) : Type 0 where
-  homes : IsList IsSpan want.homes
-  from : IsList IsSpec want.from
-  to : IsList IsSpec want.to
-  three : IsList IsSpec want.three
+pub record IsWant (want : PlainWant) : Type 0 where
+  pub homes : IsList IsSpan want.homes
+  pub from : IsList IsSpec want.from
+  pub to : IsList IsSpec want.to
+  pub three : IsList IsSpec want.three
 
 -- how what is looked for is written, with more behind it
 abbrev spell_want : PlainWant → List ℕ → List ℕ

@@ -1,5 +1,6 @@
 -- What reading and scanning say.
-use Rattle.std.specs.Prelude.{ℕ, ◌≤◌, List, length, take}
+use Rattle.std.specs.Prelude.{ℕ, ◌≤◌, List, length, take, Option, Some, None}
+use Rattle.febe_data.specs.declared.request.Request.{Request}
 use Rattle.febe_data.specs.Plain.{PlainRequest, plain_request}
 use Rattle.febe_fields.specs.declared.scanned.Scanned.{Scanned}
 use Rattle.febe_fields.specs.declared.scanned.Scanned.TheVariants.{Incomplete, Complete}
@@ -26,3 +27,9 @@ abbrev pub IsGot : List ℕ → Got → Type 0
 IsGot bytes (got_answers.Request request used) = IsRead bytes (plain_request request) used
 IsGot bytes got_answers.More = IsUnfinished IsSpelled bytes
 IsGot bytes (got_answers.Bad at) = IsBadAt IsSpelled bytes at
+
+-- What was read at once is so: a request, and how many of the bytes spell it; or nothing, where no prefix of the bytes of
+-- this length or less is one.
+abbrev pub IsReadAtOnce : List ℕ → Option (Request × ℕ) → Type 0
+IsReadAtOnce bytes (Some x) = IsRead bytes (plain_request x.0) x.1
+IsReadAtOnce bytes None = (n : ℕ) → n ≤ length bytes → n ≤ 65536 → ¬ IsSpelled (take n bytes)

@@ -65,7 +65,11 @@ pub(crate) fn rearrange_at(alloc: Global, bytes: &[u8]) -> Result<Option<(Reques
 pub(crate) fn delete_at(alloc: Global, bytes: &[u8]) -> Option<(Request, &[u8])>
     ensures { Reads (λ x. (plain_request x.0, x.1.now)) result (delete_at bytes.now) }
 {
-    let (document, rest) = tumbler_at(alloc, bytes)?;
-    let (span, rest) = span_at(alloc, rest)?;
+    let Some((document, rest)) = tumbler_at(alloc, bytes) else {
+        return None;
+    };
+    let Some((span, rest)) = span_at(alloc, rest) else {
+        return None;
+    };
     Some((Request::Delete { document, span }, rest))
 }

@@ -43,7 +43,9 @@ pub(crate) fn create_link_at(
 pub(crate) fn follow_at(alloc: Global, bytes: &[u8]) -> Option<(Request, &[u8])>
     ensures { Reads (λ x. (plain_request x.0, x.1.now)) result (follow_at bytes.now) }
 {
-    let (link, rest) = tumbler_at(alloc, bytes)?;
+    let Some((link, rest)) = tumbler_at(alloc, bytes) else {
+        return None;
+    };
     let (end, rest) = number_at(rest)?;
     Some((Request::Follow { link, end }, rest))
 }

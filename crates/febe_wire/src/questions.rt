@@ -13,7 +13,9 @@ use tumbler::Memory;
 pub(crate) fn open_at(alloc: Global, bytes: &[u8]) -> Option<(Request, &[u8])>
     ensures { Reads (λ x. (plain_request x.0, x.1.now)) result (open_at bytes.now) }
 {
-    let (document, rest) = tumbler_at(alloc, bytes)?;
+    let Some((document, rest)) = tumbler_at(alloc, bytes) else {
+        return None;
+    };
     let (mode, rest) = mode_at(rest)?;
     let (rule, rest) = rule_at(rest)?;
     Some((
@@ -31,7 +33,9 @@ pub(crate) fn open_at(alloc: Global, bytes: &[u8]) -> Option<(Request, &[u8])>
 pub(crate) fn with_tumbler_at(alloc: Global, number: u32, bytes: &[u8]) -> Option<(Request, &[u8])>
     ensures { Reads (λ x. (plain_request x.0, x.1.now)) result (with_tumbler_at number bytes.now) }
 {
-    let (places, rest) = tumbler_at(alloc, bytes)?;
+    let Some((places, rest)) = tumbler_at(alloc, bytes) else {
+        return None;
+    };
     match number {
         1 => Some((Request::SpanSet { document: places }, rest)),
         13 => Some((Request::Version { document: places }, rest)),

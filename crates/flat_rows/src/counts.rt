@@ -2,12 +2,12 @@
 ghost use Rattle.std.specs.Prelude.{◌≡◌, ◌+◌, ◌==◌, ◌<◌, ◌^◌, IsOk, OnOk, IfOk, None, length, vec_len, vec_capacity, if◌then◌else◌};
 ghost use Rattle.std.specs.List.{position};
 ghost use Rattle.febe_data.specs.Plain.{plain_change};
-ghost use Rattle.world_rules.specs.History.{is_counted};
+ghost use Rattle.world_rules.specs.History.{is_durable};
 ghost use Rattle.world_rules.specs.FlatView.{entries_in, with_entry};
 ghost use Rattle.world_rules.specs.InPlace.{DropsOnly, HasRoom};
 
 use febe_data::Change;
-use world_rules::{SessionRow, WorldError};
+use world_rules::{SessionRow, WorldError, is_durable};
 
 /// Where the session's row is, if it has one.
 fn place_of(rows: &[SessionRow], session: u64) -> Option<usize>
@@ -52,29 +52,12 @@ pub fn count(sessions: &mut Vec<SessionRow>, session: u64)
     }
 }
 
-/// Whether the limits count the change.
-pub fn is_counted(change: &Change) -> bool
-    ensures { result ≡ is_counted (plain_change change.now) }
-{
-    match change {
-        Change::Create { .. }
-        | Change::Version { .. }
-        | Change::OpenCopy { .. }
-        | Change::Insert { .. }
-        | Change::Delete { .. }
-        | Change::Rearrange { .. }
-        | Change::Copy { .. }
-        | Change::Link { .. } => true,
-        _ => false,
-    }
-}
-
 /// How many entries are counted once the change is made, where the type has the number.
 pub fn counted_after(counted: u64, change: &Change) -> Result<u64, WorldError>
-    ensures number { IfOk result (λ number. number ≡ (if is_counted (plain_change change.now) then counted + 1 else counted)) }
+    ensures number { IfOk result (λ number. number ≡ (if is_durable (plain_change change.now) then counted + 1 else counted)) }
     ensures in_place { DropsOnly change.now → IsOk result }
 {
-    if is_counted(change) {
+    if is_durable(change) {
         return counted.checked_add(1).ok_or(WorldError::TooGreat);
     }
     Ok(counted)

@@ -8,7 +8,8 @@ ghost use Rattle.febe_data.specs.Plain.{plain_spec, plain_want};
 ghost use Rattle.world_rules.specs.World.{ascending};
 ghost use Rattle.flat_rows.specs.Sets.{is_in_set, IsSetOf, IsSetShowing};
 ghost use Rattle.flat_rows.specs.PlainLink.{plain_link};
-ghost use Rattle.flat_rows.specs.Meeting.{shares_byte, share_bytes, is_end_met, is_met};
+ghost use Rattle.world_rules.specs.Meeting.{shares_byte, share_bytes};
+ghost use Rattle.flat_rows.specs.Meeting.{is_end_met, is_met};
 ghost use Rattle.world_rules.specs.Wanted.{AreWantedRuns};
 ghost use Rattle.world_rules.specs.Finding.{documents_found, is_in_span, is_home_wanted, links_found, ids_found, ids_after};
 

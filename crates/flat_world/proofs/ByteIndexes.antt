@@ -16,7 +16,8 @@ use Rattle.world_rules.specs.declared.rows.Row.{Row}
 use Rattle.world_rules.specs.World.{is_same}
 use Rattle.flat_world.specs.inside.ByteIndex.{ByteIndex, entry_at, IsWanted, WantsMore, TakesByte}
 use Rattle.world_rules.specs.Picking.{addresses_of}
-use Rattle.flat_rows.proofs.Picked.{flat_map_at, flat_map_spec, filter_more_yes, filter_more_no}
+use Rattle.world_rules.proofs.ListTests.{flat_map_at, flat_map_spec}
+use Rattle.flat_rows.proofs.Picked.{filter_more_yes, filter_more_no}
 
 -- ---- addresses come in
 

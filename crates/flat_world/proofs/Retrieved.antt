@@ -1,11 +1,10 @@
 -- What is given, one row, span and spec after the other.
-use Rattle.std.proofs.Common.{◌≡◌, ℕ, ◌+◌, ◌<◌, ◌∙◌, ◌++◌, ◌∷◌, ◌==◌, ◌&&◌, [], Bool, true, false, List, length, take, get_or, ap, sym, refl, map, append_assoc, append-nil, length-append, arith, None, Some}
+use Rattle.std.proofs.Common.{◌≡◌, ℕ, ◌+◌, ◌<◌, ◌∙◌, ◌++◌, ◌∷◌, ◌==◌, ◌&&◌, [], Bool, true, false, List, length, take, get_or, ap, sym, refl, map, append_assoc, length-append, arith, None, Some}
 use Rattle.std.specs.Prelude.{Option, filter, if◌then◌else◌}
 use Rattle.std.specs.List.{flat_map, cons_option}
 use Rattle.std.specs.Option.{option_to_list, unwrap_or}
 use Rattle.std.proofs.lemmas.Bool.Decides.{nat_tests}
-use Rattle.std.proofs.lemmas.List.{take_more, map-append}
-use Rattle.std.proofs.lemmas.List.Concat.{flat_map-append}
+use Rattle.std.proofs.lemmas.List.{map-append}
 use Rattle.std.proofs.lemmas.List.Folds.{flat_map-map}
 use Rattle.std.proofs.lemmas.List.Elements.{filter_map-append, All-head, All-tail}
 use Rattle.tumbler.specs.declared.span.Span.{Span}
@@ -17,6 +16,7 @@ use Rattle.world_rules.specs.declared.rows.Row.{Row}
 use Rattle.world_rules.specs.World.{World, byte_at, is_text_of, is_link_of}
 use Rattle.world_rules.specs.Picking.{is_within, picked_text, picked_links, addresses_of}
 use Rattle.world_rules.specs.Answers.{items_of_span, items_of, text_of, text_item}
+use Rattle.world_rules.proofs.ListTests.{flat_map_at}
 use Rattle.flat_world.specs.inside.ByteIndex.{ByteIndex, HasByteAt, HasBytesOf, byte_of, bytes_of, item_of}
 use Rattle.flat_rows.proofs.Picked.{filter_more_yes, filter_more_no}
 use Rattle.flat_rows.proofs.Sizes.{span_fits_at, spec_fits_at}
@@ -71,10 +71,6 @@ pub span_is : (world : World) (document : List ℕ) (span : Span) (index : ByteI
     → after ≡ before ++ items_of_span world document span
 span_is world document span index rows end before between after e f indexed text links =
     links ∙ rw (text, e, f, text_by_index world index (picked_text world document span) indexed) (append_assoc before (text_item world (picked_text world document span)) (map (λ (row : Row). link row.address) (picked_links world document span)))
-
--- one more of a list of lists
-pub flat_map_at : {X Y : Type 0} (f : X → List Y) (xs : List X) (i : ℕ) (d : X) → i < length xs → flat_map f (take (i + 1) xs) ≡ flat_map f (take i xs) ++ f (get_or xs i d)
-flat_map_at f xs i d lt = rw (take_more xs i d lt, flat_map-append) (ap (λ (ys : List _). flat_map f (take i xs) ++ ys) (append-nil (f (get_or xs i d))))
 
 pub spec_items_more : (world : World) (specs : List Spec) (i : ℕ) (d : Spec) → i < length specs
     → items_of world (map plain_spec (take (i + 1) specs)) ≡ items_of world (map plain_spec (take i specs)) ++ flat_map (items_of_span world (get_or specs i d).document) (get_or specs i d).spans.items

@@ -3,7 +3,7 @@ ghost use Rattle.std.specs.Prelude.{◌≡◌, ◌++◌, ◌∷◌, [], IfOk, On
 ghost use Rattle.febe_data.specs.Plain.{plain_change, plain_spec, restarted, ended, account_changed, document_opened, document_closed, document_created, version_made, text_inserted, span_deleted, blocks_swapped, specs_copied};
 ghost use Rattle.world_rules.specs.FlatView.{FlatView};
 ghost use Rattle.world_rules.specs.Apply.{change_world, link_between};
-ghost use Rattle.world_rules.specs.History.{is_counted};
+ghost use Rattle.world_rules.specs.History.{is_durable};
 ghost use Rattle.world_rules.specs.InPlace.{DropsOnly};
 ghost use Rattle.world_rules.specs.Fitting.{IsFitting};
 ghost use Rattle.world_rules.specs.Edits.{cuts_of};
@@ -13,10 +13,11 @@ ghost use Rattle.flat_rows.specs.PlainLink.{plain_link};
 
 use crate::flat::FlatWorld;
 use febe_data::{Change, Mode, Span, Spec, Tumbler};
-use flat_rows::counts::is_counted;
 use flat_rows::{LinkRow, deletions, edits, swaps};
 use std::alloc::Global;
-use world_rules::{AccountRow, OpenRow, Part, Row, WorldError, cuts_of, extended, has_bad_span};
+use world_rules::{
+    AccountRow, OpenRow, Part, Row, WorldError, cuts_of, extended, has_bad_span, is_durable,
+};
 
 impl FlatWorld {
     /// Changes the world, and counts nothing.
@@ -31,7 +32,7 @@ impl FlatWorld {
         ensures fitting { OnOk result (IsFitting (plain_change change.now)) }
         ensures in_place { DropsOnly change.now → IsOk result }
     {
-        if is_counted(change) {
+        if is_durable(change) {
             self.change_contents(alloc, session, change)
         } else {
             self.change_session(session, change)
@@ -40,7 +41,7 @@ impl FlatWorld {
 
     /// The changes that the limits do not count: those of sessions.
     fn change_session(&mut self, session: u64, change: &Change) -> Result<(), WorldError>
-        requires { is_counted (plain_change change.now) ≡ false }
+        requires { is_durable (plain_change change.now) ≡ false }
         ensures ok { OnOk result (self.new ≡ record self.old { world = change_world self.old.world session (plain_change change.now) }) }
         ensures err { OnErr result (self.new ≡ self.old) }
         ensures fitting { IsFitting (plain_change change.now) }
@@ -65,7 +66,7 @@ impl FlatWorld {
         session: u64,
         change: &Change,
     ) -> Result<(), WorldError>
-        requires { is_counted (plain_change change.now) ≡ true }
+        requires { is_durable (plain_change change.now) ≡ true }
         ensures ok { OnOk result (self.new ≡ record self.old { world = change_world self.old.world session (plain_change change.now) }) }
         ensures err { OnErr result (self.new ≡ self.old) }
         ensures fitting { OnOk result (IsFitting (plain_change change.now)) }

@@ -37,7 +37,7 @@ impl FlatWorld {
     ghost use Rattle.febe_data.specs.Plain.{plain_entry, plain_change, plain_history};
     ghost use Rattle.world_rules.specs.FlatView.{FlatView, nothing_yet, after_entry, view_of, entries_in};
     ghost use Rattle.world_rules.specs.Apply.{world_of};
-    ghost use Rattle.world_rules.specs.History.{kept, entries_of};
+    ghost use Rattle.world_rules.specs.History.{durable_entries, entries_of};
     ghost use Rattle.world_rules.specs.InPlace.{DropsOnly, HasRoom};
     ghost use Rattle.world_rules.specs.Fitting.{IsFitting, AreFitting};
 
@@ -62,7 +62,7 @@ impl FlatWorld {
         ensures view { IfOk result (λ made. made ≡ view_of (plain_history history.now.items)) }
         ensures fitting { OnOk result (AreFitting (plain_history history.now.items)) }
         ensures world { IfOk result (λ made. made.world ≡ world_of (plain_history history.now.items)) }
-        ensures counted { IfOk result (λ made. made.counted ≡ length (kept (plain_history history.now.items))) }
+        ensures counted { IfOk result (λ made. made.counted ≡ length (durable_entries (plain_history history.now.items))) }
         ensures serials { IfOk result (λ made. (session : ℕ) → entries_in made.sessions session ≡ length (entries_of session (plain_history history.now.items))) }
     {
         let mut world = FlatWorld::new(alloc);

@@ -12,8 +12,6 @@ mod relation;
 mod requests;
 mod retrieve;
 mod runs;
-#[cfg(test)]
-mod tests;
 
 pub use flat::FlatWorld;
 pub use flat_rows::LinkRow;

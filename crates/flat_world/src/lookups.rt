@@ -6,9 +6,9 @@ use febe_data::bounds::MOST_ITEMS;
 use febe_data::{Diagonal, Entry, Item, List, Memory, Mode, Run, Spec, Tumbler, Want};
 use flat_rows::{counts, search};
 use std::alloc::Global;
-use world_rules::{Applies, End, Finds, Lookups, Size, WantedRuns, WorldError};
+use world_rules::{Apply, End, Find, LookUp, Size, WantedRuns, WorldError};
 
-impl Lookups for FlatWorld {
+impl LookUp for FlatWorld {
     ghost stands = { λ it view. it ≡ view };
 
     fn counted(&self) -> u64 {
@@ -68,7 +68,7 @@ impl Lookups for FlatWorld {
     }
 }
 
-impl Finds for FlatWorld {
+impl Find for FlatWorld {
     fn picked_length(&self, alloc: Global, specs: &[Spec]) -> Result<usize, WorldError> {
         let picked = self.picked_addresses(alloc, specs)?;
         Ok(picked.len())
@@ -149,7 +149,7 @@ impl Finds for FlatWorld {
     }
 }
 
-impl Applies for FlatWorld {
+impl Apply for FlatWorld {
     fn apply(&mut self, alloc: Global, entry: &Entry) -> Result<(), Memory> {
         Ok(self.apply_entry(alloc, entry)?)
     }

@@ -1,11 +1,11 @@
 -- The addresses of content bytes: which document they are in, and what stands between them.
 use Rattle.std.proofs.Common.{◌≡◌, ◌≢◌, ℕ, zero, suc, ◌+◌, ◌<◌, List, [], ◌∷◌, ◌++◌, length, refl, arith, ap, ◌∙◌, sym, subst, inl, inr, append_assoc}
-use Rattle.std.specs.List.{All}
 use Rattle.tumbler.specs.Address.{IsDocument}
 use Rattle.tumbler.specs.Places.{IsBefore, IsUpTo, sum}
 use Rattle.tumbler.proofs.Addresses.{one_cut}
 use Rattle.tumbler.proofs.Order.{before_cases, upto_cases}
 use Rattle.tumbler.proofs.Before.{never_before_none}
+use Rattle.tumbler.proofs.DocumentFields.{fields}
 use Rattle.tumbler.proofs.Widths.{width_at-none}
 use Rattle.granfilade.specs.Content.{so_far_on}
 use Rattle.granfilade.specs.Steps.{last_of}
@@ -65,32 +65,6 @@ less_if_before (x ∷ front) m n h = elim (before_cases x x (front ++ m ∷ []) 
 ]
 
 -- ---- a content byte's document
-
-record Fields (document : List ℕ) : Type 0 where
-  node : List ℕ
-  user : List ℕ
-  field : List ℕ
-  whole : document ≡ node ++ (0 ∷ (user ++ (0 ∷ field)))
-  with_tail : (tail : List ℕ) → document ++ tail ≡ node ++ (0 ∷ (user ++ (0 ∷ (field ++ tail))))
-  node_full : All (λ p. 0 < p) node
-  user_full : All (λ p. 0 < p) user
-  field_full : All (λ p. 0 < p) field
-
-fields : (document : List ℕ) → IsDocument document → Fields document
-fields document h =
-    let d = h.1 in
-    let a = d.account_address in
-    let whole : document ≡ a.node ++ (0 ∷ (a.user ++ (0 ∷ d.field))) = d.parts ∙ ap (λ acc. acc ++ 0 ∷ d.field) a.parts ∙ append_assoc a.node (0 ∷ a.user) (0 ∷ d.field) in
-    record {
-      node = a.node;
-      user = a.user;
-      field = d.field;
-      whole = whole;
-      with_tail = λ tail. ap (λ p. p ++ tail) whole ∙ append_assoc a.node (0 ∷ (a.user ++ (0 ∷ d.field))) tail ∙ ap (λ p. a.node ++ (0 ∷ p)) (append_assoc a.user (0 ∷ d.field) tail);
-      node_full = a.node_field.full;
-      user_full = a.user_field.full;
-      field_full = d.document_field.full;
-    }
 
 one_document : (document other rest : List ℕ) (n : ℕ) → IsDocument document → IsDocument other → document ++ 0 ∷ 1 ∷ n ∷ [] ≡ other ++ 0 ∷ 1 ∷ rest → document ≡ other
 one_document document other rest n h g e =

@@ -1,7 +1,7 @@
 pub mod Stepping
 pub mod Counting
 pub mod Picking
-pub mod RightRows
+pub mod WellFormedRows
 pub mod Finding
 pub mod TreeRows
 pub mod Documents
@@ -9,7 +9,6 @@ pub mod Beside
 pub mod Putting
 pub mod NewLeaves
 pub mod PutRows
-pub mod TestPlaces
 pub mod LastRow
 pub mod LongerRow
 pub mod ReadBytes

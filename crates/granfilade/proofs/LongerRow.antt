@@ -10,7 +10,7 @@ use Rattle.tumbler.proofs.Order.{upto_upto, upto_if_before, upto_itself, before_
 use Rattle.tumbler.proofs.Sums.{sum-upto}
 use Rattle.tumbler.proofs.Widths.{EndsWell-width_at}
 use Rattle.tumbler.proofs.Before.{before_if_true, true_if_before, false_if_up_to, up_to_if_false}
-use Rattle.enfilade_core.specs.Axes.{InOrder, IsRightRow, IsRightRows}
+use Rattle.enfilade_core.specs.Axes.{InOrder, IsWellFormedRow, IsWellFormedRows}
 use Rattle.enfilade_core.specs.Planes.{content_widths}
 use Rattle.enfilade_core.specs.Exchange.{exchanged, rows_before, rows_past}
 use Rattle.enfilade_core.specs.Edits.{last_before, shifted}
@@ -24,7 +24,7 @@ use Rattle.granfilade.specs.declared.lengthened.Lengthened.{Lengthened}
 use Rattle.granfilade.specs.Puts.{IsByteOf, IsByteAddress, IsNext, IsLeaf, end_of_row, Linked, IsContent, put_in}
 use Rattle.granfilade.specs.Leaves.{AreLeaves}
 use Rattle.granfilade.proofs.Stepping.{steps-before}
-use Rattle.granfilade.proofs.RightRows.{row_filled, row_some}
+use Rattle.granfilade.proofs.WellFormedRows.{row_filled, row_some}
 use Rattle.granfilade.proofs.Documents.{step-none, step-twice, last-step}
 use Rattle.granfilade.proofs.Beside.{StaysBelow, back-past, front-row}
 use Rattle.granfilade.proofs.NewLeaves.{laid-append}
@@ -78,29 +78,29 @@ linked-between said from reach front new back b =
 
 -- ---- the longer row and those behind it
 
-pub right_of_last : (start : List ℕ) (rows : List RowOf) (row : RowOf) → All (IsRightRow content_widths) rows → InOrder rows → last_before start rows ≡ Some row → IsRightRow content_widths row
-right_of_last start rows row right order last =
+pub well_formed_of_last : (start : List ℕ) (rows : List RowOf) (row : RowOf) → All (IsWellFormedRow content_widths) rows → InOrder rows → last_before start rows ≡ Some row → IsWellFormedRow content_widths row
+well_formed_of_last start rows row well_formed order last =
     let s = split_at_last start rows row order last in
-    All-head (IsRightRow content_widths) row s.back (All-back (IsRightRow content_widths) s.front (row ∷ s.back) (subst (All (IsRightRow content_widths)) s.is right))
+    All-head (IsWellFormedRow content_widths) row s.back (All-back (IsWellFormedRow content_widths) s.front (row ∷ s.back) (subst (All (IsWellFormedRow content_widths)) s.is well_formed))
 
 -- a put that lengthens the last row, which is the row of a tree
 pub record IsLonger (start bytes : List ℕ) (rows : List RowOf) (row : RowOf) (new : List RowOf) : Type 0 where
   pub next : IsNext start (laid_out rows)
-  pub right : All (IsRightRow content_widths) rows
+  pub well_formed : All (IsWellFormedRow content_widths) rows
   pub order : InOrder rows
   pub parts : SplitAt start rows row
   pub ends : end_of_row row ≡ start
   pub made : AreLeaves row.first (row.leaf.items ++ bytes) new
 
 module _ (start bytes : List ℕ) (rows : List RowOf) (row : RowOf) (new : List RowOf) (h : IsLonger start bytes rows row new) where
-  row_right : IsRightRow content_widths row
-  row_right = let s = h.parts in All-head (IsRightRow content_widths) row s.back (All-back (IsRightRow content_widths) s.front (row ∷ s.back) (subst (All (IsRightRow content_widths)) s.is h.right))
+  row_well_formed : IsWellFormedRow content_widths row
+  row_well_formed = let s = h.parts in All-head (IsWellFormedRow content_widths) row s.back (All-back (IsWellFormedRow content_widths) s.front (row ∷ s.back) (subst (All (IsWellFormedRow content_widths)) s.is h.well_formed))
 
   pub row_byte : IsByteOf row.first h.next.document
-  row_byte = byte_from_end start h.next.document row h.next.address row_right.first_place (row_filled row row_right) h.ends
+  row_byte = byte_from_end start h.next.document row h.next.address row_well_formed.first_coordinate (row_filled row row_well_formed) h.ends
 
-  back_right : All (IsRightRow content_widths) h.parts.back
-  back_right = let s = h.parts in All-tail (IsRightRow content_widths) row s.back (All-back (IsRightRow content_widths) s.front (row ∷ s.back) (subst (All (IsRightRow content_widths)) s.is h.right))
+  back_well_formed : All (IsWellFormedRow content_widths) h.parts.back
+  back_well_formed = let s = h.parts in All-tail (IsWellFormedRow content_widths) row s.back (All-back (IsWellFormedRow content_widths) s.front (row ∷ s.back) (subst (All (IsWellFormedRow content_widths)) s.is h.well_formed))
 
   stays : All (StaysBelow start h.next.document) (h.parts.front ++ row ∷ h.parts.back)
   stays = subst (All (StaysBelow start h.next.document)) h.parts.is (stay_below start rows h.next)
@@ -113,15 +113,15 @@ module _ (start bytes : List ℕ) (rows : List RowOf) (row : RowOf) (new : List 
       ap (so_far_on row.first) (length-append row.leaf.items bytes) ∙ sym (step-twice row.first h.next.document row_byte (length row.leaf.items) (length bytes)) ∙ ap (λ a. so_far_on a (length bytes)) h.ends
 
   far_rows : All (λ y. IsUpTo (so_far_on start (length bytes)) y.first) h.parts.back
-  far_rows = far h.parts.back back_right back_stays h.parts.past
+  far_rows = far h.parts.back back_well_formed back_stays h.parts.past
     where
-      far : (back : List RowOf) → All (IsRightRow content_widths) back → All (StaysBelow start h.next.document) back → All (λ r. comes_before r.first start ≡ false) back → All (λ y. IsUpTo (so_far_on start (length bytes)) y.first) back
-      far [] right stay past = All-nil (λ y. IsUpTo (so_far_on start (length bytes)) y.first)
-      far (r ∷ rs) right stay past =
+      far : (back : List RowOf) → All (IsWellFormedRow content_widths) back → All (StaysBelow start h.next.document) back → All (λ r. comes_before r.first start ≡ false) back → All (λ y. IsUpTo (so_far_on start (length bytes)) y.first) back
+      far [] well_formed stay past = All-nil (λ y. IsUpTo (so_far_on start (length bytes)) y.first)
+      far (r ∷ rs) well_formed stay past =
           All-cons (λ y. IsUpTo (so_far_on start (length bytes)) y.first) r rs
-          (back-past start h.next.document r (length bytes) h.next.address (row_some r (All-head (IsRightRow content_widths) r rs right)) (All-head (StaysBelow start h.next.document) r rs stay)
+          (back-past start h.next.document r (length bytes) h.next.address (row_some r (All-head (IsWellFormedRow content_widths) r rs well_formed)) (All-head (StaysBelow start h.next.document) r rs stay)
           (up_to_if_false r.first start (All-head (λ r. comes_before r.first start ≡ false) r rs past)))
-          (far rs (All-tail (IsRightRow content_widths) r rs right) (All-tail (StaysBelow start h.next.document) r rs stay) (All-tail (λ r. comes_before r.first start ≡ false) r rs past))
+          (far rs (All-tail (IsWellFormedRow content_widths) r rs well_formed) (All-tail (StaysBelow start h.next.document) r rs stay) (All-tail (λ r. comes_before r.first start ≡ false) r rs past))
 
   start_reach : IsUpTo row.first (so_far_on start (length bytes))
   start_reach =
@@ -158,10 +158,10 @@ module _ (start bytes : List ℕ) (rows : List RowOf) (row : RowOf) (new : List 
         back_past = far_rows;
       })
 
-  pub longer-right : (gap : Gap) → gap.from ≡ row.first → gap.to ≡ start → gap.onto ≡ start → IsRightRows content_widths (exchanged gap new rows)
-  longer-right gap f t o = subst (IsRightRows content_widths) (sym (exchanged-is gap f t o)) record {
-    each = All-append (IsRightRow content_widths) (rows_before row.first rows ++ new) h.parts.back
-        (All-append (IsRightRow content_widths) (rows_before row.first rows) new (All-filter (λ r. comes_before r.first row.first) (IsRightRow content_widths) rows h.right) h.made.right) back_right;
+  pub longer-well_formed : (gap : Gap) → gap.from ≡ row.first → gap.to ≡ start → gap.onto ≡ start → IsWellFormedRows content_widths (exchanged gap new rows)
+  longer-well_formed gap f t o = subst (IsWellFormedRows content_widths) (sym (exchanged-is gap f t o)) record {
+    each = All-append (IsWellFormedRow content_widths) (rows_before row.first rows ++ new) h.parts.back
+        (All-append (IsWellFormedRow content_widths) (rows_before row.first rows) new (All-filter (λ r. comes_before r.first row.first) (IsWellFormedRow content_widths) rows h.well_formed) h.made.well_formed) back_well_formed;
     ordered = ordered_now;
   }
 
@@ -179,10 +179,10 @@ module _ (start bytes : List ℕ) (rows : List RowOf) (row : RowOf) (new : List 
   front_before : IsContent rows → All (λ r. comes_before r.first row.first ≡ true) h.parts.front
   front_before old =
       let s = h.parts in
-      all_both (IsRightRow content_widths) (λ x. IsUpTo (end_of_row x) row.first) (λ r. comes_before r.first row.first ≡ true)
-      (λ r right le. true_if_before r.first row.first (before_upto r.first (end_of_row r) row.first
-      (subst (λ a. IsBefore a (end_of_row r)) (step-none r.first) (steps-before r.first 0 (length r.leaf.items) (row_filled r right) (row_some r right))) le))
-      s.front (All-front (IsRightRow content_widths) s.front (row ∷ s.back) (subst (All (IsRightRow content_widths)) s.is h.right)) (front_seam old)
+      all_both (IsWellFormedRow content_widths) (λ x. IsUpTo (end_of_row x) row.first) (λ r. comes_before r.first row.first ≡ true)
+      (λ r well_formed le. true_if_before r.first row.first (before_upto r.first (end_of_row r) row.first
+      (subst (λ a. IsBefore a (end_of_row r)) (step-none r.first) (steps-before r.first 0 (length r.leaf.items) (row_filled r well_formed) (row_some r well_formed))) le))
+      s.front (All-front (IsWellFormedRow content_widths) s.front (row ∷ s.back) (subst (All (IsWellFormedRow content_widths)) s.is h.well_formed)) (front_seam old)
 
   before_are : IsContent rows → rows_before row.first rows ≡ h.parts.front
   before_are old =
@@ -219,12 +219,12 @@ module _ (start bytes : List ℕ) (rows : List RowOf) (row : RowOf) (new : List 
   new_laid = h.made.are_laid ∙ laid-append row.first h.next.document row_byte row.leaf.items bytes ∙ ap (λ a. laid_row row ++ laid a bytes) h.ends
 
   back_in : put_in start (laid start bytes) (laid_out h.parts.back) ≡ laid start bytes ++ laid_out h.parts.back
-  back_in = placed h.parts.back back_right h.parts.past
+  back_in = placed h.parts.back back_well_formed h.parts.past
     where
-      placed : (back : List RowOf) → All (IsRightRow content_widths) back → All (λ r. comes_before r.first start ≡ false) back → put_in start (laid start bytes) (laid_out back) ≡ laid start bytes ++ laid_out back
-      placed [] right past = sym (append-nil (laid start bytes))
-      placed (r ∷ rs) right past =
-          put_in-row start (laid start bytes) r.first r.leaf.items (laid_out rs) (row_some r (All-head (IsRightRow content_widths) r rs right)) (All-head (λ r. comes_before r.first start ≡ false) r rs past)
+      placed : (back : List RowOf) → All (IsWellFormedRow content_widths) back → All (λ r. comes_before r.first start ≡ false) back → put_in start (laid start bytes) (laid_out back) ≡ laid start bytes ++ laid_out back
+      placed [] well_formed past = sym (append-nil (laid start bytes))
+      placed (r ∷ rs) well_formed past =
+          put_in-row start (laid start bytes) r.first r.leaf.items (laid_out rs) (row_some r (All-head (IsWellFormedRow content_widths) r rs well_formed)) (All-head (λ r. comes_before r.first start ≡ false) r rs past)
 
   front_bytes : IsContent rows → All (λ (at : ByteAt). comes_before at.address start ≡ true) (laid_out h.parts.front)
   front_bytes old =
@@ -263,11 +263,11 @@ module _ (start bytes : List ℕ) (rows : List RowOf) (row : RowOf) (new : List 
 abbrev last_split : (start bytes : List ℕ) (rows : List RowOf) (made : Lengthened) → InOrder rows → (l : Lengthens start bytes rows made) → SplitAt start rows l.row
 last_split start bytes rows made order l = split_at_last start rows l.row order l.last
 
-pub longer : (start bytes : List ℕ) (rows : List RowOf) (made : Lengthened) (text : List ℕ) (new : List RowOf) → IsNext start (laid_out rows) → All (IsRightRow content_widths) rows → InOrder rows → (l : Lengthens start bytes rows made)
+pub longer : (start bytes : List ℕ) (rows : List RowOf) (made : Lengthened) (text : List ℕ) (new : List RowOf) → IsNext start (laid_out rows) → All (IsWellFormedRow content_widths) rows → InOrder rows → (l : Lengthens start bytes rows made)
     → text ≡ made.text.items → AreLeaves made.from text new → IsLonger start bytes rows l.row new
-longer start bytes rows made text new next right order l is leaves = record {
+longer start bytes rows made text new next well_formed order l is leaves = record {
   next = next;
-  right = right;
+  well_formed = well_formed;
   order = order;
   parts = last_split start bytes rows made order l;
   ends = l.ends;
@@ -279,13 +279,13 @@ pub record HasRoom (from : List ℕ) (count : ℕ) : Type 0 where
   pub address : IsByteAddress from
   pub room : last_of from + count < place_bound
 
-pub longer-room : (start bytes : List ℕ) (rows : List RowOf) (made : Lengthened) (text : List ℕ) → IsNext start (laid_out rows) → All (IsRightRow content_widths) rows → InOrder rows → (l : Lengthens start bytes rows made) → text ≡ made.text.items
+pub longer-room : (start bytes : List ℕ) (rows : List RowOf) (made : Lengthened) (text : List ℕ) → IsNext start (laid_out rows) → All (IsWellFormedRow content_widths) rows → InOrder rows → (l : Lengthens start bytes rows made) → text ≡ made.text.items
     → last_of start + length bytes < place_bound → HasRoom made.from (length text)
-longer-room start bytes rows made text next right order l is room =
+longer-room start bytes rows made text next well_formed order l is room =
     let row = l.row in
     let n = length row.leaf.items in
-    let r = right_of_last start rows row right order l.last in
-    let b = byte_from_end start next.document row next.address r.first_place (row_filled row r) l.ends in
+    let r = well_formed_of_last start rows row well_formed order l.last in
+    let b = byte_from_end start next.document row next.address r.first_coordinate (row_filled row r) l.ends in
     let long : length text ≡ n + length bytes = ap length (is ∙ l.text) ∙ length-append row.leaf.items bytes in
     let last : last_of start ≡ last_of row.first + n = ap last_of (sym l.ends) ∙ last-step row.first next.document b n in
     let from : last_of made.from ≡ last_of row.first = ap last_of l.place in

@@ -10,7 +10,7 @@ use Rattle.tumbler.specs.Places.{place_bound, IsTumbler, IsUpTo, sum, width_at}
 use Rattle.tumbler.proofs.Order.{upto_upto, upto_itself}
 use Rattle.tumbler.proofs.Sums.{sum-upto}
 use Rattle.tumbler.proofs.Widths.{EndsWell-width_at, width_at-is_tumbler, width_at-not_zero, length-width_at}
-use Rattle.enfilade_core.specs.Axes.{IsRightRow}
+use Rattle.enfilade_core.specs.Axes.{IsWellFormedRow}
 use Rattle.enfilade_core.specs.Plain.{plain_row}
 use Rattle.enfilade_core.specs.Planes.{as_place, content_widths, plain_text}
 use Rattle.granfilade.specs.Content.{ByteAt, so_far_on, laid_from, laid, laid_row, laid_out}
@@ -22,7 +22,7 @@ use Rattle.granfilade.proofs.Documents.{address-last, last_of-last, step-in, ste
 use Rattle.granfilade.proofs.Picking.{take-none}
 use Rattle.granfilade.proofs.Putting.{RowOf, linked-join}
 
--- ---- a right row
+-- ---- a well formed row
 
 none_is_tumbler : IsTumbler []
 none_is_tumbler = record { few = omega arith; small = All-nil (λ p. p < place_bound); ends = λ _. refl }
@@ -31,16 +31,16 @@ filled : (xs : List ℕ) → xs ≢ [] → 0 < length xs
 filled [] some = absurd (some refl)
 filled (x ∷ xs) some = omega arith
 
-right_zero : (first second : List ℕ) (leaf : ListView ℕ) → second ≡ [] → IsTumbler first → first ≢ [] → 0 < length leaf.items → last_of first + length leaf.items < place_bound
-    → IsRightRow content_widths (record { first = first; second = second; leaf = leaf })
-right_zero first second leaf none t some has room =
+well_formed_zero : (first second : List ℕ) (leaf : ListView ℕ) → second ≡ [] → IsTumbler first → first ≢ [] → 0 < length leaf.items → last_of first + length leaf.items < place_bound
+    → IsWellFormedRow content_widths (record { first = first; second = second; leaf = leaf })
+well_formed_zero first second leaf none t some has room =
     let n = length leaf.items in
     let wide : as_place n ≡ n = ap (λ b. cond b n 0) (lt-ltb n place_bound (omega (arith, room))) in
     let back : width_at (length first) n ≡ width_at (length first) (as_place n) = ap (width_at (length first)) (sym wide) in
     let second_is : IsTumbler second = subst IsTumbler (sym none) none_is_tumbler in
     record {
-      first_place = t;
-      second_place = second_is;
+      first_coordinate = t;
+      second_coordinate = second_is;
       first_width = subst IsTumbler back (width_at-is_tumbler (length first) n t.few (omega (arith, room)));
       second_width = none_is_tumbler;
       first_end = subst (λ w. IsTumbler (sum first w)) back (step_is_tumbler first n t room);
@@ -79,7 +79,7 @@ laid-append start document b xs ys =
 pub leaves-none : (start : List ℕ) → AreLeaves start [] []
 leaves-none start = record {
   are_laid = refl;
-  right = All-nil (IsRightRow content_widths);
+  well_formed = All-nil (IsWellFormedRow content_widths);
   leaves = All-nil IsLeaf;
   past = All-nil (λ row. IsUpTo start row.first);
   ended = All-nil (λ row. IsUpTo (end_of_row row) (so_far_on start 0));
@@ -114,8 +114,8 @@ leaves-next start document b front rows row t h at none has short room =
           ∙ ap (λ (bs : List ByteAt). bs ++ laid_row row) h.are_laid
           ∙ ap (λ a. laid start front ++ laid a bytes) at
           ∙ sym (laid-append start document b front bytes);
-      right = All-push (IsRightRow content_widths) rows row h.right
-          (right_zero row.first row.second row.leaf none (subst IsTumbler (sym at) (step_is_tumbler start d t (omega (arith, room)))) (byte_filled row.first document here) has (omega (arith, last, room)));
+      well_formed = All-push (IsWellFormedRow content_widths) rows row h.well_formed
+          (well_formed_zero row.first row.second row.leaf none (subst IsTumbler (sym at) (step_is_tumbler start d t (omega (arith, room)))) (byte_filled row.first document here) has (omega (arith, last, room)));
       leaves = All-push IsLeaf rows row h.leaves (record { document = document; address = here; second = none; filled = has; short = short });
       past = All-push (λ r. IsUpTo start r.first) rows row h.past (subst (IsUpTo start) (sym at) (sum-upto start (width_at (length start) d) (EndsWell-width_at (length start) d)));
       ended = subst (λ m. All (End m) (rows ++ row ∷ [])) (sym whole) ended;

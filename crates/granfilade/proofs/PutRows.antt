@@ -7,14 +7,14 @@ use Rattle.tumbler.proofs.Order.{upto_upto, upto_if_before}
 use Rattle.tumbler.proofs.Before.{before_if_true, up_to_if_false}
 use Rattle.tumbler.proofs.Sums.{sum-upto}
 use Rattle.tumbler.proofs.Widths.{EndsWell-width_at}
-use Rattle.enfilade_core.specs.Axes.{InOrder, IsRightRow}
+use Rattle.enfilade_core.specs.Axes.{InOrder, IsWellFormedRow}
 use Rattle.enfilade_core.specs.Planes.{content_widths}
 use Rattle.enfilade_core.specs.Edits.{put_before}
 use Rattle.enfilade_core.proofs.Orders.{All-unflat}
 use Rattle.granfilade.specs.Content.{ByteAt, so_far_on, laid, laid_row, laid_out}
 use Rattle.granfilade.specs.Puts.{IsByteOf, IsBelow, IsNext, IsLeaf, end_of_row, IsContent, put_in}
 use Rattle.granfilade.specs.Leaves.{AreLeaves}
-use Rattle.granfilade.proofs.RightRows.{row_some}
+use Rattle.granfilade.proofs.WellFormedRows.{row_some}
 use Rattle.granfilade.proofs.Beside.{StaysBelow, front-end, back-past, front-row}
 use Rattle.granfilade.proofs.Putting.{RowOf, All-put, Parts, linked-put, linked_if_ordered, ordered_if_linked, linked-weaker, LaysBeside, laid-put}
 
@@ -40,19 +40,19 @@ past_all start document bytes new row c some stays made e =
 behind_all : (start bytes place : List ℕ) (new : List RowOf) → IsUpTo place start → AreLeaves start bytes new → All (λ r. IsUpTo place r.first) new
 behind_all start bytes place new le made = All-weaker (λ r. IsUpTo start r.first) (λ r. IsUpTo place r.first) (λ r past. upto_upto place start r.first le past) new made.past
 
-pub put-ordered : (start bytes : List ℕ) (new rows : List RowOf) → IsNext start (laid_out rows) → All (IsRightRow content_widths) rows → InOrder rows → AreLeaves start bytes new → InOrder (put_before start new rows)
-put-ordered start bytes new rows next right order made =
+pub put-ordered : (start bytes : List ℕ) (new rows : List RowOf) → IsNext start (laid_out rows) → All (IsWellFormedRow content_widths) rows → InOrder rows → AreLeaves start bytes new → InOrder (put_before start new rows)
+put-ordered start bytes new rows next well_formed order made =
     let document = next.document in
     let first : RowOf → List ℕ = λ r. r.first in
     ordered_if_linked (put_before start new rows)
     (linked-put first start new rows (linked-weaker end_of_row first first_up_to_end new made.apart) (linked_if_ordered rows order) order
-    (all_both (IsRightRow content_widths) (StaysBelow start document) (Parts first start new)
+    (all_both (IsWellFormedRow content_widths) (StaysBelow start document) (Parts first start new)
     (λ row r stays. record {
       front = λ e. behind_all start bytes row.first new (upto_if_before row.first start (before_if_true row.first start e)) made;
       back = λ e. All-weaker (λ n. IsUpTo (end_of_row n) row.first) (λ n. IsUpTo n.first row.first) (λ n le. upto_upto n.first (end_of_row n) row.first (first_up_to_end n) le) new
           (past_all start document bytes new row next.address (row_some row r) stays made e);
     })
-    rows right (stay_below start rows next)))
+    rows well_formed (stay_below start rows next)))
 
 pub put-content : (start bytes : List ℕ) (new rows : List RowOf) → IsNext start (laid_out rows) → InOrder rows → AreLeaves start bytes new → IsContent rows → IsContent (put_before start new rows)
 put-content start bytes new rows next order made old =

@@ -4,7 +4,7 @@ ghost use Rattle.tumbler.specs.Places.{place_bound};
 ghost use Rattle.tumbler.specs.Span.{SpanFits};
 ghost use Rattle.enfilade_core.specs.Rows.{rows_of, node_at};
 ghost use Rattle.enfilade_core.specs.Exchange.{Grows};
-ghost use Rattle.enfilade_core.specs.Standing.{tree_debt, tree_allows, has_lone_child};
+ghost use Rattle.enfilade_core.specs.BalanceState.{tree_debt, tree_allows, has_lone_child};
 ghost use Rattle.enfilade_balance.specs.Steps.{root_after, is_idle, is_dropped};
 ghost use Rattle.granfilade.specs.Content.{ContentTree, laid, content, tree_rows, laid_out, bytes_in};
 ghost use Rattle.granfilade.specs.Steps.{last_of};

@@ -6,7 +6,5 @@ mod leaves;
 mod lengthened;
 mod parts;
 mod reading;
-#[cfg(test)]
-mod tests;
 
 pub use granfilade::Granfilade;

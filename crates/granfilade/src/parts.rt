@@ -4,7 +4,7 @@ ghost use Rattle.std.specs.Io.{StartsWith};
 ghost use Rattle.tumbler.specs.Places.{place_bound, IsTumbler, comes_before};
 ghost use Rattle.tumbler.specs.Span.{end_of};
 ghost use Rattle.enfilade_core.specs.Rows.{moved};
-ghost use Rattle.enfilade_core.specs.Axes.{IsRightRow, InOrder};
+ghost use Rattle.enfilade_core.specs.Axes.{IsWellFormedRow, InOrder};
 ghost use Rattle.enfilade_core.specs.Plain.{plain_row};
 ghost use Rattle.enfilade_core.specs.Planes.{content_widths, plain_text};
 ghost use Rattle.granfilade.specs.Content.{so_far_on, laid, laid_out, bytes_in};
@@ -95,7 +95,7 @@ pub(crate) fn append_rows(
     end: &Tumbler,
     into: &mut Text,
 ) -> Result<(), Memory>
-    requires right { All (IsRightRow content_widths) (map (moved first.now second.now) (map (plain_row plain_text) rows.now)) }
+    requires well_formed { All (IsWellFormedRow content_widths) (map (moved first.now second.now) (map (plain_row plain_text) rows.now)) }
     requires ordered { InOrder (map (moved first.now second.now) (map (plain_row plain_text) rows.now)) }
     requires start { IsTumbler span.now.start }
     requires end { end.now ≡ end_of span.now }

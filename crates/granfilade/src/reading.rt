@@ -45,8 +45,8 @@ pub(crate) fn append_node(
     }
 }
 
-/// The same of what is below a child of a node that is seen from a base. The answer is whether bytes behind the child can
-/// be in the span too.
+/// Adds to `into` the bytes below a child whose address is in the span, where the child's node is seen from a base and
+/// `end` is the span's end. The answer is whether bytes behind the child can be in the span too.
 #[cycle(below)]
 fn append_child(
     arena: &Arena<ContentPlane>,

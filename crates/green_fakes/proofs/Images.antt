@@ -6,12 +6,14 @@ use Rattle.green_io.specs.declared.disk.DiskFailed.{DiskFailed}
 use Rattle.green_io.specs.Areas.{Areas, area_of, is_same, IsSameBeside, InArea}
 use Rattle.green_io.specs.Disk.{images_now, Torn, PartlyCut, Changes, LeftBy, Nothing, LeavesOnly}
 use Rattle.green_fakes.specs.MemoryView.{one_more}
-use Rattle.green_fakes.specs.DiskView.{DiskView, after_step, bytes_after, areas_after, areas_of, Writes, Cuts, Syncs}
+use Rattle.green_fakes.specs.DiskView.{DiskView, after_step, bytes_after, areas_after, areas_of, next_turn, FailsBy, FailsToSync, Writes, Cuts, Syncs}
 use Rattle.green_fakes.specs.DiskImages.{IsTornBy, is_sync, IsLeftByStep, IsLeftWhere, IsLeft, IsImage, state_of}
 use Rattle.green_fakes.specs.DiskLaws.{unwritten_torn, bytes_left, image_now}
 use Rattle.green_fakes.specs.declared.change.Step.{Step}
 use Rattle.green_fakes.specs.declared.change.Step.TheVariants.{Write, FailedWrite, Cut, FailedCut, Sync}
 use Rattle.green_fakes.specs.declared.change.Change.{Change}
+use Rattle.green_fakes.specs.declared.turn.Turn.{Turn}
+use Rattle.green_fakes.specs.declared.turn.Turn.TheVariants.{Succeeds, Fails, Over}
 
 -- what a step that is no sync leaves was made of something that was left before
 step_was : (sync : Bool) (step : Step) (reads : List ℕ) (left : List ℕ → Type 0) (image : List ℕ) → sync ≡ false → IsLeftByStep sync step reads left image → (old : List ℕ) × left old × IsTornBy step old image
@@ -68,6 +70,7 @@ changed old area step calls faults = record {
   calls = calls;
   failing = old.failing;
   faults = faults;
+  shortages = old.shortages;
 }
 
 -- the images behind a change are those before it, and those that the change may leave
@@ -86,8 +89,8 @@ torn_leaves old new area step calls faults R is le plain follows =
     (by.0, (omega arith, image_now old.first old.changes old.calls by.0 by.1), by.2)))
 
 -- a call that changes nothing leaves nothing new
-pub quiet_leaves : (old new : DiskView) (calls faults : ℕ) (P : Areas → Type 0) → new ≡ record old { calls = calls; faults = faults } → old.calls ≤ calls → LeavesOnly (state_of old) (state_of new) P
-quiet_leaves old new calls faults P is le =
+pub quiet_leaves : (old new : DiskView) (calls faults shortages : ℕ) (P : Areas → Type 0) → new ≡ record old { calls = calls; faults = faults; shortages = shortages } → old.calls ≤ calls → LeavesOnly (state_of old) (state_of new) P
+quiet_leaves old new calls faults shortages P is le =
     subst (λ (v : DiskView). LeavesOnly (state_of old) (state_of v) P) (sym is) record {
       later = le;
       keeps = λ t i at was. (omega (arith, at, le), was.1);
@@ -97,25 +100,30 @@ quiet_leaves old new calls faults P is le =
 calls_is : (old new : DiskView) (calls : ℕ) → old.calls ≤ new.calls → new.calls ≡ calls → old.calls ≤ calls
 calls_is old new calls le is = omega (arith, le, is)
 
+-- what a call that failed leaves, where it is noted and where it is not
+fails_leave : (old new : DiskView) (area : Area) (step : Step) (R : List ℕ → List ℕ → Type 0) (turn : Turn) → FailsBy turn old new area step → old.calls ≤ new.calls → is_sync step ≡ false → ((x y : List ℕ) → IsTornBy step x y → R x y) → LeavesOnly (state_of old) (state_of new) (LeftBy area R (images_now (state_of old)))
+fails_leave old new area step R Succeeds is le plain follows =
+    quiet_leaves old new (one_more old.calls) (one_more old.faults) (one_more old.shortages) (LeftBy area R (images_now (state_of old))) is (calls_is old new (one_more old.calls) le (ap (λ (v : DiskView). v.calls) is))
+fails_leave old new area step R Fails (inl is) le plain follows =
+    torn_leaves old new area step (one_more old.calls) (one_more old.faults) R is (calls_is old new (one_more old.calls) le (ap (λ (v : DiskView). v.calls) is)) plain follows
+fails_leave old new area step R Fails (inr is) le plain follows =
+    quiet_leaves old new (one_more old.calls) (one_more old.faults) (one_more old.shortages) (LeftBy area R (images_now (state_of old))) is (calls_is old new (one_more old.calls) le (ap (λ (v : DiskView). v.calls) is))
+fails_leave old new area step R Over is le plain follows =
+    quiet_leaves old new (one_more old.calls) (one_more old.faults) old.shortages (LeftBy area R (images_now (state_of old))) is (calls_is old new (one_more old.calls) le (ap (λ (v : DiskView). v.calls) is))
+
 pub writes_leave : (old new : DiskView) (area : Area) (at : ℕ) (bytes : List ℕ) (answer : Result (Unit {0}) DiskFailed) → Writes old new area at bytes answer → old.calls ≤ new.calls → LeavesOnly (state_of old) (state_of new) (LeftBy area (Torn at (length bytes)) (images_now (state_of old)))
 writes_leave old new area at bytes (Ok done) (text, same, (turn, is)) le =
     torn_leaves old new area (Write at text) (one_more old.calls) old.faults (Torn at (length bytes)) is (calls_is old new (one_more old.calls) le (ap (λ (v : DiskView). v.calls) is)) refl
     (λ x y torn. subst (λ (l : List ℕ). Torn at (length l) x y) same torn)
-writes_leave old new area at bytes (Err failed) (inl is) le =
-    quiet_leaves old new (one_more old.calls) (one_more old.faults) (LeftBy area (Torn at (length bytes)) (images_now (state_of old))) is (calls_is old new (one_more old.calls) le (ap (λ (v : DiskView). v.calls) is))
-writes_leave old new area at bytes (Err failed) (inr (turn, is)) le =
-    torn_leaves old new area (FailedWrite at (length bytes)) (one_more old.calls) (one_more old.faults) (Torn at (length bytes)) is (calls_is old new (one_more old.calls) le (ap (λ (v : DiskView). v.calls) is)) refl
-    (λ x y torn. torn)
+writes_leave old new area at bytes (Err failed) is le =
+    fails_leave old new area (FailedWrite at (length bytes)) (Torn at (length bytes)) (next_turn old) is le refl (λ x y torn. torn)
 
 pub cuts_leave : (old new : DiskView) (area : Area) (n : ℕ) (answer : Result (Unit {0}) DiskFailed) → Cuts old new area n answer → old.calls ≤ new.calls → LeavesOnly (state_of old) (state_of new) (LeftBy area (PartlyCut n) (images_now (state_of old)))
 cuts_leave old new area n (Ok done) (turn, is) le =
     torn_leaves old new area (Cut n) (one_more old.calls) old.faults (PartlyCut n) is (calls_is old new (one_more old.calls) le (ap (λ (v : DiskView). v.calls) is)) refl
     (λ x y torn. torn)
-cuts_leave old new area n (Err failed) (inl is) le =
-    quiet_leaves old new (one_more old.calls) (one_more old.faults) (LeftBy area (PartlyCut n) (images_now (state_of old))) is (calls_is old new (one_more old.calls) le (ap (λ (v : DiskView). v.calls) is))
-cuts_leave old new area n (Err failed) (inr (turn, is)) le =
-    torn_leaves old new area (FailedCut n) (one_more old.calls) (one_more old.faults) (PartlyCut n) is (calls_is old new (one_more old.calls) le (ap (λ (v : DiskView). v.calls) is)) refl
-    (λ x y torn. torn)
+cuts_leave old new area n (Err failed) is le =
+    fails_leave old new area (FailedCut n) (PartlyCut n) (next_turn old) is le refl (λ x y torn. torn)
 
 -- what a sync leaves was left before
 sync_left : (same : Bool) (reads : List ℕ) (left : List ℕ → Type 0) (image : List ℕ) → left reads → IsLeftWhere same Sync reads left image → left image
@@ -126,6 +134,14 @@ sync_image : (first : Areas) (changes : List Change) (before : ℕ) (area : Area
 sync_image first changes before area image is a =
     sync_left (is_same area a) (bytes_after a (area_of a first) changes) (IsLeft a (area_of a first) changes) (area_of a image) (bytes_left a (area_of a first) changes) (is a)
 
+unsynced_leaves : (old new : DiskView) (turn : Turn) → FailsToSync turn old new → old.calls ≤ new.calls → LeavesOnly (state_of old) (state_of new) Nothing
+unsynced_leaves old new Succeeds is le =
+    quiet_leaves old new (one_more old.calls) (one_more old.faults) (one_more old.shortages) Nothing is (calls_is old new (one_more old.calls) le (ap (λ (v : DiskView). v.calls) is))
+unsynced_leaves old new Fails is le =
+    quiet_leaves old new (one_more old.calls) (one_more old.faults) old.shortages Nothing is (calls_is old new (one_more old.calls) le (ap (λ (v : DiskView). v.calls) is))
+unsynced_leaves old new Over is le =
+    quiet_leaves old new (one_more old.calls) (one_more old.faults) old.shortages Nothing is (calls_is old new (one_more old.calls) le (ap (λ (v : DiskView). v.calls) is))
+
 pub syncs_leave : (old new : DiskView) (area : Area) (answer : Result (Unit {0}) DiskFailed) → Syncs old new area answer → old.calls ≤ new.calls → LeavesOnly (state_of old) (state_of new) Nothing
 syncs_leave old new area (Ok done) (turn, is) le =
     subst (λ (v : DiskView). LeavesOnly (state_of old) (state_of v) Nothing) (sym is) record {
@@ -135,8 +151,7 @@ syncs_leave old new area (Ok done) (turn, is) le =
           (λ here. inl (at, image_now old.first old.changes t i (sync_image old.first old.changes old.calls area i here)))
           (λ was. inl (at, was.1)) now.1;
     }
-syncs_leave old new area (Err failed) is le =
-    quiet_leaves old new (one_more old.calls) (one_more old.faults) Nothing is (calls_is old new (one_more old.calls) le (ap (λ (v : DiskView). v.calls) is))
+syncs_leave old new area (Err failed) is le = unsynced_leaves old new (next_turn old) is le
 
 -- what a step does to what the areas read
 pub step_in_area : (first : Areas) (changes : List Change) (before : ℕ) (area : Area) (step : Step) → InArea area (λ old new. new ≡ after_step step old) (areas_after first changes) (areas_after first (record { before = before; area = area; step = step } ∷ changes))
@@ -160,11 +175,19 @@ step_in_area first changes before Journal step = (refl, beside)
     beside Journal other = absurd (cc other)
 
 -- a write that fails leaves what is read, which is a part of it
+quiet_part : (old new : DiskView) (area : Area) (at n : ℕ) (calls faults shortages : ℕ) → new ≡ record old { calls = calls; faults = faults; shortages = shortages } → InArea area (Torn at n) (areas_of old) (areas_of new)
+quiet_part old new area at n calls faults shortages is =
+    subst (λ (v : DiskView). InArea area (Torn at n) (areas_of old) (areas_of v)) (sym is) (unwritten_torn at n (area_of area (areas_of old)), λ other apart. refl)
+
+fails_part : (old new : DiskView) (area : Area) (at n : ℕ) (turn : Turn) → FailsBy turn old new area (FailedWrite at n) → InArea area (Torn at n) (areas_of old) (areas_of new)
+fails_part old new area at n Succeeds is = quiet_part old new area at n (one_more old.calls) (one_more old.faults) (one_more old.shortages) is
+fails_part old new area at n Fails (inl is) =
+    let same = step_in_area old.first old.changes old.calls area (FailedWrite at n) in
+    subst (λ (v : DiskView). InArea area (Torn at n) (areas_of old) (areas_of v)) (sym is)
+    (subst (λ (l : List ℕ). Torn at n (area_of area (areas_of old)) l) (sym same.0) (unwritten_torn at n (area_of area (areas_of old))), same.1)
+fails_part old new area at n Fails (inr is) = quiet_part old new area at n (one_more old.calls) (one_more old.faults) (one_more old.shortages) is
+fails_part old new area at n Over is = quiet_part old new area at n (one_more old.calls) (one_more old.faults) old.shortages is
+
 pub writes_part : (old new : DiskView) (area : Area) (at : ℕ) (bytes : List ℕ) (answer : Result (Unit {0}) DiskFailed) → Writes old new area at bytes answer → OnErr answer (Changes area (Torn at (length bytes)) (Some (areas_of old)) (Some (areas_of new)))
 writes_part old new area at bytes (Ok done) is = tt
-writes_part old new area at bytes (Err failed) (inl is) =
-    subst (λ (v : DiskView). InArea area (Torn at (length bytes)) (areas_of old) (areas_of v)) (sym is) (unwritten_torn at (length bytes) (area_of area (areas_of old)), λ other apart. refl)
-writes_part old new area at bytes (Err failed) (inr (turn, is)) =
-    let same = step_in_area old.first old.changes old.calls area (FailedWrite at (length bytes)) in
-    subst (λ (v : DiskView). InArea area (Torn at (length bytes)) (areas_of old) (areas_of v)) (sym is)
-    (subst (λ (l : List ℕ). Torn at (length bytes) (area_of area (areas_of old)) l) (sym same.0) (unwritten_torn at (length bytes) (area_of area (areas_of old))), same.1)
+writes_part old new area at bytes (Err failed) is = fails_part old new area at (length bytes) (next_turn old) is

@@ -15,13 +15,14 @@ use Rattle.green_fakes.specs.declared.turn.Turn.{Turn}
 use Rattle.green_fakes.specs.declared.turn.Turn.TheVariants.{Succeeds, Fails, Over}
 
 -- what the areas held at first, what calls have done to them, the latest first, how many calls there were, those
--- that fail, and the faults
+-- that fail, the faults, and how many of these were for want of memory
 pub record DiskView : Type 0 where
   pub first : Areas
   pub changes : List Change
   pub calls : ℕ
   pub failing : List ℕ
   pub faults : ℕ
+  pub shortages : ℕ
 
 -- the areas with other bytes in one of them
 abbrev pub put : Area → List ℕ → Areas → Areas
@@ -76,6 +77,10 @@ counted disk = record disk { calls = one_more disk.calls }
 abbrev pub with_fault : DiskView → DiskView
 with_fault disk = record disk { faults = one_more disk.faults }
 
+-- a disk that has counted one more fault, for want of memory
+abbrev pub with_shortage : DiskView → DiskView
+with_shortage disk = record disk { faults = one_more disk.faults; shortages = one_more disk.shortages }
+
 -- a disk in which a call, with so many calls before it, has done this
 abbrev pub with_change : DiskView → ℕ → Area → Step → DiskView
 with_change disk before area step = record disk { changes = record { before = before; area = area; step = step } ∷ disk.changes }
@@ -84,11 +89,23 @@ with_change disk before area step = record disk { changes = record { before = be
 abbrev pub Does : DiskView → DiskView → Area → Step → Type 0
 Does old new area step = (next_turn old ≡ Succeeds) × (new ≡ with_change (counted old) old.calls area step)
 
--- The call has failed, and has counted a fault. Where it was to fail and there was memory to note it, a crash may
--- leave any part of it.
+-- A call of which this becomes has failed, and has counted a fault: one that is not listed only for want of memory, and
+-- nothing is done; one that is listed is noted, so that a crash may leave any part of it, unless memory to note it is
+-- wanting.
+abbrev pub FailsBy : Turn → DiskView → DiskView → Area → Step → Type 0
+FailsBy Succeeds old new area step = new ≡ with_shortage (counted old)
+FailsBy Fails old new area step = (new ≡ with_fault (with_change (counted old) old.calls area step)) ⊎ (new ≡ with_shortage (counted old))
+FailsBy Over old new area step = new ≡ with_fault (counted old)
+
+-- the call has failed
 abbrev pub FailsTo : DiskView → DiskView → Area → Step → Type 0
-FailsTo old new area step =
-    (new ≡ with_fault (counted old)) ⊎ ((next_turn old ≡ Fails) × (new ≡ with_fault (with_change (counted old) old.calls area step)))
+FailsTo old new area step = FailsBy (next_turn old) old new area step
+
+-- a sync of which this becomes has failed: one that is not listed only for want of memory
+abbrev pub FailsToSync : Turn → DiskView → DiskView → Type 0
+FailsToSync Succeeds old new = new ≡ with_shortage (counted old)
+FailsToSync Fails old new = new ≡ with_fault (counted old)
+FailsToSync Over old new = new ≡ with_fault (counted old)
 
 -- a write of these bytes
 abbrev pub Writes : DiskView → DiskView → Area → ℕ → List ℕ → Result (Unit {0}) DiskFailed → Type 0
@@ -103,7 +120,7 @@ Cuts old new area length (Err failed) = FailsTo old new area (FailedCut length)
 -- a sync
 abbrev pub Syncs : DiskView → DiskView → Area → Result (Unit {0}) DiskFailed → Type 0
 Syncs old new area (Ok done) = Does old new area Sync
-Syncs old new area (Err failed) = new ≡ with_fault (counted old)
+Syncs old new area (Err failed) = FailsToSync (next_turn old) old new
 
 -- a disk after a call that only looks, of which this becomes
 abbrev pub looked : Turn → DiskView → DiskView

@@ -23,7 +23,7 @@ impl MemoryDisk {
         ensures possible { IfOk result (λ image. (state_of self.now).images (min moment self.now.calls) image.first) }
         ensures as_read { pick ≡ 0 → IfOk result (λ image. image.first ≡ areas_after self.now.first (changes_until (min moment self.now.calls) self.now.changes)) }
         ensures as_synced { pick ≡ 1 → IfOk result (λ image. image.first ≡ synced_areas self.now.first (changes_until (min moment self.now.calls) self.now.changes)) }
-        ensures stable { IfOk result (λ image. (image.changes ≡ []) × (image.calls ≡ 0) × (image.failing ≡ []) × (image.faults ≡ 0)) }
+        ensures stable { IfOk result (λ image. (image.changes ≡ []) × (image.calls ≡ 0) × (image.failing ≡ []) × (image.faults ≡ 0) × (image.shortages ≡ 0)) }
     {
         let changes = self.changes.as_slice();
         let (changes, _) = changes.split_at(count_until(changes, moment.min(self.calls)));

@@ -3,9 +3,8 @@ ghost use Rattle.std.specs.Prelude.{◌≡◌, ◌≤◌, ◌⊎◌, ℕ, [], �
 ghost use Rattle.green_io.specs.Areas.{area_of};
 ghost use Rattle.tumbler.specs.ListView.{ListView};
 ghost use Rattle.green_fakes.specs.declared.change.Step;
-ghost use Rattle.green_fakes.specs.declared.turn.Turn;
 ghost use Rattle.green_fakes.specs.MemoryView.{answer_of_count};
-ghost use Rattle.green_fakes.specs.DiskView.{areas_of, next_turn, counted, with_fault, with_change, after_look, Looks, IsLength, IsRead, IsUnread, given, Writes, Cuts, Syncs};
+ghost use Rattle.green_fakes.specs.DiskView.{areas_of, next_turn, counted, with_fault, with_shortage, with_change, after_look, Looks, IsLength, IsRead, IsUnread, given, Writes, Cuts, Syncs};
 ghost use Rattle.green_fakes.specs.DiskImages.{state_of};
 ghost use Rattle.green_fakes.specs.DiskLaws.{images_are_a_disks};
 
@@ -20,7 +19,7 @@ use std::marker::Model;
 /// A disk that keeps its areas in memory, and notes what its calls do, so that it can be asked what a crash leaves.
 ///
 /// Each call is a moment, also one that failed or has only read. Contracts see what the areas held at first, what the
-/// calls have done to them, and the calls that fail.
+/// calls have done to them, the calls that fail, and how many failed for want of memory.
 #[derive(Drop)]
 pub struct MemoryDisk {
     pub(crate) alloc: Global,
@@ -30,6 +29,7 @@ pub struct MemoryDisk {
     failing: List<u64>,
     pub(crate) calls: u64,
     faults: u64,
+    shortages: u64,
 }
 
 impl Model for MemoryDisk {
@@ -38,7 +38,7 @@ impl Model for MemoryDisk {
 
     ghost Value = { DiskView };
 
-    ghost view = { λ disk. record { first = disk.first; changes = reverse disk.changes.items; calls = disk.calls; failing = disk.failing.items; faults = disk.faults } };
+    ghost view = { λ disk. record { first = disk.first; changes = reverse disk.changes.items; calls = disk.calls; failing = disk.failing.items; faults = disk.faults; shortages = disk.shortages } };
 
     ghost invariant = { λ disk. disk.areas ≡ areas_after disk.first (reverse disk.changes.items) };
 }
@@ -47,7 +47,7 @@ impl MemoryDisk {
     /// A disk with empty areas, whose calls fail by `failing`, a list of numbers of calls. The first call has the
     /// number 1.
     pub fn new(alloc: Global, failing: List<u64>) -> MemoryDisk
-        ensures { result ≡ record { first = record { log = []; home = []; journal = [] }; changes = []; calls = 0; failing = failing.items; faults = 0 } }
+        ensures { result ≡ record { first = record { log = []; home = []; journal = [] }; changes = []; calls = 0; failing = failing.items; faults = 0; shortages = 0 } }
     {
         MemoryDisk {
             alloc,
@@ -57,12 +57,13 @@ impl MemoryDisk {
             failing,
             calls: 0,
             faults: 0,
+            shortages: 0,
         }
     }
 
     /// A disk with these areas, of which everything is stable, and whose calls do not fail.
     pub(crate) fn holding(alloc: Global, areas: AreaSet) -> Result<MemoryDisk, Memory>
-        ensures { IfOk result (λ disk. disk ≡ record { first = areas; changes = []; calls = 0; failing = []; faults = 0 }) }
+        ensures { IfOk result (λ disk. disk ≡ record { first = areas; changes = []; calls = 0; failing = []; faults = 0; shortages = 0 }) }
     {
         let first = areas.copy(alloc)?;
         Ok(MemoryDisk {
@@ -73,6 +74,7 @@ impl MemoryDisk {
             failing: List::new(alloc),
             calls: 0,
             faults: 0,
+            shortages: 0,
         })
     }
 
@@ -81,6 +83,14 @@ impl MemoryDisk {
         ensures { result.now ≡ area_of area (areas_of self.now) }
     {
         self.areas.of(area)
+    }
+
+    /// How many calls failed for want of memory. Each is among the faults too, and the count stops at the greatest
+    /// number.
+    pub fn shortages(&self) -> u64
+        ensures { result ≡ self.now.shortages }
+    {
+        self.shortages
     }
 
     // Counts a call.
@@ -99,6 +109,15 @@ impl MemoryDisk {
     {
         self.faults = self.faults.saturating_add(1);
         DiskFailed
+    }
+
+    // Counts a fault for want of memory.
+    fn shortage(&mut self) -> DiskFailed
+        ensures counted { self.new ≡ with_shortage self.old }
+        ensures never_falls { self.old.faults ≤ self.new.faults }
+    {
+        self.shortages = self.shortages.saturating_add(1);
+        self.fault()
     }
 
     // Notes a step that leaves what the areas read.
@@ -136,16 +155,13 @@ impl MemoryDisk {
         Ok(())
     }
 
-    // Counts the fault of a call, and notes what was to be done where it was to fail.
-    fn fail(&mut self, turn: Turn, before: u64, area: Area, step: Step) -> DiskFailed
+    // Fails a call that was to fail, and notes what it was to do.
+    fn fail(&mut self, before: u64, area: Area, step: Step) -> DiskFailed
         requires { IsUnread step }
-        ensures { (self.new ≡ with_fault self.old) ⊎ ((turn ≡ Turn.Fails) × (self.new ≡ with_fault (with_change self.old before area step))) }
+        ensures { (self.new ≡ with_fault (with_change self.old before area step)) ⊎ (self.new ≡ with_shortage self.old) }
     {
-        let Turn::Fails = turn else {
-            return self.fault();
-        };
         let Ok(()) = self.note(before, area, step) else {
-            return self.fault();
+            return self.shortage();
         };
         self.fault()
     }
@@ -188,55 +204,67 @@ impl MemoryDisk {
         copy_from(self.areas.of(area), at, into)
     }
 
-    /// What [`Disk::write`] does here: it writes in place. Where there is no memory it fails, and nothing is done.
+    /// What [`Disk::write`] does here: it writes in place. It fails where its number is listed, and a crash may then
+    /// leave any part of it; or for want of memory, and nothing is done.
     pub fn write_bytes(&mut self, area: Area, at: u64, bytes: &[u8]) -> Result<(), DiskFailed>
         ensures answer { Writes self.old self.new area at bytes.now result }
         ensures later { self.old.calls ≤ self.new.calls }
         ensures never_falls { self.old.faults ≤ self.new.faults }
     {
         let before = self.calls;
-        let turn = self.turn();
-        let Turn::Succeeds = turn else {
-            let count = bytes.len();
-            return Err(self.fail(turn, before, area, Step::FailedWrite { at, count }));
-        };
-        let Ok(()) = self.note_write(before, area, at, bytes) else {
-            return Err(self.fault());
-        };
-        Ok(())
+        match self.turn() {
+            Turn::Succeeds => {
+                let Ok(()) = self.note_write(before, area, at, bytes) else {
+                    return Err(self.shortage());
+                };
+                Ok(())
+            }
+            Turn::Fails => {
+                let count = bytes.len();
+                Err(self.fail(before, area, Step::FailedWrite { at, count }))
+            }
+            Turn::Over => Err(self.fault()),
+        }
     }
 
-    /// What [`Disk::cut`] does here. Where there is no memory to note it, it fails, and nothing is done.
+    /// What [`Disk::cut`] does here. It fails where its number is listed, and a crash may then leave any part of it;
+    /// or for want of memory to note it, and nothing is done.
     pub fn cut_bytes(&mut self, area: Area, length: u64) -> Result<(), DiskFailed>
         ensures answer { Cuts self.old self.new area length result }
         ensures later { self.old.calls ≤ self.new.calls }
         ensures never_falls { self.old.faults ≤ self.new.faults }
     {
         let before = self.calls;
-        let turn = self.turn();
-        let Turn::Succeeds = turn else {
-            return Err(self.fail(turn, before, area, Step::FailedCut { length }));
-        };
-        let Ok(()) = self.note_cut(before, area, length) else {
-            return Err(self.fault());
-        };
-        Ok(())
+        match self.turn() {
+            Turn::Succeeds => {
+                let Ok(()) = self.note_cut(before, area, length) else {
+                    return Err(self.shortage());
+                };
+                Ok(())
+            }
+            Turn::Fails => Err(self.fail(before, area, Step::FailedCut { length })),
+            Turn::Over => Err(self.fault()),
+        }
     }
 
-    /// What [`Disk::sync`] does here. Where there is no memory to note it, it fails, and nothing is done.
+    /// What [`Disk::sync`] does here. It fails where its number is listed, or for want of memory to note it, and
+    /// nothing is done.
     pub fn make_stable(&mut self, area: Area) -> Result<(), DiskFailed>
         ensures answer { Syncs self.old self.new area result }
         ensures later { self.old.calls ≤ self.new.calls }
         ensures never_falls { self.old.faults ≤ self.new.faults }
     {
         let before = self.calls;
-        let Turn::Succeeds = self.turn() else {
-            return Err(self.fault());
-        };
-        let Ok(()) = self.note(before, area, Step::Sync) else {
-            return Err(self.fault());
-        };
-        Ok(())
+        match self.turn() {
+            Turn::Succeeds => {
+                let Ok(()) = self.note(before, area, Step::Sync) else {
+                    return Err(self.shortage());
+                };
+                Ok(())
+            }
+            Turn::Fails => Err(self.fault()),
+            Turn::Over => Err(self.fault()),
+        }
     }
 }
 

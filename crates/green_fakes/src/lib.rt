@@ -10,8 +10,6 @@ pub mod laws;
 mod replay;
 mod sink;
 mod source;
-#[cfg(test)]
-mod tests;
 mod turn;
 
 pub use disk::MemoryDisk;

@@ -85,9 +85,9 @@ pub record LeavesBut (touched : Area → Bool) (old new : DiskState) : Type 0 wh
   pub images : LeavesOnly old new (IsAsBut touched (images_now old))
 
 -- every image has in this area what it reads, where that is told
-abbrev pub IsDurable : Area → Option Areas → (Areas → Type 0) → Type 0
-IsDurable area None images = Unit {0}
-IsDurable area (Some areas) images = (image : Areas) → images image → area_of area image ≡ area_of area areas
+abbrev pub IsStable : Area → Option Areas → (Areas → Type 0) → Type 0
+IsStable area None images = Unit {0}
+IsStable area (Some areas) images = (image : Areas) → images image → area_of area image ≡ area_of area areas
 
 -- what an answer of a read says of the length that was asked for: at least one byte came, and there was room for it
 abbrev pub IsWithin : ReadAnswer → List ℕ → Type 0

@@ -1,7 +1,7 @@
 //! Where bytes stay: areas that are read, written, cut and synced.
 ghost use Rattle.std.specs.Prelude.{◌≡◌, ◌≤◌, ◌<◌, ℕ, length, IfOk, OnOk, OnErr};
 ghost use Rattle.green_io.specs.Areas.{area_of};
-ghost use Rattle.green_io.specs.Disk.{DiskState, IsDisk, WhereTold, Written, CutTo, Torn, PartlyCut, Changes, LeftBy, Nothing, LeavesOnly, IsDurable, IsWithin, ReadsAt, images_now};
+ghost use Rattle.green_io.specs.Disk.{DiskState, IsDisk, WhereTold, Written, CutTo, Torn, PartlyCut, Changes, LeftBy, Nothing, LeavesOnly, IsStable, IsWithin, ReadsAt, images_now};
 ghost use Rattle.green_io.specs.Outside.{OnFailedRead, HasRisen};
 
 use crate::source::ReadAnswer;
@@ -74,7 +74,7 @@ pub trait Disk {
     /// Makes the area stable: after it a crash leaves what the area reads, until it is written or cut again. Where
     /// it fails nothing is known to be stable.
     fn sync(&mut self, area: Area) -> Result<(), DiskFailed>
-        ensures durable { OnOk result (IsDurable area (state self.old).reads (images_now (state self.new))) }
+        ensures durable { OnOk result (IsStable area (state self.old).reads (images_now (state self.new))) }
         ensures reads { (state self.new).reads ≡ (state self.old).reads }
         ensures crash { LeavesOnly (state self.old) (state self.new) Nothing }
         ensures never_falls { fault_count self.old ≤ fault_count self.new }

@@ -11,8 +11,6 @@ mod stable_cut;
 mod stable_write;
 mod std_sink;
 mod std_source;
-#[cfg(test)]
-mod tests;
 
 pub use disk::{Area, Disk, DiskFailed};
 pub use folder_disk::FolderDisk;

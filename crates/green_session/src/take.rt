@@ -72,7 +72,6 @@ pub fn take_request<S: Source>(
 ) -> Taken
     ensures taken { IsTaken (read_state (S.left source.old) (S.fault_count source.old) feed.old turns.old) (read_state (S.left source.new) (S.fault_count source.new) feed.new turns.new) result }
 {
-    let mut piece = [0u8; 4096];
     loop {
         match feed.next(alloc) {
             Ok(Next::NotYet) => {}
@@ -84,12 +83,16 @@ pub fn take_request<S: Source>(
         if turns.taken >= turns.limit {
             return Taken::Budget;
         }
-        match source.read(&mut piece) {
+        let Ok(mut piece) = feed.take_room(alloc) else {
+            return Taken::Memory;
+        };
+        match source.read(&mut *piece) {
             ReadAnswer::Got(n) => {
                 turns.taken = turns.taken.saturating_add(n as u64);
                 if feed.push(alloc, piece.split_at(n).0).is_err() {
                     return Taken::Memory;
                 }
+                feed.give_back_room(piece);
             }
             ReadAnswer::End => return answer_at_end(feed),
             ReadAnswer::Failed => return Taken::ReadFault,

@@ -1,40 +1,29 @@
 -- The change of a valid request that nothing refuses may be kept, where it is counted.
-use Rattle.std.proofs.Common.{◌≡◌, ℕ, zero, suc, ◌<◌, get_or, ◌&&◌, Bool, true, false, cond, List, [], ◌∷◌, length, All, refl, subst, arith}
-use Rattle.std.specs.Prelude.{Option, Some, None, nat_le}
+use Rattle.std.proofs.Common.{◌≡◌, ℕ, ◌<◌, get_or, ◌&&◌, Bool, true, false, List, [], ◌∷◌, length, All, subst, arith}
+use Rattle.std.specs.Prelude.{Some, None, nat_le}
 use Rattle.std.proofs.lemmas.Bool.Decides.{nat_tests}
 use Rattle.std.proofs.lemmas.List.{length-map}
 use Rattle.std.proofs.lemmas.List.Elements.{All-nil, All-cons, All-head, All-tail, All-map}
 use Rattle.tumbler.specs.Places.{IsTumbler, place_bound}
 use Rattle.febe_data.specs.declared.access.Mode.{Mode}
 use Rattle.febe_data.specs.declared.access.Rule.{Rule}
-use Rattle.febe_data.specs.declared.refusal.Refusal.{Refusal}
 use Rattle.febe_data.specs.declared.refusal.Refusal.TheVariants.{BadAddress}
 use Rattle.febe_data.specs.LimitsView.{LimitsView, AreLimits}
 use Rattle.febe_data.specs.Plain.{PlainRequest, insert, copy, rearrange, create, delete, version, quit, create_link, set_account, opens, closes, PlainEntry}
 use Rattle.febe_data.specs.Validity.{IsRequest}
-use Rattle.entry_codec.specs.Bodies.{IsU32, IsLogged}
+use Rattle.entry_codec.specs.Bodies.{IsU32, IsEncodable}
 use Rattle.world_rules.specs.World.{World}
 use Rattle.world_rules.specs.Apply.{world_of}
-use Rattle.world_rules.specs.History.{kept, is_counted, is_live}
-use Rattle.world_rules.specs.Refusals.{wanted, checks, position_of, opens_version, history_full, Check, first_holding}
+use Rattle.world_rules.specs.History.{durable_entries, is_durable, is_live}
+use Rattle.world_rules.specs.Refusals.{wanted, checks, position_of, opens_version, history_full}
 use Rattle.world_rules.specs.Effects.{Effect, effect, opening}
 use Rattle.world_rules.specs.Legal.{wanted_after}
-use Rattle.world_rules.proofs.Placed.{served_is_placed}
+use Rattle.world_rules.proofs.Placed.{served_is_placed, none_holds}
 use Rattle.entry_fits.specs.Laws.{IsRegular}
 use Rattle.entry_fits.proofs.Accepted.{accepted_fits}
 use Rattle.green_store.specs.inside.{IsTyped, MayBeKept}
 
 -- ---- there is room for one more
-
-passed_step : (holds : Bool) (refusal : Refusal) (others : Option Refusal) → cond holds (Some refusal) others ≡ None → (holds ≡ false) × (others ≡ None)
-passed_step true refusal others e = cc
-passed_step false refusal others e = (refl, e)
-
--- where nothing is refused, no test holds
-passed : (tests : List Check) (k : ℕ) (d : Check) → k < length tests → first_holding tests ≡ None → (get_or tests k d).0 ≡ false
-passed [] k d lt none = absurd (omega arith)
-passed (test ∷ tests) zero d lt none = (passed_step test.0 test.1 (first_holding tests) none).0
-passed (test ∷ tests) (suc k) d lt none = passed tests k d (omega arith) (passed_step test.0 test.1 (first_holding tests) none).1
 
 not_above : (a b : ℕ) → nat_le a b ≡ false → b < a
 not_above a b is = grind (arith, nat_tests)
@@ -42,19 +31,19 @@ not_above a b is = grind (arith, nat_tests)
 module _ (limits : LimitsView) (counted : ℕ) (world : World) (session : ℕ) where
   test : (request : PlainRequest) (k : ℕ) → k < length (checks limits counted world session request) → wanted limits counted world session request ≡ None
       → (get_or (checks limits counted world session request) k (false, BadAddress)).0 ≡ false
-  test request k lt none = passed (checks limits counted world session request) k (false, BadAddress) lt none
+  test request k lt none = none_holds (checks limits counted world session request) k (false, BadAddress) lt none
 
   room : history_full limits counted ≡ false → counted < limits.entries
   room full = not_above limits.entries counted full
 
-  of_effect : (one made : Effect) → Some one ≡ Some made → is_counted made.change ≡ true → (is_counted one.change ≡ true → counted < limits.entries) → counted < limits.entries
-  of_effect one made e counts then = let same : made ≡ one = cc in then (subst (λ (m : Effect). is_counted m.change ≡ true) same counts)
+  of_effect : (one made : Effect) → Some one ≡ Some made → is_durable made.change ≡ true → (is_durable one.change ≡ true → counted < limits.entries) → counted < limits.entries
+  of_effect one made e counts then = let same : made ≡ one = cc in then (subst (λ (m : Effect). is_durable m.change ≡ true) same counts)
 
-  opens_room : (document : List ℕ) (mode : Mode) (rule : Rule) (copies : Bool) → (copies && history_full limits counted) ≡ false → is_counted (opening world session document mode copies).change ≡ true → counted < limits.entries
+  opens_room : (document : List ℕ) (mode : Mode) (rule : Rule) (copies : Bool) → (copies && history_full limits counted) ≡ false → is_durable (opening world session document mode copies).change ≡ true → counted < limits.entries
   opens_room document mode rule true full counts = room full
   opens_room document mode rule false full counts = absurd cc
 
-  room_left : (request : PlainRequest) (made : Effect) → wanted limits counted world session request ≡ None → effect world session request ≡ Some made → is_counted made.change ≡ true → counted < limits.entries
+  room_left : (request : PlainRequest) (made : Effect) → wanted limits counted world session request ≡ None → effect world session request ≡ Some made → is_durable made.change ≡ true → counted < limits.entries
   room_left (insert document at text) made none e counts = room (test (insert document at text) 5 (omega arith) none)
   room_left (copy document at specs) made none e counts = room (test (copy document at specs) 6 (omega arith) none)
   room_left (rearrange document cuts) made none e counts = room (test (rearrange document cuts) 5 (omega arith) none)
@@ -83,19 +72,19 @@ all_small (cut ∷ cuts) all =
     All-cons (λ cut. IsU32 (position_of cut)) cut cuts (position_small cut (All-head IsTumbler cut cuts all).small) (all_small cuts (All-tail IsTumbler cut cuts all))
 
 abbrev IsCounted : Effect → Type 0
-IsCounted made = is_counted made.change ≡ true
+IsCounted made = is_durable made.change ≡ true
 
 module _ (world : World) (session : ℕ) where
-  as_logged : (one made : Effect) → Some one ≡ Some made → is_counted made.change ≡ true → IsTyped made.change → (is_counted one.change ≡ true → IsTyped one.change → IsLogged one.change) → IsLogged made.change
+  as_logged : (one made : Effect) → Some one ≡ Some made → is_durable made.change ≡ true → IsTyped made.change → (is_durable one.change ≡ true → IsTyped one.change → IsEncodable one.change) → IsEncodable made.change
   as_logged one made e counts typed then =
       let same : one ≡ made = cc in
-      subst (λ (m : Effect). IsCounted m → IsTyped m.change → IsLogged m.change) same then counts typed
+      subst (λ (m : Effect). IsCounted m → IsTyped m.change → IsEncodable m.change) same then counts typed
 
-  opens_logged : (document : List ℕ) (mode : Mode) (rule : Rule) (copies : Bool) → IsRequest (opens document mode rule) → is_counted (opening world session document mode copies).change ≡ true → IsTyped (opening world session document mode copies).change → IsLogged (opening world session document mode copies).change
+  opens_logged : (document : List ℕ) (mode : Mode) (rule : Rule) (copies : Bool) → IsRequest (opens document mode rule) → is_durable (opening world session document mode copies).change ≡ true → IsTyped (opening world session document mode copies).change → IsEncodable (opening world session document mode copies).change
   opens_logged document mode rule true valid counts typed = (valid.0, typed)
   opens_logged document mode rule false valid counts typed = absurd cc
 
-  logged : (request : PlainRequest) (made : Effect) → IsRequest request → effect world session request ≡ Some made → is_counted made.change ≡ true → IsTyped made.change → IsLogged made.change
+  logged : (request : PlainRequest) (made : Effect) → IsRequest request → effect world session request ≡ Some made → is_durable made.change ≡ true → IsTyped made.change → IsEncodable made.change
   logged (insert document at text) made valid e counts typed = as_logged _ made e counts typed (λ c t. (valid.0, t.0, t.1, valid.1.1.0))
   logged (copy document at specs) made valid e counts typed = as_logged _ made e counts typed (λ c t. (valid.0, t, valid.1.1.0))
   logged (rearrange document cuts) made valid e counts typed = as_logged _ made e counts typed (λ c t. (valid.0, record { few = omega (arith, length-map cuts position_of, valid.1.0.few); each = All-map IsU32 position_of cuts (all_small cuts valid.1.0.each) }))
@@ -112,11 +101,11 @@ module _ (world : World) (session : ℕ) where
 -- ---- both
 
 pub may_be_kept : (limits : LimitsView) (history : List PlainEntry) (session : ℕ) (request : PlainRequest) (made : Effect) → AreLimits limits.entries limits.text limits.flush → IsRegular history → is_live history session ≡ true
-    → wanted_after limits history session request ≡ None → effect (world_of history) session request ≡ Some made → is_counted made.change ≡ true → IsRequest request → IsTyped made.change → MayBeKept history session made
+    → wanted_after limits history session request ≡ None → effect (world_of history) session request ≡ Some made → is_durable made.change ≡ true → IsRequest request → IsTyped made.change → MayBeKept history session made
 may_be_kept limits history session request made bounds regular live allowed e counts valid typed = record {
   counted = counts;
-  placed = served_is_placed limits (length (kept history)) (world_of history) session request made allowed e;
+  placed = served_is_placed limits (length (durable_entries history)) (world_of history) session request made allowed e;
   logged = logged (world_of history) session request made valid e counts typed;
   fits = accepted_fits limits history session request made bounds.text_bound regular (record { live = live; allowed = allowed; effect_is = e; counted = counts });
-  room = omega (arith, room_left limits (length (kept history)) (world_of history) session request made allowed e counts, bounds.entries_bound);
+  room = omega (arith, room_left limits (length (durable_entries history)) (world_of history) session request made allowed e counts, bounds.entries_bound);
 }

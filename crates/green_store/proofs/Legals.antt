@@ -13,7 +13,7 @@ use Rattle.febe_data.specs.Plain.{PlainRequest, insert, copy, rearrange, create,
 use Rattle.world_rules.specs.World.{World}
 use Rattle.world_rules.specs.Apply.{world_of}
 use Rattle.world_rules.specs.FlatView.{FlatView, view_of}
-use Rattle.world_rules.specs.History.{is_live, kept, is_counted}
+use Rattle.world_rules.specs.History.{is_live, durable_entries, is_durable}
 use Rattle.world_rules.specs.Refusals.{wanted, opens_version}
 use Rattle.world_rules.specs.Effects.{Effect, effect, opening}
 use Rattle.world_rules.specs.Answers.{answer}
@@ -24,7 +24,7 @@ use Rattle.world_rules.specs.declared.effects.Effect as coded
 use Rattle.world_rules.specs.declared.requests.Served.TheVariants.{Refused, Changed, Answered}
 use Rattle.tumbler.specs.declared.memory.Memory.{Memory as NoMemory}
 use Rattle.world_rules.proofs.Folded.{folds_to_world, counts_kept}
-use Rattle.green_store.specs.Durable.{IsEdit}
+use Rattle.green_store.specs.Durable.{IsDurableEntry}
 use Rattle.green_store.specs.inside.{IsKeptOrTakenBack, IsTakenBack}
 use Rattle.green_store.specs.LeavesLive.{LeavesLive}
 use Rattle.green_store.specs.Sessions.{end_entry}
@@ -75,7 +75,7 @@ leaves_live world session request made n e = leaves world session request made n
 
 pub wanted_is : (limits : LimitsView) (h : List PlainEntry) (session : ℕ) (request : PlainRequest) → wanted limits (view_of h).counted (view_of h).world session request ≡ wanted_after limits h session request
 wanted_is limits h session request =
-    ap (λ (n : ℕ). wanted limits n (view_of h).world session request) (counts_kept h) ∙ ap (λ (w : World). wanted limits (length (kept h)) w session request) (folds_to_world h)
+    ap (λ (n : ℕ). wanted limits n (view_of h).world session request) (counts_kept h) ∙ ap (λ (w : World). wanted limits (length (durable_entries h)) w session request) (folds_to_world h)
 
 module _ (limits : LimitsView) (session : ℕ) (history : List PlainEntry) (request : PlainRequest) (rose : Bool) (live : is_live history session ≡ true) where
   nothing_wanted : (given : wanted_after limits history session request ≡ None) (reply : PlainReply) (added : List PlainEntry)
@@ -105,7 +105,7 @@ module _ (limits : LimitsView) (session : ℕ) (history : List PlainEntry) (requ
   }
 
   pub step_failed : (made : Effect) (reply : PlainReply) (after : List PlainEntry) → wanted_after limits history session request ≡ None → effect (world_of history) session request ≡ Some made
-      → is_counted made.change ≡ true → IsTakenBack history reply after rose → Steps limits session history request reply after rose
+      → is_durable made.change ≡ true → IsTakenBack history reply after rose → Steps limits session history request reply after rose
   step_failed made reply after given e counted back = record {
     added = [];
     grows = back.stays ∙ sym (append-nil history);
@@ -172,10 +172,10 @@ module _ (before : StoreView) (limits : LimitsView) (world : FlatView) (session 
   pub effect_here : (made : coded.Effect) → IsServedAs limits world session request (Changed made) → effect (world_of before.history) session request ≡ Some (plain_effect made)
   effect_here made served = ap (λ (w : World). effect w session request) (sym folded) ∙ served.effect_is
 
-  pub edit_here : (made : coded.Effect) → IsServedAs limits world session request (Changed made) → is_counted (plain_effect made).change ≡ true → IsEdit before.limits before.history session request (entry_after before.history session (plain_effect made))
+  pub edit_here : (made : coded.Effect) → IsServedAs limits world session request (Changed made) → is_durable (plain_effect made).change ≡ true → IsDurableEntry before.limits before.history session request (entry_after before.history session (plain_effect made))
   edit_here made served counted = record { allowed = allowed_here made served; made = plain_effect made; effect_is = effect_here made served; counted = counted; entry_is = refl }
 
-  pub kept_here : (made : coded.Effect) (r : Result Reply NoMemory) (after : List PlainEntry) → IsServedAs limits world session request (Changed made) → is_counted (plain_effect made).change ≡ true
+  pub kept_here : (made : coded.Effect) (r : Result Reply NoMemory) (after : List PlainEntry) → IsServedAs limits world session request (Changed made) → is_durable (plain_effect made).change ≡ true
       → IfOk r (λ reply. IsKeptOrTakenBack before.history session (plain_effect made) (plain_reply reply) after rose) → IfOk r (λ reply. Steps before.limits session before.history request (plain_reply reply) after rose)
   kept_here made (Ok reply) after served counted (inl done) =
       step_changed before.limits session before.history request rose live (plain_effect made) (plain_reply reply) after (allowed_here made served) (effect_here made served) done.reply_is done.grows

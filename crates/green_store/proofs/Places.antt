@@ -7,7 +7,7 @@ use Rattle.febe_data.specs.LimitsView.{LimitsView}
 use Rattle.febe_data.specs.Plain.{PlainRequest, PlainReply, PlainEntry}
 use Rattle.world_rules.specs.World.{World, empty_world}
 use Rattle.world_rules.specs.Apply.{apply, world_of}
-use Rattle.world_rules.specs.History.{kept}
+use Rattle.world_rules.specs.History.{durable_entries}
 use Rattle.world_rules.specs.Effects.{Effect, effect}
 use Rattle.world_rules.specs.Legal.{IsLegal, IsServed, IsRefused, IsQueryAnswered, IsDone, IsDiskFault, wanted_after, entry_after}
 use Rattle.world_rules.specs.Placed.{IsPlaced, AllPlaced}
@@ -35,7 +35,7 @@ by_served : (limits : LimitsView) (session : ℕ) (h : List PlainEntry) (request
     → MatchOption made (IsQueryAnswered h request reply added) (λ m. IsDone h session m reply added ⊎ IsDiskFault m reply added rose) → GoOn h added
 by_served limits session h request reply added rose None p none e a = by_none h added p a.nothing
 by_served limits session h request reply added rose (Some m) p none e (inl a) =
-    subst (GoOn h) (sym a.entry) (placed_push empty_world h (entry_after h session m) p (served_is_placed limits (length (kept h)) (world_of h) session request m none e))
+    subst (GoOn h) (sym a.entry) (placed_push empty_world h (entry_after h session m) p (served_is_placed limits (length (durable_entries h)) (world_of h) session request m none e))
 by_served limits session h request reply added rose (Some m) p none e (inr a) = by_none h added p a.nothing
 
 by_given : (limits : LimitsView) (session : ℕ) (h : List PlainEntry) (request : PlainRequest) (reply : PlainReply) (added : List PlainEntry) (rose : Bool) (wanted : Option Refusal) → AllPlaced empty_world h

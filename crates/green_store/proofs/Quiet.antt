@@ -1,7 +1,7 @@
 -- Begins and ends of sessions and background steps keep no entry, and leave the log alone.
 use Rattle.std.proofs.Common.{◌≡◌, ℕ, Bool, false, ap, refl, ◌∙◌}
 use Rattle.febe_data.specs.Plain.{PlainEntry}
-use Rattle.world_rules.specs.History.{kept, is_counted}
+use Rattle.world_rules.specs.History.{durable_entries, is_durable}
 use Rattle.green_store.specs.declared.step.Step.TheVariants as steps
 use Rattle.green_store.specs.declared.step.StepAnswer.{StepAnswer}
 use Rattle.green_store.specs.declared.step.StepAnswer.TheVariants as answers
@@ -11,17 +11,17 @@ use Rattle.green_store.specs.StoreView.{StoreView, with_one, StandsStill}
 use Rattle.green_store.proofs.Regulars.{kept_other}
 
 pub record IsQuiet (before after : StoreView) : Type 0 where
-  pub none_kept : kept after.history ≡ kept before.history
+  pub none_kept : durable_entries after.history ≡ durable_entries before.history
   pub same_log : after.log ≡ before.log
 
-with_other : (before after : StoreView) (entry : PlainEntry) → is_counted entry.change ≡ false → after ≡ with_one before entry → IsQuiet before after
+with_other : (before after : StoreView) (entry : PlainEntry) → is_durable entry.change ≡ false → after ≡ with_one before entry → IsQuiet before after
 with_other before after entry other grows = record {
-  none_kept = ap (λ (v : StoreView). kept v.history) grows ∙ kept_other before.history entry other;
+  none_kept = ap (λ (v : StoreView). durable_entries v.history) grows ∙ kept_other before.history entry other;
   same_log = ap (λ (v : StoreView). v.log) grows;
 }
 
 as_before : (before after : StoreView) → after ≡ before → IsQuiet before after
-as_before before after stays = record { none_kept = ap (λ (v : StoreView). kept v.history) stays; same_log = ap (λ (v : StoreView). v.log) stays }
+as_before before after stays = record { none_kept = ap (λ (v : StoreView). durable_entries v.history) stays; same_log = ap (λ (v : StoreView). v.log) stays }
 
 pub begin_is_quiet : (before after : StoreView) (answer : StepAnswer) (rose : Bool) → IsStep before steps.Begin after answer rose → IsQuiet before after
 begin_is_quiet before after (answers.Begun session) rose step = with_other before after (begin_entry session) refl step.grows
@@ -35,7 +35,7 @@ end_is_quiet before after session answers.NoSession rose step = as_before before
 end_is_quiet before after session other rose step = absurd step
 
 standing : (before after : StoreView) → StandsStill before after → IsQuiet before after
-standing before after still = record { none_kept = ap kept still.history; same_log = still.log }
+standing before after still = record { none_kept = ap durable_entries still.history; same_log = still.log }
 
 pub background_is_quiet : (before after : StoreView) (answer : StepAnswer) (rose : Bool) → IsStep before steps.Background after answer rose → IsQuiet before after
 background_is_quiet before after answers.Balanced rose step = standing before after step.still

@@ -6,7 +6,7 @@ use Rattle.std.proofs.lemmas.List.Elements.{All-push, filter-append}
 use Rattle.febe_data.specs.Plain.{PlainChange, PlainEntry, restarted, began, ended, account_changed, document_opened, document_closed}
 use Rattle.world_rules.specs.World.{empty_world}
 use Rattle.world_rules.specs.Apply.{world_of}
-use Rattle.world_rules.specs.History.{kept, is_counted, next_serial}
+use Rattle.world_rules.specs.History.{durable_entries, is_durable, next_serial}
 use Rattle.world_rules.specs.Effects.{Effect}
 use Rattle.world_rules.specs.Legal.{entry_after}
 use Rattle.world_rules.specs.Placed.{IsPlaced}
@@ -57,30 +57,30 @@ regular_changed h session made leaves placed regular =
 
 -- ---- kept
 
-kept_more : (h : List PlainEntry) (e : PlainEntry) → kept (h ++ e ∷ []) ≡ kept h ++ kept (e ∷ [])
-kept_more h e = filter-append (λ (x : PlainEntry). is_counted x.change) h (e ∷ [])
+kept_more : (h : List PlainEntry) (e : PlainEntry) → durable_entries (h ++ e ∷ []) ≡ durable_entries h ++ durable_entries (e ∷ [])
+kept_more h e = filter-append (λ (x : PlainEntry). is_durable x.change) h (e ∷ [])
 
-alone : (e : PlainEntry) (counted : Bool) → is_counted e.change ≡ counted → kept (e ∷ []) ≡ (if counted then e ∷ [] else [])
+alone : (e : PlainEntry) (counted : Bool) → is_durable e.change ≡ counted → durable_entries (e ∷ []) ≡ (if counted then e ∷ [] else [])
 alone e counted is = rw is refl
 
-pub kept_counted : (h : List PlainEntry) (e : PlainEntry) → is_counted e.change ≡ true → kept (h ++ e ∷ []) ≡ kept h ++ e ∷ []
-kept_counted h e is = kept_more h e ∙ ap (λ (es : List PlainEntry). kept h ++ es) (alone e true is)
+pub kept_counted : (h : List PlainEntry) (e : PlainEntry) → is_durable e.change ≡ true → durable_entries (h ++ e ∷ []) ≡ durable_entries h ++ e ∷ []
+kept_counted h e is = kept_more h e ∙ ap (λ (es : List PlainEntry). durable_entries h ++ es) (alone e true is)
 
-pub kept_other : (h : List PlainEntry) (e : PlainEntry) → is_counted e.change ≡ false → kept (h ++ e ∷ []) ≡ kept h
-kept_other h e is = kept_more h e ∙ ap (λ (es : List PlainEntry). kept h ++ es) (alone e false is) ∙ append-nil (kept h)
+pub kept_other : (h : List PlainEntry) (e : PlainEntry) → is_durable e.change ≡ false → durable_entries (h ++ e ∷ []) ≡ durable_entries h
+kept_other h e is = kept_more h e ∙ ap (λ (es : List PlainEntry). durable_entries h ++ es) (alone e false is) ∙ append-nil (durable_entries h)
 
-pub entries_other : (h : List PlainEntry) (e : PlainEntry) → is_counted e.change ≡ false → AreEntries (kept h) → AreEntries (kept (h ++ e ∷ []))
+pub entries_other : (h : List PlainEntry) (e : PlainEntry) → is_durable e.change ≡ false → AreEntries (durable_entries h) → AreEntries (durable_entries (h ++ e ∷ []))
 entries_other h e is are = subst AreEntries (sym (kept_other h e is)) are
 
-pub entries_counted : (h : List PlainEntry) (e : PlainEntry) → is_counted e.change ≡ true → IsNext (kept h) e → AreEntries (kept h) → AreEntries (kept (h ++ e ∷ []))
-entries_counted h e is next are = subst AreEntries (sym (kept_counted h e is)) (entries_push (kept h) e are next)
+pub entries_counted : (h : List PlainEntry) (e : PlainEntry) → is_durable e.change ≡ true → IsNext (durable_entries h) e → AreEntries (durable_entries h) → AreEntries (durable_entries (h ++ e ∷ []))
+entries_counted h e is next are = subst AreEntries (sym (kept_counted h e is)) (entries_push (durable_entries h) e are next)
 
 -- what may be kept may come next in the log
-pub may_come : (h : List PlainEntry) (session : ℕ) (made : Effect) → MayBeKept h session made → session < 18446744073709551616 → next_serial h session < 18446744073709551616 → IsNext (kept h) (entry_after h session made)
+pub may_come : (h : List PlainEntry) (session : ℕ) (made : Effect) → MayBeKept h session made → session < 18446744073709551616 → next_serial h session < 18446744073709551616 → IsNext (durable_entries h) (entry_after h session made)
 may_come h session made may number serial = record { spelled = record { session = number; serial = serial; change = may.logged }; fits = may.fits; room = may.room }
 
 -- changes that are kept leave who is live
-pub kept_leaves : (change : PlainChange) → is_counted change ≡ true → LeavesLive change
+pub kept_leaves : (change : PlainChange) → is_durable change ≡ true → LeavesLive change
 kept_leaves restarted counted = absurd cc
 kept_leaves began counted = absurd cc
 kept_leaves ended counted = absurd cc

@@ -107,7 +107,7 @@ one_opening one log = record {
 }
   where
     one_place : (a b : ℕ) → IsDamagedLog a log → IsDamagedLog b log → a ≡ b
-    one_place a b (inl first) (inl second) = (one log).place a b first second
+    one_place a b (inl first) (inl second) = (one log).offset a b first second
     one_place a b (inl first) (inr second) = absurd ((one log).apart second.entries a second.read first)
     one_place a b (inr first) (inl second) = absurd ((one log).apart first.entries b first.read second)
     one_place a b (inr first) (inr second) = one_unfit one a b log first second

@@ -5,7 +5,7 @@ use Rattle.std.proofs.lemmas.List.{length-append}
 use Rattle.febe_data.specs.declared.entry.Entry.{Entry}
 use Rattle.febe_data.specs.Plain.{PlainEntry, PlainChange, plain_entry, plain_history}
 use Rattle.world_rules.specs.FlatView.{FlatView, after_entry, view_of, entries_in}
-use Rattle.world_rules.specs.History.{is_live, next_serial, kept}
+use Rattle.world_rules.specs.History.{is_live, next_serial, durable_entries}
 use Rattle.world_rules.specs.InPlace.{HasRoom}
 use Rattle.world_rules.proofs.Folded.{counts_entries}
 use Rattle.entry_fits.specs.Laws.{IsRegular}
@@ -53,7 +53,7 @@ over h room stood stands live greatest session store is after = record {
 }
 
 pub gone_on : (h : List PlainEntry) (room more : ℕ) (stood stands : FlatView → Type 0) (live : List ℕ) (greatest : ℕ) (e : PlainEntry) → IsStore h room stood live greatest → is_live h e.session ≡ true → LeavesLive e.change
-    → stands (after_entry (view_of h) e) → length live ≤ more → IsRegular (h ++ e ∷ []) → AreEntries (kept (h ++ e ∷ [])) → IsStore (h ++ e ∷ []) more stands live greatest
+    → stands (after_entry (view_of h) e) → length live ≤ more → IsRegular (h ++ e ∷ []) → AreEntries (durable_entries (h ++ e ∷ [])) → IsStore (h ++ e ∷ []) more stands live greatest
 gone_on h room more stood stands live greatest e store is stays after enough regular entries = record {
   world_stands = grown h e stands after;
   live_are = λ s. store.live_are s ∙ sym (is_live-push h e s ∙ stays s (is_live h s) e.session e.serial);

@@ -10,7 +10,7 @@ use Rattle.febe_data.specs.LimitsView.{LimitsView}
 use Rattle.febe_data.specs.Plain.{PlainRequest, insert, copy, rearrange, create, delete, version, quit, create_link, set_account, opens, closes, PlainReply, refused, PlainEntry}
 use Rattle.world_rules.specs.World.{World}
 use Rattle.world_rules.specs.Apply.{world_of}
-use Rattle.world_rules.specs.History.{kept, is_counted}
+use Rattle.world_rules.specs.History.{durable_entries, is_durable}
 use Rattle.world_rules.specs.Refusals.{opens_version}
 use Rattle.world_rules.specs.Effects.{Effect, effect, opening}
 use Rattle.world_rules.specs.Legal.{IsLegal, IsOutOfMemory, IsServed, IsRefused, IsQueryAnswered, IsDone, IsDiskFault, wanted_after}
@@ -88,7 +88,7 @@ module _ (limits : LimitsView) (session : ℕ) (history : List PlainEntry) (requ
 -- ---- so the store is as it was
 
 same_history : (before after : StoreView) → after.history ≡ before.history → UnlessKept before after (after.trees ≡ before.trees) → after.base ≡ before.base → StandsAsBefore before after
-same_history before after same trees base = record { history = same; trees = trees (ap kept same); base = base }
+same_history before after same trees base = record { history = same; trees = trees (ap durable_entries same); base = base }
 
 pub refused_stays : (before after : StoreView) (session : ℕ) (request : PlainRequest) (reply : PlainReply) (rose : Bool) → Steps before.limits session before.history request reply after.history rose → UnlessKept before after (after.trees ≡ before.trees) → after.base ≡ before.base
     → OnRefused reply (StandsAsBefore before after)
@@ -103,8 +103,8 @@ made_trees before after (Ok reply) entry ok err = ap (λ (v : StoreView). v.tree
 made_trees before after (Err error) entry ok err = ap (λ (v : StoreView). v.trees) err
 
 -- one that is kept comes into the kept entries
-pub is_one_more : (old new : List PlainEntry) (entry : PlainEntry) → is_counted entry.change ≡ true → new ≡ old ++ entry ∷ [] → kept new ≡ kept old → ⊥
-is_one_more old new entry counted grows same = one_longer (kept old) entry (sym (kept_counted old entry counted) ∙ sym (ap kept grows) ∙ same)
+pub is_one_more : (old new : List PlainEntry) (entry : PlainEntry) → is_durable entry.change ≡ true → new ≡ old ++ entry ∷ [] → durable_entries new ≡ durable_entries old → ⊥
+is_one_more old new entry counted grows same = one_longer (durable_entries old) entry (sym (kept_counted old entry counted) ∙ sym (ap durable_entries grows) ∙ same)
   where
     one_longer : (es : List PlainEntry) (e : PlainEntry) → es ++ e ∷ [] ≡ es → ⊥
     one_longer es e is = omega (arith, length-append es (e ∷ []), ap length is)

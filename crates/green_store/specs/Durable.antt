@@ -6,7 +6,7 @@ use Rattle.febe_data.specs.Plain.{PlainRequest, plain_request, PlainReply, plain
 use Rattle.green_io.specs.Areas.{Areas}
 use Rattle.green_io.specs.Disk.{DiskState}
 use Rattle.world_rules.specs.Apply.{world_of}
-use Rattle.world_rules.specs.History.{kept, is_counted}
+use Rattle.world_rules.specs.History.{durable_entries, is_durable}
 use Rattle.world_rules.specs.Effects.{Effect, effect}
 use Rattle.world_rules.specs.Legal.{wanted_after, entry_after}
 use Rattle.edit_log.specs.Images.{IsOpen, IsPending, IsMendable}
@@ -29,20 +29,20 @@ LogHas disk log entries (Some entry) = IsMendable entries entry × IsPending dis
 
 -- The disk has the store's kept entries, with this edit pending behind them, if one is.
 abbrev pub Keeps : DiskState → StoreView → Option PlainEntry → Type 0
-Keeps disk store pending = LogHas disk store.log (kept store.history) pending
+Keeps disk store pending = LogHas disk store.log (durable_entries store.history) pending
 
 -- the entry of a change that is logged, which a session's request makes after this history, and which nothing refuses
-pub record IsEdit (limits : LimitsView) (history : List PlainEntry) (session : ℕ) (request : PlainRequest) (entry : PlainEntry) : Type 0 where
+pub record IsDurableEntry (limits : LimitsView) (history : List PlainEntry) (session : ℕ) (request : PlainRequest) (entry : PlainEntry) : Type 0 where
   pub allowed : wanted_after limits history session request ≡ None
   pub made : Effect
   pub effect_is : effect (world_of history) session request ≡ Some made
-  pub counted : IsTrue (is_counted made.change)
+  pub counted : IsTrue (is_durable made.change)
   pub entry_is : entry ≡ entry_after history session made
 
 -- the entry is the edit of this step
-abbrev pub IsEditOf : StoreView → Step → PlainEntry → Type 0
-IsEditOf before (steps.Ask session request) entry = IsEdit before.limits before.history session (plain_request request) entry
-IsEditOf before other entry = ⊥
+abbrev pub IsDurableEntryOf : StoreView → Step → PlainEntry → Type 0
+IsDurableEntryOf before (steps.Ask session request) entry = IsDurableEntry before.limits before.history session (plain_request request) entry
+IsDurableEntryOf before other entry = ⊥
 
 -- the entry is the one that is pending
 abbrev pub IsThat : Option PlainEntry → PlainEntry → Type 0
@@ -57,17 +57,17 @@ HoldsWith entries MayCome image = IsWhole entries image.log ⊎ ((entry : PlainE
 -- edit that was pending, or the request's own.
 abbrev pub HoldsRequest : StoreView → Option PlainEntry → ℕ → PlainRequest → Areas → Type 0
 HoldsRequest before pending session request image =
-    HoldsWith (kept before.history) (λ entry. IsThat pending entry ⊎ IsEdit before.limits before.history session request entry) image
+    HoldsWith (durable_entries before.history) (λ entry. IsThat pending entry ⊎ IsDurableEntry before.limits before.history session request entry) image
 
 -- so it is while a step runs
 abbrev pub HoldsStep : StoreView → Option PlainEntry → Step → Areas → Type 0
-HoldsStep before pending step image = HoldsWith (kept before.history) (λ entry. IsThat pending entry ⊎ IsEditOf before step entry) image
+HoldsStep before pending step image = HoldsWith (durable_entries before.history) (λ entry. IsThat pending entry ⊎ IsDurableEntryOf before step entry) image
 
 -- no kept entry was added, and an edit is pending, of which this holds
 pub record StaysPending (before after : StoreView) (disk : DiskState) (MayStay : PlainEntry → Type 0) : Type 0 where
   pub entry : PlainEntry
   pub which : MayStay entry
-  pub none_kept : kept after.history ≡ kept before.history
+  pub none_kept : durable_entries after.history ≡ durable_entries before.history
   pub keeps : Keeps disk after (Some entry)
 
 -- After a request the disk has the kept entries of the history as it is then, and no edit is pending: so an accepted edit is
@@ -76,7 +76,7 @@ pub record StaysPending (before after : StoreView) (disk : DiskState) (MayStay :
 abbrev pub KeepsRequest : StoreView → Option PlainEntry → ℕ → PlainRequest → StoreView → PlainReply → DiskState → Type 0
 KeepsRequest before pending session request after reply disk =
     Keeps disk after None
-    ⊎ StaysPending before after disk (λ entry. IsThat pending entry ⊎ (IsEdit before.limits before.history session request entry × (reply ≡ refused Disk)))
+    ⊎ StaysPending before after disk (λ entry. IsThat pending entry ⊎ (IsDurableEntry before.limits before.history session request entry × (reply ≡ refused Disk)))
 
 -- the answer is that the disk failed
 abbrev pub IsRefusedForDisk : StepAnswer → Type 0
@@ -87,4 +87,4 @@ IsRefusedForDisk other = ⊥
 abbrev pub KeepsStep : StoreView → Option PlainEntry → Step → StoreView → StepAnswer → DiskState → Type 0
 KeepsStep before pending step after answer disk =
     Keeps disk after None
-    ⊎ StaysPending before after disk (λ entry. IsThat pending entry ⊎ (IsEditOf before step entry × IsRefusedForDisk answer))
+    ⊎ StaysPending before after disk (λ entry. IsThat pending entry ⊎ (IsDurableEntryOf before step entry × IsRefusedForDisk answer))

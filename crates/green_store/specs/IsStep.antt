@@ -3,7 +3,7 @@ use Rattle.std.specs.Prelude.{◌≡◌, ◌⊎◌, ℕ, ◌+◌, ◌*◌, ◌<�
 use Rattle.febe_data.specs.declared.refusal.Refusal.TheVariants.{Memory}
 use Rattle.febe_data.specs.Plain.{PlainRequest, plain_request, PlainReply, plain_reply, refused}
 use Rattle.febe_data.specs.Validity.{IsRequest, IsReply}
-use Rattle.world_rules.specs.History.{is_live, kept}
+use Rattle.world_rules.specs.History.{is_live, durable_entries}
 use Rattle.tree_world.specs.Condition.{StaysInShape}
 use Rattle.green_store.specs.declared.step.Step.{Step}
 use Rattle.green_store.specs.declared.step.Step.TheVariants as steps
@@ -57,7 +57,7 @@ OnRefused other fact = Unit {0}
 
 -- this holds unless an entry was kept
 abbrev pub UnlessKept : StoreView → StoreView → Type 0 → Type 0
-UnlessKept before after fact = kept after.history ≡ kept before.history → fact
+UnlessKept before after fact = durable_entries after.history ≡ durable_entries before.history → fact
 
 -- The live session's request has this reply, with the number of entries after it: by a legal step where the
 -- request is valid. Whichever refusal it is given, the history and the trees' condition are as they were. So are the trees

@@ -3,7 +3,7 @@ use Rattle.std.specs.Prelude.{◌≡◌, ℕ, ◌≤◌, ◌==◌, List, length}
 use Rattle.std.specs.List.{list_any}
 use Rattle.febe_data.specs.Plain.{PlainEntry}
 use Rattle.world_rules.specs.FlatView.{FlatView, view_of}
-use Rattle.world_rules.specs.History.{is_live, kept}
+use Rattle.world_rules.specs.History.{is_live, durable_entries}
 use Rattle.entry_fits.specs.Laws.{IsRegular}
 use Rattle.edit_log.specs.Images.{AreEntries}
 use Rattle.green_store.specs.Sessions.{greatest_session}
@@ -16,4 +16,4 @@ pub record IsStore (history : List PlainEntry) (room : ℕ) (stands : FlatView �
   pub greatest_is : greatest ≡ greatest_session history
   pub room_kept : length live ≤ room
   pub regular : IsRegular history
-  pub entries : AreEntries (kept history)
+  pub entries : AreEntries (durable_entries history)

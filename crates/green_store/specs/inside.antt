@@ -3,10 +3,10 @@ use Rattle.std.specs.Prelude.{◌≡◌, ◌⊎◌, ℕ, ◌+◌, ◌*◌, ◌<�
 use Rattle.tumbler.specs.Places.{IsTumbler}
 use Rattle.febe_data.specs.declared.refusal.Refusal.TheVariants.{Disk}
 use Rattle.febe_data.specs.Plain.{PlainChange, document_created, version_made, copy_opened, text_inserted, specs_copied, link_made, PlainReply, refused, PlainEntry}
-use Rattle.entry_codec.specs.Bodies.{IsU32, IsLogged}
+use Rattle.entry_codec.specs.Bodies.{IsU32, IsEncodable}
 use Rattle.green_io.specs.Disk.{DiskState}
 use Rattle.world_rules.specs.Apply.{world_of}
-use Rattle.world_rules.specs.History.{kept, is_counted}
+use Rattle.world_rules.specs.History.{durable_entries, is_durable}
 use Rattle.world_rules.specs.Effects.{Effect}
 use Rattle.world_rules.specs.Legal.{entry_after}
 use Rattle.world_rules.specs.Placed.{IsPlaced}
@@ -38,11 +38,11 @@ IsTyped other = Unit {0}
 -- After this history the session's change may be kept: it is placed, there is a body for it, and its entry fits as the next
 -- one of a log that has room.
 pub record MayBeKept (history : List PlainEntry) (session : ℕ) (made : Effect) : Type 0 where
-  pub counted : is_counted made.change ≡ true
+  pub counted : is_durable made.change ≡ true
   pub placed : IsPlaced (world_of history) made.change
-  pub logged : IsLogged made.change
-  pub fits : Fits (kept history) (entry_after history session made)
-  pub room : length (kept history) < most_entries
+  pub logged : IsEncodable made.change
+  pub fits : Fits (durable_entries history) (entry_after history session made)
+  pub room : length (durable_entries history) < most_entries
 
 -- the change is made: its reply is given, and its entry is added
 pub record IsKept (before : List PlainEntry) (session : ℕ) (made : Effect) (reply : PlainReply) (after : List PlainEntry) : Type 0 where

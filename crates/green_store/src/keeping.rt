@@ -6,7 +6,6 @@ ghost use Rattle.entry_codec.specs.Format.{body_of};
 ghost use Rattle.green_io.specs.Areas.{is_log};
 ghost use Rattle.green_io.specs.Disk.{LeavesOnly, LeavesBut};
 ghost use Rattle.green_io.specs.Outside.{HasRisen};
-ghost use Rattle.world_rules.specs.History.{is_counted};
 ghost use Rattle.edit_log.specs.Answers.{OnDone, OnFailed};
 ghost use Rattle.edit_log.specs.Images.{IsAppendable};
 ghost use Rattle.green_store.specs.Durable.{LogHas, HoldsWith, IsThat};
@@ -17,23 +16,6 @@ use entry_codec::encode;
 use febe_data::{Change, Entry, Memory, Text};
 use green_io::Disk;
 use std::alloc::Global;
-
-/// Whether a change is kept over a restart, and so logged: one of documents, content or links.
-pub(crate) fn is_kept(change: &Change) -> bool
-    ensures { result ≡ is_counted (plain_change change.now) }
-{
-    match change {
-        Change::Create { .. }
-        | Change::Version { .. }
-        | Change::OpenCopy { .. }
-        | Change::Insert { .. }
-        | Change::Delete { .. }
-        | Change::Rearrange { .. }
-        | Change::Copy { .. }
-        | Change::Link { .. } => true,
-        _ => false,
-    }
-}
 
 /// Looks at the fields of a change, so that what their types say of them is known.
 pub(crate) fn look_at(change: &Change)

@@ -3,7 +3,7 @@ ghost use Rattle.std.specs.Prelude.{◌≡◌, false, Option};
 ghost use Rattle.febe_data.specs.Plain.{PlainEntry};
 ghost use Rattle.green_io.specs.Areas.{Areas};
 ghost use Rattle.green_io.specs.Disk.{images_now};
-ghost use Rattle.world_rules.specs.History.{is_live, kept};
+ghost use Rattle.world_rules.specs.History.{is_live, durable_entries};
 ghost use Rattle.green_store.specs.Durable.{Keeps, HoldsWith, IsThat};
 ghost use Rattle.green_store.specs.Laws.{LegalStepsAddOwn, StepsCount, StepsStayPlaced};
 ghost use Rattle.green_store.specs.Opening.{EachHasOneOpening};
@@ -11,7 +11,7 @@ ghost use Rattle.green_store.specs.Opening.{EachHasOneOpening};
 use crate::store::StoreOver;
 use edit_log::laws::{one_reading, open_is_whole, pending_is_whole};
 use green_io::Disk;
-use tree_world::Undoes;
+use tree_world::Undo;
 
 /// Whatever sessions ask, in whatever order: new documents are new, and changes are made at places that are there.
 pub fn steps_stay_placed()
@@ -24,8 +24,8 @@ pub fn steps_count()
 {}
 
 /// What a crash leaves of a disk between two steps: a whole log with the kept entries, or with the pending edit behind them.
-pub fn images_are_kept<W: Undoes, D: Disk>(disk: &D, store: &StoreOver<W>)
-    ensures { (pending : Option PlainEntry) → Keeps (D.state disk.now) store.now pending → (image : Areas) → images_now (D.state disk.now) image → HoldsWith (kept store.now.history) (IsThat pending) image }
+pub fn images_are_kept<W: Undo, D: Disk>(disk: &D, store: &StoreOver<W>)
+    ensures { (pending : Option PlainEntry) → Keeps (D.state disk.now) store.now pending → (image : Areas) → images_now (D.state disk.now) image → HoldsWith (durable_entries store.now.history) (IsThat pending) image }
 {
     open_is_whole(disk, &store.log);
     pending_is_whole(disk, &store.log);
@@ -44,7 +44,7 @@ pub fn legal_steps_add_own()
 {}
 
 /// Sessions have numbers from 1 on, so none of a store is live under the number 0.
-pub fn no_session_is_zero<W: Undoes>(store: &StoreOver<W>)
+pub fn no_session_is_zero<W: Undo>(store: &StoreOver<W>)
     ensures { is_live store.now.history 0 ≡ false }
 {
     let _ = &store.history;

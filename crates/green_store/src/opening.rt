@@ -27,7 +27,7 @@ use febe_data::{Change, Entry, Limits, List, Memory};
 use green_io::Disk;
 use std::alloc::Global;
 use thiserror::Error;
-use tree_world::{Tends, TreeWorld, Undoes};
+use tree_world::{Rebalance, TreeWorld, Undo};
 
 /// Why a store was not opened. Its text is the one that a program prints.
 #[derive(Clone, Copy, Debug, PartialEq, Eq, Error)]
@@ -89,7 +89,7 @@ fn gate_behind(alloc: Global, entries: &[Entry]) -> Result<u64, Memory>
 
 /// Builds the world of the entries, each of which is tested to fit after those before it. It gives the number of entries in
 /// front of the first that does not, where one does not. The trees are put right by one step behind each entry.
-fn replay<W: Tends>(
+fn replay<W: Rebalance>(
     alloc: Global,
     world: &mut W,
     entries: &[Entry],
@@ -123,7 +123,7 @@ fn greatest_session(entries: &[Entry]) -> u64
     greatest
 }
 
-impl<W: Undoes + Drop> StoreOver<W> {
+impl<W: Undo + Drop> StoreOver<W> {
     /// Opens a store over a disk, as [`Store::open`] does, with this world, which no entry has changed yet.
     pub fn open_over<D: Disk>(
         alloc: Global,

@@ -2,7 +2,7 @@
 ghost use Rattle.std.specs.Prelude.{◌≡◌, ◌≢◌, ◌⊎◌, ◌≤◌, ◌<◌, ◌+◌, ◌^◌, ◌==◌, [], ◌∷◌, not, filter, length, Bool, false, Option, IsTrue, IfOk, OnOk, OnErr};
 ghost use Rattle.std.specs.List.{list_any};
 
-use crate::keeping::{is_kept, keep, look_at, record_of};
+use crate::keeping::{keep, look_at, record_of};
 use crate::step::{Step, StepAnswer};
 use crate::tending::{Tended, tend};
 use edit_log::{Appended, EditLog};
@@ -10,14 +10,14 @@ use febe_data::{Change, Entry, Limits, List, Memory, Refusal, Reply, Request, Tu
 use green_io::Disk;
 use std::alloc::Global;
 use std::marker::Model;
-use tree_world::{TreeWorld, Undoes};
-use world_rules::{Effect, Served};
+use tree_world::{TreeWorld, Undo};
+use world_rules::{Effect, Served, is_durable};
 
 /// A history that begins with the entries of a log and a restart, the world that it has built, to which each entry is applied
 /// once, and the log, to which each kept entry is appended before it is in the history. Any world serves that entries change,
 /// that takes the last one back, that can be put into better shape, and that answers what requests look up.
 #[derive(Drop)]
-pub struct StoreOver<W: Undoes> {
+pub struct StoreOver<W: Undo> {
     pub(crate) history: List<Entry>,
     pub(crate) world: W,
     /// The live sessions. The history has room for the end of each.
@@ -33,7 +33,7 @@ pub struct StoreOver<W: Undoes> {
 /// The store of a back end that keeps its world in trees and tables.
 pub type Store = StoreOver<TreeWorld>;
 
-impl<W: Undoes> Model for StoreOver<W> {
+impl<W: Undo> Model for StoreOver<W> {
     ghost use Rattle.febe_data.specs.Plain.{plain_history};
     ghost use Rattle.green_store.specs.StoreView.{StoreView};
     ghost use Rattle.green_store.specs.IsStore.{IsStore};
@@ -45,7 +45,7 @@ impl<W: Undoes> Model for StoreOver<W> {
     ghost invariant = { λ s. IsStore (plain_history s.history.items) s.history.spare (W.stands s.world) s.live.items s.greatest };
 }
 
-impl<W: Undoes + Drop> StoreOver<W> {
+impl<W: Undo + Drop> StoreOver<W> {
     ghost use Rattle.febe_data.specs.Plain.{plain_history};
     ghost use Rattle.febe_data.specs.Plain.{PlainEntry};
     ghost use Rattle.green_io.specs.Areas.{is_log};
@@ -182,13 +182,13 @@ fn remove(live: &mut List<u64>, session: u64)
 }
 
 #[tactic(auto, using(crate::proofs::Histories::histories))]
-impl<W: Undoes + Drop> StoreOver<W> {
+impl<W: Undo + Drop> StoreOver<W> {
     ghost use Rattle.febe_data.specs.Plain.{PlainEntry, plain_request, plain_reply, plain_change};
     ghost use Rattle.febe_data.specs.Validity.{IsRequest, IsReply};
     ghost use Rattle.green_io.specs.Areas.{is_log};
     ghost use Rattle.green_io.specs.Disk.{LeavesOnly, LeavesBut};
     ghost use Rattle.world_rules.specs.Apply.{world_of};
-    ghost use Rattle.world_rules.specs.History.{is_live, is_counted, kept};
+    ghost use Rattle.world_rules.specs.History.{is_live, is_durable, durable_entries};
     ghost use Rattle.world_rules.specs.Legal.{entry_after};
     ghost use Rattle.world_rules.specs.Placed.{IsPlaced};
     ghost use Rattle.world_rules.specs.PlainEffect.{plain_effect};
@@ -368,7 +368,7 @@ impl<W: Undoes + Drop> StoreOver<W> {
         match world_rules::serve(&self.world, alloc, session, request, &self.limits)? {
             Served::Refused(refusal) => Ok(Reply::Refused(refusal)),
             Served::Answered(reply) => Ok(reply),
-            Served::Changed(made) if is_kept(&made.change) => {
+            Served::Changed(made) if is_durable(&made.change) => {
                 // What the types of its fields say of them, and the bounds of the limits.
                 look_at(&made.change);
                 let _ = self.limits.text();
@@ -383,7 +383,7 @@ impl<W: Undoes + Drop> StoreOver<W> {
         requires live { IsTrue (is_live self.old.history session) }
         requires stays { LeavesLive (plain_change made.change) }
         requires placed { IsPlaced (world_of self.old.history) (plain_change made.change) }
-        requires drops { is_counted (plain_change made.change) ≡ false }
+        requires drops { is_durable (plain_change made.change) ≡ false }
         ensures reply { IfOk result (λ reply. reply ≡ made.reply) }
         ensures ok { OnOk result (self.new ≡ with_one self.old (entry_after self.old.history session (plain_effect made))) }
         ensures err { OnErr result (self.new ≡ self.old) }
@@ -417,7 +417,7 @@ impl<W: Undoes + Drop> StoreOver<W> {
         ensures base { self.new.base ≡ self.old.base }
         ensures outcome { IfOk result (λ reply. IsKeptOrTakenBack self.old.history session (plain_effect made) (plain_reply reply) self.new.history (has_risen (D.fault_count disk.old) (D.fault_count disk.new))) }
         ensures trees { UnlessKept self.old self.new (self.new.trees ≡ self.old.trees) }
-        ensures any_moment { (pending : Option PlainEntry) → Keeps (D.state disk.old) self.old pending → LeavesOnly (D.state disk.old) (D.state disk.new) (HoldsWith (kept self.old.history) (λ other. IsThat pending other ⊎ (other ≡ entry_after self.old.history session (plain_effect made)))) }
+        ensures any_moment { (pending : Option PlainEntry) → Keeps (D.state disk.old) self.old pending → LeavesOnly (D.state disk.old) (D.state disk.new) (HoldsWith (durable_entries self.old.history) (λ other. IsThat pending other ⊎ (other ≡ entry_after self.old.history session (plain_effect made)))) }
         ensures keeps { (pending : Option PlainEntry) → Keeps (D.state disk.old) self.old pending → IfOk result (λ reply. KeepsEdit self.old pending (entry_after self.old.history session (plain_effect made)) self.new (plain_reply reply) (D.state disk.new)) }
         ensures others { LeavesBut is_log (D.state disk.old) (D.state disk.new) }
         ensures never_falls { D.fault_count disk.old ≤ D.fault_count disk.new }

@@ -5,7 +5,7 @@ ghost use Rattle.green_store.specs.inside.{IsTended, IsPutOffFor};
 
 use febe_data::Memory;
 use std::alloc::Global;
-use tree_world::Tends;
+use tree_world::Rebalance;
 
 /// What one step has put right.
 #[derive(Clone, Copy)]
@@ -20,7 +20,11 @@ pub(crate) enum Tended {
 
 /// Makes one step of the balancer where some tree allows one. Where none does, it lets go of the nodes that no tree reaches,
 /// if the trees have over twice as many nodes as they had after the last sweep or at first, and 1,024 more.
-pub(crate) fn tend<W: Tends>(alloc: Global, world: &mut W, base: &mut u64) -> Result<Tended, Memory>
+pub(crate) fn tend<W: Rebalance>(
+    alloc: Global,
+    world: &mut W,
+    base: &mut u64,
+) -> Result<Tended, Memory>
     ensures stands { (view : FlatView) → W.stands world.old view → W.stands world.new view }
     ensures tended { IfOk result (λ done. IsTended (W.condition world.old) base.old done (W.condition world.new) base.new) }
     ensures err { OnErr result (IsPutOffFor (W.condition world.old) base.old (W.condition world.new) base.new) }

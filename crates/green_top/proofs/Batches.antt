@@ -12,7 +12,7 @@ use Rattle.green_io.specs.Outside.{HasRisen}
 use Rattle.green_io.proofs.Crash.{after, weaker}
 use Rattle.edit_log.specs.Images.{AsRead, HoldsAsRead}
 use Rattle.edit_log.specs.Log.{IsWhole}
-use Rattle.world_rules.specs.History.{kept}
+use Rattle.world_rules.specs.History.{durable_entries}
 use Rattle.world_rules.specs.Legal.{Exchange}
 use Rattle.green_store.specs.declared.opening.OpenFault.{OpenFault}
 use Rattle.green_store.specs.declared.opening.OpenFault.TheVariants as faults
@@ -108,12 +108,12 @@ module _ (words : List (List ℕ)) (limits : LimitsView) (are : HasLimits words 
       ap (λ (x : ℕ). take x reported) all ∙ ap (take (length first.history)) (is ∙ grown.1) ∙ take-append-le (length first.history) first.history grown.0 (omega arith) ∙ take-length first.history
 
   pub opened_kept : (count : ℕ) → count ≡ length first.history → IsSome old.reads
-      → ((pending : Option PlainEntry) → Keeps new last pending → (image : Areas) → images_now new image → HoldsWith (kept last.history) (IsThat pending) image) → (image : Areas) → images_now new image → HoldsAll words count reported exchanges k n image
+      → ((pending : Option PlainEntry) → Keeps new last pending → (image : Areas) → images_now new image → HoldsWith (durable_entries last.history) (IsThat pending) image) → (image : Areas) → images_now new image → HoldsAll words count reported exchanges k n image
   opened_kept count all told law image now =
       let stands = endures.stands [] (length first.history) k (le_refl _) (just_opened limits _ k opened first m rises (keeps told)) in
       subst (λ (h : List PlainEntry). HoldsAll words count h exchanges k n image) (sym is) (all_hold stands (law stands.pending stands.keeps image now))
     where
-      all_hold : (s : StandsOn limits (greatest_session first.history + 1) exchanges (length first.history) k new last n) → HoldsWith (kept last.history) (IsThat s.pending) image → HoldsAll words count last.history exchanges k n image
+      all_hold : (s : StandsOn limits (greatest_session first.history + 1) exchanges (length first.history) k new last n) → HoldsWith (durable_entries last.history) (IsThat s.pending) image → HoldsAll words count last.history exchanges k n image
       all_hold s (inl whole) = inl whole
       all_hold s (inr (entry, that, whole)) =
           let made = was_made limits (greatest_session first.history + 1) exchanges (length first.history) last.history k n s.pending entry s.made that in

@@ -21,17 +21,17 @@ use Rattle.green_io.specs.Disk.{DiskState, IsDisk, LeavesOnly, LeavesBut}
 use Rattle.green_io.proofs.Beside.{untouched_others, then_others}
 use Rattle.green_io.proofs.Crash.{after, weaker, none_called}
 use Rattle.edit_log.specs.Log.{IsWhole}
-use Rattle.world_rules.specs.History.{kept, is_counted}
+use Rattle.world_rules.specs.History.{durable_entries, is_durable}
 use Rattle.green_store.specs.declared.step.Step.{Step}
 use Rattle.green_store.specs.declared.step.Step.TheVariants as steps
 use Rattle.green_store.specs.declared.step.StepAnswer.{StepAnswer}
 use Rattle.green_store.specs.declared.step.StepAnswer.TheVariants as answers
-use Rattle.green_store.specs.Durable.{has_risen, Keeps, IsEdit, IsEditOf, IsThat, HoldsWith, HoldsStep, KeepsStep, IsRefusedForDisk}
+use Rattle.green_store.specs.Durable.{has_risen, Keeps, IsDurableEntry, IsDurableEntryOf, IsThat, HoldsWith, HoldsStep, KeepsStep, IsRefusedForDisk}
 use Rattle.green_store.specs.IsStep.{IsStep}
 use Rattle.green_store.specs.Sessions.{begin_entry, end_entry}
 use Rattle.green_store.specs.StoreView.{StoreView, with_one, StandsStill}
 use Rattle.febe_data.specs.declared.request.Request.{Request}
-use Rattle.green_top.specs.Crash.{IsFront, MakesEdit, HoldsFront, WasMade, IsRefusedExchange}
+use Rattle.green_top.specs.Crash.{IsFront, MakesDurableEntry, HoldsFront, WasMade, IsRefusedExchange}
 use Rattle.green_top.specs.inside.Enduring.{IsMade, StandsOn, Endures}
 
 -- what is said of a history that has grown
@@ -50,7 +50,7 @@ whole_front : (least : ℕ) (before now : List PlainEntry) → Grows before now 
 whole_front least before now grows le = record { back = grows.0; parts = grows.1; no_shorter = le }
 
 -- what an exchange makes, it makes however many come behind it
-abbrev made_later : (limits : LimitsView) (session : ℕ) (exchanges more : List Exchange) (front : List PlainEntry) (entry : PlainEntry) → MakesEdit limits session exchanges front entry → MakesEdit limits session (exchanges ++ more) front entry
+abbrev made_later : (limits : LimitsView) (session : ℕ) (exchanges more : List Exchange) (front : List PlainEntry) (entry : PlainEntry) → MakesDurableEntry limits session exchanges front entry → MakesDurableEntry limits session (exchanges ++ more) front entry
 made_later limits session exchanges more front entry made = record {
   answered = made.answered;
   exchange = made.exchange;
@@ -70,7 +70,7 @@ holds_more : (limits : LimitsView) (session : ℕ) (exchanges more : List Exchan
 holds_more limits session exchanges more least before now image grows h = record {
   front = h.front;
   is_front = front_of_more least before now h.front grows h.is_front;
-  holds = with_more (kept h.front) image (MakesEdit limits session exchanges h.front) (MakesEdit limits session (exchanges ++ more) h.front) (λ entry made. made_later limits session exchanges more h.front entry made) h.holds;
+  holds = with_more (durable_entries h.front) image (MakesDurableEntry limits session exchanges h.front) (MakesDurableEntry limits session (exchanges ++ more) h.front) (λ entry made. made_later limits session exchanges more h.front entry made) h.holds;
 }
 
 longer : (least : ℕ) (before now : List PlainEntry) → Grows before now → least ≤ length before → least ≤ length now
@@ -119,12 +119,12 @@ was_made limits session exchanges least history first now (Some e) entry made th
 
 -- after the exchanges so far, the edit of a step is made by one of these
 abbrev Edits : LimitsView → ℕ → List Exchange → StoreView → Step → Type 0
-Edits limits session exchanges before step = (earlier : List Exchange) (entry : PlainEntry) → IsEditOf before step entry → MakesEdit limits session (earlier ++ exchanges) before.history entry
+Edits limits session exchanges before step = (earlier : List Exchange) (entry : PlainEntry) → IsDurableEntryOf before step entry → MakesDurableEntry limits session (earlier ++ exchanges) before.history entry
 
 -- Where it was refused for the disk, and is not in the history, the disk failed.
 abbrev Fails : (limits : LimitsView) (session : ℕ) (exchanges : List Exchange) (before after : StoreView) (step : Step) → StepAnswer → ℕ → ℕ → Edits limits session exchanges before step → Type 0
 Fails limits session exchanges before after step answer m n edits =
-    (earlier : List Exchange) (entry : PlainEntry) (edit : IsEditOf before step entry) → IsRefusedForDisk answer → kept after.history ≡ kept before.history → IsRefusedExchange (edits earlier entry edit).exchange × HasRisen m n
+    (earlier : List Exchange) (entry : PlainEntry) (edit : IsDurableEntryOf before step entry) → IsRefusedForDisk answer → durable_entries after.history ≡ durable_entries before.history → IsRefusedExchange (edits earlier entry edit).exchange × HasRisen m n
 
 -- a step whose edit, if it is one, a request of the session makes
 module _ (limits : LimitsView) (session : ℕ) (exchanges : List Exchange) (before after : StoreView) (disk disk' : DiskState) (m n : ℕ) (step : Step) (answer : StepAnswer) (grows : Grows before.history after.history) (rises : m ≤ n)
@@ -237,13 +237,13 @@ endures_background limits session before after disk disk' m n answer rose rises 
 
 -- ---- a request
 
-module _ (limits : LimitsView) (session : ℕ) (before after : List PlainEntry) (request : PlainRequest) (reply : PlainReply) (rose : Bool) (entry : PlainEntry) (edit : IsEdit limits before session request entry)
-    (refusal : reply ≡ refused refusals.Disk) (none : kept after ≡ kept before) (s : Steps limits session before request reply after rose) where
+module _ (limits : LimitsView) (session : ℕ) (before after : List PlainEntry) (request : PlainRequest) (reply : PlainReply) (rose : Bool) (entry : PlainEntry) (edit : IsDurableEntry limits before session request entry)
+    (refusal : reply ≡ refused refusals.Disk) (none : durable_entries after ≡ durable_entries before) (s : Steps limits session before request reply after rose) where
   one_kept : (made : Effect) → made.change ≡ edit.made.change → s.added ≢ entry_after before session made ∷ []
   one_kept made is added =
-      let counted : is_counted made.change ≡ true = ap is_counted is ∙ edit.counted in
-      let one : length (kept s.added) ≡ 1 = ap (λ (h : List PlainEntry). length (kept h)) added ∙ rw counted refl in
-      let all : length (kept after) ≡ length (kept before) + length (kept s.added) = ap (λ (h : List PlainEntry). length (kept h)) s.grows ∙ ap length (filter-append (λ (e : PlainEntry). is_counted e.change) before s.added) ∙ length-append (kept before) (kept s.added) in
+      let counted : is_durable made.change ≡ true = ap is_durable is ∙ edit.counted in
+      let one : length (durable_entries s.added) ≡ 1 = ap (λ (h : List PlainEntry). length (durable_entries h)) added ∙ rw counted refl in
+      let all : length (durable_entries after) ≡ length (durable_entries before) + length (durable_entries s.added) = ap (λ (h : List PlainEntry). length (durable_entries h)) s.grows ∙ ap length (filter-append (λ (e : PlainEntry). is_durable e.change) before s.added) ∙ length-append (durable_entries before) (durable_entries s.added) in
       omega (arith, one, all, ap length none)
 
   served_fails : (made : Option Effect) → made ≡ Some edit.made → MatchOption made (IsQueryAnswered before request reply s.added) (λ m. IsDone before session m reply s.added ⊎ IsDiskFault m reply s.added rose) → (rose ≡ true) × (s.added ≡ [])

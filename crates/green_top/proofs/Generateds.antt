@@ -1,6 +1,6 @@
 -- A session whose requests a start generates, from its input to its summary.
-use Rattle.std.proofs.Common.{◌≡◌, ◌≢◌, ℕ, zero, suc, take, ◌+◌, ◌-◌, ◌<◌, ◌≤◌, List, [], ◌∷◌, ◌++◌, map, length, drop, get_or, replicate, All, Option, Some, refl, ap, ◌∙◌, sym, subst, inl, inr, arith, append_assoc}
-use Rattle.std.specs.List.{flat_map, AllByRecursion, range_with_len}
+use Rattle.std.proofs.Common.{◌≡◌, ℕ, zero, suc, take, ◌+◌, ◌-◌, ◌<◌, ◌≤◌, List, [], ◌∷◌, ◌++◌, map, length, drop, get_or, replicate, All, Option, Some, refl, ap, ◌∙◌, sym, subst, inl, inr, arith, append_assoc}
+use Rattle.std.specs.List.{flat_map, AllByRecursion}
 use Rattle.std.proofs.lemmas.List.{append-nil, length-append, append_cancel_left, map_more, take_all}
 use Rattle.std.proofs.lemmas.List.Elements.{All-head, All-tail}
 use Rattle.std.proofs.lemmas.Grind.{flat_map-append}
@@ -19,13 +19,11 @@ use Rattle.world_rules.specs.Apply.{world_of}
 use Rattle.world_rules.specs.Legal.{Exchange}
 use Rattle.green_session.specs.Putting.{IsPut}
 use Rattle.green_session.specs.declared.put.Put.TheVariants as puts
-use Rattle.green_top.specs.declared.generating.Draw.{Draw}
-use Rattle.green_top.specs.declared.generating.Kind.{Kind}
-use Rattle.green_top.specs.declared.generating.Kind.TheVariants.{Insert, Delete, Copy, Rearrange, Version, Link, Find}
+use Rattle.session_generator.specs.Generated.{account, drawn_requests, generated_requests}
+use Rattle.session_generator.proofs.Drawn.{no_quit_drawn}
 use Rattle.green_top.specs.declared.session_end.SessionEnd.{SessionEnd}
 use Rattle.green_top.specs.declared.session_end.SessionEnd.TheVariants as ends
 use Rattle.green_top.specs.Ends.{Cause}
-use Rattle.green_top.specs.Generated.{account, request_of, request_at, maker_at, drawn_requests, generated_requests}
 use Rattle.green_top.specs.GeneratedRun.{AreFirstOf, IsGeneratedRun}
 use Rattle.green_top.specs.IoState.{IoState, io_state}
 use Rattle.green_top.specs.Outcome.{NoSession, IsOver, IsEndedSession, Leaves, IsRun}
@@ -36,23 +34,6 @@ use Rattle.green_top.specs.inside.Summing.{SpellReplies, IsOutput, Tells, CanEnd
 use Rattle.green_top.proofs.Streams.{appends_nothing}
 
 -- ---- only the last of the requests is a quit
-
-never_quits : (kind : Kind) (k : ℕ) (draw : Draw) (long : ℕ) → request_of kind k draw long ≢ quit
-never_quits Insert k draw long e = absurd (let f = e in cc)
-never_quits Delete k draw long e = absurd (let f = e in cc)
-never_quits Copy k draw long e = absurd (let f = e in cc)
-never_quits Rearrange k draw long e = absurd (let f = e in cc)
-never_quits Version k draw long e = absurd (let f = e in cc)
-never_quits Link k draw long e = absurd (let f = e in cc)
-never_quits Find k draw long e = absurd (let f = e in cc)
-
-none_of_map : (f : ℕ → PlainRequest) → ((k : ℕ) → f k ≢ quit) → (ks : List ℕ) → NoQuits (map f ks)
-none_of_map f never [] = tt
-none_of_map f never (k ∷ ks) = (never k, none_of_map f never ks)
-
-none_drawn : (start n : ℕ) → NoQuits (drawn_requests start n)
-unfolding drawn_requests request_at
-none_drawn start n = none_of_map (λ k. request_at k (maker_at start (k - 1))) (λ k. never_quits _ k _ _) (range_with_len 1 n)
 
 none_in_both : (xs ys : List PlainRequest) → NoQuits xs → NoQuits ys → NoQuits (xs ++ ys)
 none_in_both [] ys p q = q
@@ -71,7 +52,7 @@ pub generated_quit_last : (start : ℕ) → QuitsLast (generated_requests start)
 unfolding generated_requests
 generated_quit_last start =
     quits_last ((set_account account ∷ replicate 8 create) ++ drawn_requests start 2000)
-    (none_in_both (set_account account ∷ replicate 8 create) (drawn_requests start 2000) ((λ e. absurd (let f = e in cc)), none_created 8) (none_drawn start 2000))
+    (none_in_both (set_account account ∷ replicate 8 create) (drawn_requests start 2000) ((λ e. absurd (let f = e in cc)), none_created 8) (no_quit_drawn start 2000))
 
 -- ---- requests whose spelling begins another's are the first of those
 

@@ -13,7 +13,6 @@ pub mod Readings
 pub mod Batches
 pub mod Complete
 pub mod Rounds
-pub mod Drawn
 pub mod Summings
 pub mod Replying
 pub mod Generateds

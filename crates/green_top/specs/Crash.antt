@@ -7,9 +7,9 @@ use Rattle.green_io.specs.Areas.{Areas}
 use Rattle.green_io.specs.Outside.{HasRisen}
 use Rattle.edit_log.specs.Images.{HoldsAsRead}
 use Rattle.febe_data.specs.Validity.{IsRequest}
-use Rattle.world_rules.specs.History.{kept, is_live}
+use Rattle.world_rules.specs.History.{durable_entries, is_live}
 use Rattle.world_rules.specs.Legal.{Exchange}
-use Rattle.green_store.specs.Durable.{IsEdit, HoldsWith}
+use Rattle.green_store.specs.Durable.{IsDurableEntry, HoldsWith}
 use Rattle.green_store.specs.Opening.{opened_with}
 use Rattle.green_store.specs.Sessions.{greatest_session}
 use Rattle.green_top.specs.Words.{HasLimits}
@@ -22,7 +22,7 @@ pub record IsFront (least : ℕ) (history front : List PlainEntry) : Type 0 wher
 
 -- The front was the history when the next request of the session came: those of the first exchanges had been answered, and this
 -- exchange is the one behind them. Its request makes this edit after the front, and nothing refuses it.
-pub record MakesEdit (limits : LimitsView) (session : ℕ) (exchanges : List Exchange) (front : List PlainEntry) (entry : PlainEntry) : Type 0 where
+pub record MakesDurableEntry (limits : LimitsView) (session : ℕ) (exchanges : List Exchange) (front : List PlainEntry) (entry : PlainEntry) : Type 0 where
   pub answered : List Exchange
   pub exchange : Exchange
   pub later : List Exchange
@@ -30,7 +30,7 @@ pub record MakesEdit (limits : LimitsView) (session : ℕ) (exchanges : List Exc
   pub point_is : exchange.point ≡ length (front ++ exchange.added)
   pub live : IsTrue (is_live front session)
   pub valid : IsRequest exchange.request
-  pub edit : IsEdit limits front session exchange.request entry
+  pub edit : IsDurableEntry limits front session exchange.request entry
 
 -- the exchange's request was refused since the disk failed meanwhile, and added nothing
 pub record IsRefusedExchange (exchange : Exchange) : Type 0 where
@@ -43,15 +43,15 @@ pub record IsRefusedExchange (exchange : Exchange) : Type 0 where
 pub record HoldsFront (limits : LimitsView) (session : ℕ) (exchanges : List Exchange) (least : ℕ) (history : List PlainEntry) (image : Areas) : Type 0 where
   pub front : List PlainEntry
   pub is_front : IsFront least history front
-  pub holds : HoldsWith (kept front) (MakesEdit limits session exchanges front) image
+  pub holds : HoldsWith (durable_entries front) (MakesDurableEntry limits session exchanges front) image
 
 -- The edit is the one that a request of the session makes which came when some front was the history, and no entry that came since
 -- is kept. So it is not in the history: the request was refused, since the disk failed, whose count of faults rose from this to that.
 pub record WasMade (limits : LimitsView) (session : ℕ) (exchanges : List Exchange) (least : ℕ) (history : List PlainEntry) (faults_before faults_after : ℕ) (entry : PlainEntry) : Type 0 where
   pub front : List PlainEntry
   pub is_front : IsFront least history front
-  pub none_kept : kept front ≡ kept history
-  pub made : MakesEdit limits session exchanges front entry
+  pub none_kept : durable_entries front ≡ durable_entries history
+  pub made : MakesDurableEntry limits session exchanges front entry
   pub refused_is : IsRefusedExchange made.exchange
   pub failed : HasRisen faults_before faults_after
 
@@ -72,4 +72,4 @@ WasMadeInRun words opened history exchanges faults_before faults_after entry =
 -- reported, all of them, and, where the disk failed, perhaps one edit more that was refused.
 abbrev pub HoldsAll : List (List ℕ) → ℕ → List PlainEntry → List Exchange → ℕ → ℕ → Areas → Type 0
 HoldsAll words opened history exchanges faults_before faults_after image =
-    HoldsWith (kept history) (WasMadeInRun words opened history exchanges faults_before faults_after) image
+    HoldsWith (durable_entries history) (WasMadeInRun words opened history exchanges faults_before faults_after) image

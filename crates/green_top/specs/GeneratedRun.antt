@@ -6,10 +6,10 @@ use Rattle.febe_data.specs.Plain.{PlainRequest, PlainEntry}
 use Rattle.green_io.specs.Outside.{HasRisen}
 use Rattle.world_rules.specs.Apply.{world_of}
 use Rattle.world_rules.specs.Legal.{Exchange}
+use Rattle.session_generator.specs.Generated.{generated_requests}
 use Rattle.green_top.specs.declared.session_end.SessionEnd.{SessionEnd}
 use Rattle.green_top.specs.declared.session_end.SessionEnd.TheVariants as ends
 use Rattle.green_top.specs.Ends.{AllNumbersTaken}
-use Rattle.green_top.specs.Generated.{generated_requests}
 use Rattle.green_top.specs.IoState.{IoState}
 use Rattle.green_top.specs.Outcome.{NoSession, IsOver}
 use Rattle.green_top.specs.Summary.{replies_of, summary_of}

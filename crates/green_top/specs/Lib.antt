@@ -14,6 +14,7 @@ pub use Rattle.febe_wire.specs.Grammar
 pub use Rattle.febe_wire.specs.Sessions
 pub use Rattle.febe_feed.specs.Inputs
 pub use Rattle.febe_reply.specs.ReplyGrammar
+pub use Rattle.session_generator.specs.Generated
 pub use Rattle.world_rules.specs.World
 pub use Rattle.world_rules.specs.Picking
 pub use Rattle.world_rules.specs.Edits
@@ -47,7 +48,6 @@ pub mod Words
 pub mod Served
 pub mod Round
 pub mod Crash
-pub mod Generated
 pub mod Summary
 pub mod GeneratedRun
 pub mod Batch

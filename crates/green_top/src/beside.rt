@@ -8,7 +8,7 @@ ghost use Rattle.green_top.specs.inside.Conversation.{io_by};
 ghost use Rattle.green_top.specs.inside.Enduring.{Endures};
 ghost use Rattle.green_top.specs.inside.Stored.{HasTendedIn};
 
-use crate::plays::{Beginning, Plays, Replied};
+use crate::plays::{Beginning, PlaySession, Replied};
 use crate::session::{Served, serve};
 use febe_data::Request;
 use green_io::{Disk, Sink, Source};
@@ -38,7 +38,7 @@ pub(crate) struct Beside<D> {
     over: PhantomData<D>,
 }
 
-impl<D: Disk> Plays for Beside<D> {
+impl<D: Disk> PlaySession for Beside<D> {
     ghost use Rattle.green_top.specs.inside.Stored.{HasBegunIn, HasAskedIn, HasTendedIn, HasEndedIn};
 
     type First = Serves;

@@ -9,7 +9,7 @@ ghost use Rattle.green_top.specs.inside.Play.{Chain};
 ghost use Rattle.green_top.specs.inside.Progress.{answer_state, HandlesRequest};
 ghost use Rattle.green_top.specs.inside.Conversation.{state_by, IsRound};
 
-use crate::plays::{Plays, Replied};
+use crate::plays::{PlaySession, Replied};
 use crate::session_end::SessionEnd;
 use febe_data::{List, Request};
 use febe_feed::Feed;
@@ -68,7 +68,7 @@ fn is_quit(request: &Request) -> bool
 
 /// Answers a request of the session, notes its point and writes its reply. Room for the point is taken first, so that no
 /// entry stands without its point.
-fn answer_one<P: Plays, K: Sink>(
+fn answer_one<P: PlaySession, K: Sink>(
     alloc: Global,
     player: &P,
     first: &mut P::First,
@@ -105,7 +105,7 @@ fn answer_one<P: Plays, K: Sink>(
 
 /// Takes one request of the session, answers it and writes its reply, or tells what ends the session. Once a reply is written
 /// the player does what is then to be done.
-pub(crate) fn answer_next<P: Plays, S: Source, K: Sink>(
+pub(crate) fn answer_next<P: PlaySession, S: Source, K: Sink>(
     alloc: Global,
     player: &P,
     first: &mut P::First,

@@ -6,9 +6,9 @@ ghost use Rattle.world_rules.specs.Apply.{world_of};
 ghost use Rattle.world_rules.specs.Placed.{AllPlaced};
 ghost use Rattle.world_rules.specs.World.{empty_world};
 ghost use Rattle.green_store.specs.Sessions.{greatest_session};
+ghost use Rattle.session_generator.specs.Generated.{generated_requests};
 ghost use Rattle.green_top.specs.IoState.{io_state};
 ghost use Rattle.green_top.specs.Outcome.{HasServedAlone};
-ghost use Rattle.green_top.specs.Generated.{generated_requests};
 ghost use Rattle.green_top.specs.GeneratedRun.{IsGeneratedRun};
 ghost use Rattle.green_top.specs.inside.Enduring.{Endures};
 ghost use Rattle.green_top.specs.Summary.{summary_of};
@@ -16,7 +16,6 @@ ghost use Rattle.green_top.specs.inside.Summing.{IsOutput, Tells, CanEnd, outcom
 
 use crate::beside::{Serves, put_right, serve_beside};
 use crate::buffers::{KeptSink, ReadySource};
-use crate::generating::generated;
 use crate::session::Served;
 use crate::session_end::SessionEnd;
 use crate::summary::summary_of;
@@ -25,6 +24,7 @@ use febe_wire::write_request;
 use green_io::{Disk, Sink};
 use green_session::{Put, put_bytes};
 use green_store::Store;
+use session_generator::generated;
 use std::alloc::Global;
 
 /// How many background steps are made at most once the session is over.

@@ -6,7 +6,6 @@ mod beside;
 mod buffers;
 mod exchange;
 mod generate;
-mod generating;
 pub mod laws;
 mod plays;
 mod report;
@@ -18,9 +17,9 @@ mod summary;
 mod words;
 
 pub use batch::run_batch;
-pub use generating::generated;
 pub use report::Report;
 pub use round::{Round, background_round};
 pub use served::serve_session;
 pub use session::MOST_INPUT;
 pub use session_end::SessionEnd;
+pub use session_generator::generated;

@@ -29,7 +29,7 @@ pub(crate) struct Replied {
 
 /// A player of one session at a time. What changes from step to step are a first and a second: a store with the session's
 /// number, and its disk; or a pass, and nothing.
-pub(crate) trait Plays {
+pub(crate) trait PlaySession {
     type First;
 
     type Second;

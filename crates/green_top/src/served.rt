@@ -7,7 +7,7 @@ ghost use Rattle.green_top.specs.Outcome.{IsRun};
 ghost use Rattle.green_top.specs.Served.{HasSatActs};
 ghost use Rattle.green_top.specs.inside.Conversation.{io_by};
 
-use crate::plays::{Beginning, Plays, Replied};
+use crate::plays::{Beginning, PlaySession, Replied};
 use crate::session::serve;
 use crate::session_end::SessionEnd;
 use febe_data::{List, Request};
@@ -23,7 +23,7 @@ pub(crate) struct Behind<'a, R, D: Disk> {
     lock: &'a HistoryLock<Housed<D>>,
 }
 
-impl<R: Wait, D: Disk> Plays for Behind<'_, R, D> {
+impl<R: Wait, D: Disk> PlaySession for Behind<'_, R, D> {
     ghost use Rattle.green_top.specs.inside.Behind.{HasBegunBehind, HasAskedBehind, HasEndedBehind};
 
     type First = Pass<Housed<D>>;

@@ -6,7 +6,7 @@ ghost use Rattle.green_top.specs.inside.Conversation.{io_by, state_by, IsGreeted
 ghost use Rattle.green_top.specs.inside.Play.{Chain, HasSat, HasServed};
 
 use crate::exchange::{Closing, Talk, answer_next, take_next};
-use crate::plays::{Beginning, Plays};
+use crate::plays::{Beginning, PlaySession};
 use crate::session_end::SessionEnd;
 use febe_data::List;
 use febe_feed::Feed;
@@ -28,7 +28,7 @@ pub(crate) struct Served {
 }
 
 /// Greets the session, and answers its requests as they come, up to a quit or what else ends it.
-fn converse<P: Plays, S: Source, K: Sink>(
+fn converse<P: PlaySession, S: Source, K: Sink>(
     alloc: Global,
     player: &P,
     first: &mut P::First,
@@ -64,7 +64,7 @@ fn converse<P: Plays, S: Source, K: Sink>(
 }
 
 /// Begins a session that has sent its greeting, and ends it whatever came of it.
-fn run_session<P: Plays, S: Source, K: Sink>(
+fn run_session<P: PlaySession, S: Source, K: Sink>(
     alloc: Global,
     player: &P,
     first: &mut P::First,
@@ -98,7 +98,7 @@ fn run_session<P: Plays, S: Source, K: Sink>(
 }
 
 /// Serves one session, which has no number yet.
-pub(crate) fn serve<P: Plays, S: Source, K: Sink>(
+pub(crate) fn serve<P: PlaySession, S: Source, K: Sink>(
     alloc: Global,
     player: &P,
     first: &mut P::First,

@@ -11,7 +11,7 @@ use febe_reply::{GotReply, read_reply};
 use green_store::Store;
 use itoa::Buffer;
 use std::alloc::Global;
-use world_rules::Lookups;
+use world_rules::LookUp;
 
 /// The sum with one byte more.
 fn sum_after(sum: u64, byte: u8) -> u64

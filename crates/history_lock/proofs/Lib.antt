@@ -3,4 +3,3 @@ pub mod Growing
 pub mod RuleKept
 pub mod Finishing
 pub mod LawsHold
-pub mod NoneLater

@@ -11,8 +11,6 @@ pub mod laws;
 mod lock;
 mod pass;
 mod steps;
-#[cfg(test)]
-mod tests;
 mod tried;
 mod view;
 

@@ -1,19 +1,23 @@
 -- What the table's calls leave, over plain variables.
-use Rattle.std.proofs.Common.{◌≡◌, ◌∙◌, ℕ, ◌+◌, ◌-◌, ◌<◌, ◌≤◌, Bool, true, false, not, List, length, get_or, Some, None, refl, sym, ap, subst, arith}
+use Rattle.std.proofs.Common.{◌≡◌, ◌∙◌, ℕ, ◌+◌, ◌-◌, ◌<◌, ◌≤◌, Bool, true, false, not, List, length, get_or, Some, None, refl, sym, ap, subst, nat_cmp, arith}
 use Rattle.std.proofs.lemmas.Option.{slice_get-map, slice_get_read, slice_get_past}
 use Rattle.std.proofs.lemmas.List.Edits.{length-insert, length-remove}
 use Rattle.std.proofs.lemmas.List.Sums.{prefix_len-le-length}
 use Rattle.std.specs.BTreeSet.{insert_key}
 use Rattle.std.specs.List.{find, prefix_len, slice_get, insert, remove}
 use Rattle.std.specs.Option.{option_map}
+use Rattle.std.specs.Cmp.Lexicographic.{slice_cmp, nat_list_cmp_total}
 use Rattle.std.specs.BTreeMap.{BTreeMap}
 use Rattle.std.specs.declared.boxed.Box.{Box}
+use Rattle.tumbler.proofs.InOrder.{inserted_ascend, left_ascend}
+use Rattle.tumbler.proofs.RowsInOrder.{same_item}
 use Rattle.world_rules.specs.World.{LinkRow, is_same}
+use Rattle.world_rules.specs.Counting.{count_in, CountsAs}
 use Rattle.links.specs.declared.row.LinkRow as kept
 use Rattle.links.specs.LinkLists.{plain_link, is_of, ids_in, has_in, link_in, added, removed, id_cmp, most_links}
-use Rattle.links.specs.inside.Kept.{shown, unboxed, IsAscending, is_before, IsAt, count_in, CountsAs, HoldsCounts}
+use Rattle.links.specs.inside.Kept.{shown, unboxed, IsAscending, is_before, IsAt, HoldsCounts}
 use Rattle.links.proofs.Placed.{absent, found, lacks_found, inserted, taken_out, lacking_stay}
-use Rattle.links.proofs.Ordered.{same_item, ascends_in, ascends_left, ids_added, ids_removed}
+use Rattle.links.proofs.Ordered.{ids_added, ids_removed}
 use Rattle.links.proofs.Counted.{counts_added, counts_removed, unboxed_long}
 
 -- ---- what is not there
@@ -76,7 +80,7 @@ module _ {A : Type 0} (id : List ℕ) (boxes : List (Box kept.LinkRow A)) (at : 
         let ids = ids_added (shown new) (unboxed boxes) in
         rw made (
           omega (arith, longer, room),
-          subst IsAscending (sym (ap ids_in added_rows ∙ ids)) (ascends_in new.value.id (ids_in (unboxed boxes)) holds.1),
+          subst IsAscending (sym (ap ids_in added_rows ∙ ids)) (inserted_ascend (slice_cmp nat_cmp) nat_list_cmp_total (ids_in (unboxed boxes)) new.value.id holds.1),
           counts_added home boxes at new old now key holds.2 counted,
         )
 
@@ -99,7 +103,7 @@ module _ {A : Type 0} (id : List ℕ) (boxes : List (Box kept.LinkRow A)) (at : 
         let shorter = length-remove boxes at it.within in
         rw made (
           omega (arith, shorter, holds.0),
-          subst IsAscending (sym (ap ids_in (removed_rows d) ∙ ids_removed id (unboxed boxes))) (ascends_left (λ e. not (is_same e id)) (ids_in (unboxed boxes)) ascends),
+          subst IsAscending (sym (ap ids_in (removed_rows d) ∙ ids_removed id (unboxed boxes))) (left_ascend (slice_cmp nat_cmp) (λ e. not (is_same e id)) (ids_in (unboxed boxes)) ascends),
           counts_removed home boxes at d old now it.within key holds.2 counted,
         )
 

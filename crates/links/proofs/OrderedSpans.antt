@@ -1,8 +1,7 @@
 -- Spans in ascending order, each once: they are settled by which spans there are.
 use Rattle.std.proofs.Common.{◌≡◌, ℕ, Bool, true, false, ◌||◌, ◌&&◌, cond, List, [], ◌∷◌, ◌++◌, map, length, take, get_or, ◌<◌, ◌+◌, append_assoc, refl, ap, ◌∙◌, sym, Ordering, Less, Equal, Greater, nat_cmp, is_eq}
-use Rattle.std.specs.List.{list_any, filter, flat_map, fold, AllByRecursion}
-use Rattle.std.specs.List.Sorted.{IsStrictlySortedBy}
-use Rattle.std.specs.Ordering.{match_ordering, ordering_reverse, ordering_then}
+use Rattle.std.specs.List.{list_any, filter, flat_map, fold}
+use Rattle.std.specs.Ordering.{match_ordering, ordering_then}
 use Rattle.std.specs.Cmp.{IsTotalOrder, then_total, on_total}
 use Rattle.std.specs.Cmp.Lexicographic.{slice_cmp, nat_list_cmp_total}
 use Rattle.std.specs.BTreeMap.{is_at}
@@ -11,9 +10,9 @@ use Rattle.std.proofs.lemmas.List.{take_more, map-append}
 use Rattle.std.proofs.lemmas.List.Sums.{fold-append}
 use Rattle.std.proofs.lemmas.List.Folds.{list_any-append}
 use Rattle.std.proofs.lemmas.List.Sorted.{list_any-IsPermutation}
-use Rattle.std.proofs.lemmas.Map.Lookups.{btree_set_from_contains}
 use Rattle.tumbler.specs.declared.span.Span.{Span}
 use Rattle.tumbler.proofs.Order.{same_if_tied}
+use Rattle.tumbler.proofs.InOrder.{same_keys}
 use Rattle.enfilade_core.specs.declared.tree.Row.{Row}
 use Rattle.enfilade_core.specs.Plain.{plain_row}
 use Rattle.spanfilade.specs.Index.{IndexTree, rows_in_index, rows_for}
@@ -26,7 +25,7 @@ use Rattle.links.specs.inside.Pairs.{pair_of, span_of_pair, pair_cmp, pairs_of}
 
 -- ---- the order of spans
 
-spans_total : IsTotalOrder span_cmp
+pub spans_total : IsTotalOrder span_cmp
 spans_total = then_total (on_total (λ (s : Span). s.start) nat_list_cmp_total) (on_total (λ (s : Span). s.width) nat_list_cmp_total)
 
 pub same_span : (a b : Span) → span_cmp a b ≡ Equal → a ≡ b
@@ -43,80 +42,8 @@ same_span a b e = by_order (slice_cmp nat_cmp a.start b.start) refl e
 abbrev among : Span → List Span → Bool
 among q spans = list_any (is_at (span_cmp q)) spans
 
-or_again : (a b : Bool) → (a || b) ≡ (a || (a || b))
-or_again true b = refl
-or_again false b = refl
-
-or_across : (a b c : Bool) → (a || (b || c)) ≡ (b || (a || c))
-or_across true true c = refl
-or_across true false c = refl
-or_across false b c = refl
-
-or_aside : (a b c : Bool) → ((a || b) || c) ≡ (b || (a || c))
-or_aside true true c = refl
-or_aside true false c = refl
-or_aside false b c = refl
-
-or_none : (a : Bool) → a ≡ (a || false)
-or_none true = refl
-or_none false = refl
-
-inserted_among : (spans : List Span) (s q : Span) → among q (insert_key span_cmp spans s) ≡ (is_eq (span_cmp q s) || among q spans)
-inserted_among [] s q = refl
-inserted_among (x ∷ xs) s q = by_order (span_cmp s x) refl (inserted_among xs s q)
-  where
-    by_order : (r : Ordering) → span_cmp s x ≡ r → among q (insert_key span_cmp xs s) ≡ (is_eq (span_cmp q s) || among q xs)
-        → among q (match_ordering r (s ∷ x ∷ xs) (x ∷ xs) (x ∷ insert_key span_cmp xs s)) ≡ (is_eq (span_cmp q s) || (is_eq (span_cmp q x) || among q xs))
-    by_order Less e rest = refl
-    by_order Equal e rest = or_again (is_eq (span_cmp q x)) (among q xs) ∙ ap (λ (k : Span). is_eq (span_cmp q k) || (is_eq (span_cmp q x) || among q xs)) (sym (same_span s x e))
-    by_order Greater e rest = ap (λ (b : Bool). is_eq (span_cmp q x) || b) rest ∙ or_across (is_eq (span_cmp q x)) (is_eq (span_cmp q s)) (among q xs)
-
-with-among : (more spans : List Span) (q : Span) → among q (fold (insert_key span_cmp) spans more) ≡ (among q spans || among q more)
-with-among [] spans q = or_none (among q spans)
-with-among (s ∷ more) spans q =
-    with-among more (insert_key span_cmp spans s) q ∙ ap (λ (b : Bool). b || among q more) (inserted_among spans s q) ∙ or_aside (is_eq (span_cmp q s)) (among q spans) (among q more)
-
--- ---- that they ascend
-
-abbrev AreAfter : Span → List Span → Type 0
-AreAfter x spans = AllByRecursion (λ y. span_cmp x y ≡ Less) spans
-
-after_less : (x y : Span) (spans : List Span) → span_cmp x y ≡ Less → AreAfter y spans → AreAfter x spans
-after_less x y [] less a = tt
-after_less x y (z ∷ spans) less a = (spans_total.trans x y z less a.0, after_less x y spans less a.1)
-
-after_inserted : (x s : Span) (spans : List Span) → span_cmp x s ≡ Less → AreAfter x spans → AreAfter x (insert_key span_cmp spans s)
-after_inserted x s [] less a = (less, tt)
-after_inserted x s (y ∷ spans) less a = by_order (span_cmp s y) (after_inserted x s spans less a.1)
-  where
-    by_order : (r : Ordering) → AreAfter x (insert_key span_cmp spans s) → AreAfter x (match_ordering r (s ∷ y ∷ spans) (y ∷ spans) (y ∷ insert_key span_cmp spans s))
-    by_order Less rest = (less, a)
-    by_order Equal rest = a
-    by_order Greater rest = (a.0, rest)
-
-inserted_ascends : (spans : List Span) (s : Span) → IsStrictlySortedBy span_cmp spans → IsStrictlySortedBy span_cmp (insert_key span_cmp spans s)
-unfolding IsStrictlySortedBy
-inserted_ascends [] s a = (tt, tt)
-inserted_ascends (x ∷ xs) s a = by_order (span_cmp s x) refl (inserted_ascends xs s a.1)
-  where
-    by_order : (r : Ordering) → span_cmp s x ≡ r → IsStrictlySortedBy span_cmp (insert_key span_cmp xs s)
-        → IsStrictlySortedBy span_cmp (match_ordering r (s ∷ x ∷ xs) (x ∷ xs) (x ∷ insert_key span_cmp xs s))
-    by_order Less e rest = ((e, after_less s x xs e a.0), a)
-    by_order Equal e rest = a
-    by_order Greater e rest = (after_inserted x s xs (spans_total.antisymm x s ∙ ap ordering_reverse e) a.0, rest)
-
-with-ascends : (more spans : List Span) → IsStrictlySortedBy span_cmp spans → IsStrictlySortedBy span_cmp (fold (insert_key span_cmp) spans more)
-with-ascends [] spans a = a
-with-ascends (s ∷ more) spans a = with-ascends more (insert_key span_cmp spans s) (inserted_ascends spans s a)
-
-none_ascends : IsStrictlySortedBy span_cmp []
-unfolding IsStrictlySortedBy
-none_ascends = tt
-
 same_spans : (some others : List Span) → ((q : Span) → among q some ≡ among q others) → ascending_spans some ≡ ascending_spans others
-same_spans some others same =
-    btree_set_from_contains spans_total (record { keys = ascending_spans some }) (record { keys = ascending_spans others }) (with-ascends some [] none_ascends) (with-ascends others [] none_ascends)
-    (λ q. with-among some [] q ∙ same q ∙ sym (with-among others [] q)) same_span
+same_spans some others same = same_keys span_cmp same_span spans_total some others same
 
 -- ---- pairs as spans
 

@@ -3,3 +3,4 @@ pub use Rattle.world_rules.specs.World
 pub mod LinkLists
 pub mod Finding
 pub mod inside
+pub mod Laws

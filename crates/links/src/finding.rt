@@ -130,7 +130,7 @@ fn take_link(
     found.push(link.id.copy())
 }
 
-/// The same for the link of an id, if it is there.
+/// Adds an id if it is above the bound and the table has a link of it that is wanted.
 fn take_id(
     table: &Table,
     id: &Tumbler,
@@ -174,7 +174,7 @@ pub(crate) fn found_in_order(
     Ok(found)
 }
 
-/// The same for the links of these ids.
+/// Of these ids, the first that are above the bound and of wanted links of the table, up to the limit.
 pub(crate) fn found_among(
     alloc: Global,
     table: &Table,

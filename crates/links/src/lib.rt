@@ -1,9 +1,9 @@
 //! Links by id and by the content at their ends.
 #![tactic(auto)]
 
-mod counts;
 mod ends;
 mod finding;
+pub mod laws;
 mod links;
 mod place;
 mod row;

@@ -6,7 +6,7 @@ ghost use Rattle.std.specs.Cmp.Lexicographic.{slice_cmp};
 ghost use Rattle.std.specs.List.Sorted.{IsStrictlySortedBy};
 ghost use Rattle.tumbler.specs.Span.{SpanFits};
 ghost use Rattle.enfilade_core.specs.Rows.{node_at};
-ghost use Rattle.enfilade_core.specs.Standing.{tree_debt, tree_allows, has_lone_child};
+ghost use Rattle.enfilade_core.specs.BalanceState.{tree_debt, tree_allows, has_lone_child};
 ghost use Rattle.enfilade_balance.specs.Steps.{root_after, is_idle, is_dropped};
 ghost use Rattle.spanfilade.specs.Index.{rows_in_index, at_mark};
 ghost use Rattle.links.specs.LinkLists.{LinkLists, most_links, plain_link, IsLink, HoldsRuns, index_at, with_index, ids_in, has_in, link_in, count_of_home_in, added, removed, marks_of, at_marks, AllGrow};
@@ -174,7 +174,8 @@ impl Links {
         self.all_candidates(ends)
     }
 
-    /// The same of the first end whose spans meet at most so many runs, if there is one.
+    /// The candidates of the first end whose spans meet at most `limit` rows of its index. There are none where each
+    /// end that spans are given for has more.
     fn few_candidates(
         &self,
         ends: &WantedEnds,
@@ -202,7 +203,7 @@ impl Links {
         Ok(None)
     }
 
-    /// The same of the first end that spans are given for.
+    /// The candidates of the first end that spans are given for, however many its index finds.
     fn all_candidates(&self, ends: &WantedEnds) -> Result<Option<List<Tumbler>>, Memory>
         requires { EndsJoined ends.now }
         ensures { IfOk result (λ found. IfSome found (λ ids. Hold self.now.links ends.now ids.items)) }

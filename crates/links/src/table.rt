@@ -3,13 +3,13 @@ ghost use Rattle.std.specs.Prelude.{◌≡◌, ◌+◌, ◌<◌, [], length, sli
 ghost use Rattle.std.specs.Option.{option_map, option_copied};
 ghost use Rattle.links.specs.LinkLists.{most_links, plain_link, has_in, link_in, count_of_home_in, added, removed};
 
-use crate::counts::{count_down, count_of, count_up};
 use crate::place::{find, place};
 use crate::row::LinkRow;
 use std::alloc::Global;
 use std::collections::BTreeMap;
 use std::marker::Model;
 use tumbler::{Memory, Tumbler};
+use world_rules::{count_down, count_of, count_up};
 
 /// Links by id, and how many there are of each home. Only `add` takes memory.
 #[derive(Drop)]

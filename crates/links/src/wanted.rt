@@ -21,7 +21,7 @@ fn joined_end(alloc: Global, spans: &Option<List<Span>>) -> Result<Option<List<S
     Ok(Some(made))
 }
 
-/// The same for each end.
+/// What is asked of the three ends, with the spans of each sorted and joined.
 pub(crate) fn joined_ends(alloc: Global, ends: &WantedEnds) -> Result<WantedEnds, Memory>
     requires { EndsFit ends.now }
     ensures joined { IfOk result EndsJoined }

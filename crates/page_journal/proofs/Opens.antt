@@ -4,7 +4,7 @@ use Rattle.std.proofs.lemmas.Bool.{cond-false}
 use Rattle.std.specs.List.{AllByRecursion}
 use Rattle.green_io.specs.declared.disk.Area.TheVariants as area
 use Rattle.green_io.specs.Areas.{Areas}
-use Rattle.green_io.specs.Disk.{DiskState, IsDisk, WhereTold, images_now, LeavesOnly, Nothing, IsDurable}
+use Rattle.green_io.specs.Disk.{DiskState, IsDisk, WhereTold, images_now, LeavesOnly, Nothing, IsStable}
 use Rattle.green_io.proofs.Crash.{weaker, nothing_new, nothing_then, now_was}
 use Rattle.page_journal.specs.declared.opening.Gate.TheVariants as gates
 use Rattle.page_journal.specs.declared.opening.Found.{Found}
@@ -29,10 +29,10 @@ use Rattle.page_journal.proofs.PageMaps.{laid_over_itself}
 use Rattle.page_journal.proofs.Recorded.{staged_is, staged_each}
 
 -- both areas are stable
-pub settled_areas : (told : Option Areas) (b c : DiskState) → IsDisk c → b.reads ≡ told → c.reads ≡ b.reads → IsDurable area.Home told (images_now b) → IsDurable area.Journal b.reads (images_now c) → LeavesOnly b c Nothing → WhereTold told (λ areas. AllHave c (AreAreas areas))
+pub settled_areas : (told : Option Areas) (b c : DiskState) → IsDisk c → b.reads ≡ told → c.reads ≡ b.reads → IsStable area.Home told (images_now b) → IsStable area.Journal b.reads (images_now c) → LeavesOnly b c Nothing → WhereTold told (λ areas. AllHave c (AreAreas areas))
 settled_areas None b c disk was same home journal leaves = tt
 settled_areas (Some x) b c disk was same home journal leaves =
-    let stable_journal : IsDurable area.Journal (Some x) (images_now c) = subst (λ (r : Option Areas). IsDurable area.Journal r (images_now c)) was journal in
+    let stable_journal : IsStable area.Journal (Some x) (images_now c) = subst (λ (r : Option Areas). IsStable area.Journal r (images_now c)) was journal in
     record {
       told = subst (λ (r : Option Areas). IsSome r) (sym (same ∙ was)) refl;
       each = λ i is. record { home_is = home i (now_was b c disk leaves i is); journal_has = stable_journal i is };

@@ -2,7 +2,7 @@
 use Rattle.std.proofs.Common.{◌≡◌, ℕ, Option, None, Some, IsSome, refl, sym, ◌∙◌, subst}
 use Rattle.green_io.specs.declared.disk.Area.TheVariants as area
 use Rattle.green_io.specs.Areas.{Areas}
-use Rattle.green_io.specs.Disk.{DiskState, IsDisk, WhereTold, images_now, Written, Torn, Changes, LeftBy, LeavesOnly, IsDurable}
+use Rattle.green_io.specs.Disk.{DiskState, IsDisk, WhereTold, images_now, Written, Torn, Changes, LeftBy, LeavesOnly, IsStable}
 use Rattle.green_io.proofs.Crash.{by_step, now_has}
 use Rattle.page_journal.specs.Pages.{Bytes, Writes, home_after}
 use Rattle.page_journal.specs.Images.{IsGated, HomeIs, IsMidway, AllHave}
@@ -24,14 +24,14 @@ kept_all a b fact disk have told leaves = record {
   each = now_has a b fact disk leaves have.each;
 }
 
-journal_now : (old new : Option Areas) (home : Bytes) (at : ℕ) (bytes : Bytes) (before after : Areas → Type 0) (P Q : Bytes → Type 0) → IsSome old → WhereTold old before → ((i : Areas) → before i → HomeIs home P i) → Changes area.Journal (Written at bytes) old new → IsDurable area.Journal new after → ((x y : Bytes) → P x → Written at bytes x y → Q y) → (i : Areas) → after i → Q i.journal
+journal_now : (old new : Option Areas) (home : Bytes) (at : ℕ) (bytes : Bytes) (before after : Areas → Type 0) (P Q : Bytes → Type 0) → IsSome old → WhereTold old before → ((i : Areas) → before i → HomeIs home P i) → Changes area.Journal (Written at bytes) old new → IsStable area.Journal new after → ((x y : Bytes) → P x → Written at bytes x y → Q y) → (i : Areas) → after i → Q i.journal
 journal_now None new home at bytes before after P Q told reads each changes durable follows i is = absurd (cc told)
 journal_now (Some x) None home at bytes before after P Q told reads each changes durable follows i is = absurd changes
 journal_now (Some x) (Some y) home at bytes before after P Q told reads each changes durable follows i is =
     subst Q (sym (durable i is)) (follows x.journal y.journal (each x reads).journal_has changes.0)
 
 -- what every image has once the write has succeeded and is stable
-pub written_journal : (a b : DiskState) (home : Bytes) (at n : ℕ) (bytes : Bytes) (P Q : Bytes → Type 0) → IsDisk a → IsDisk b → AllHave a (HomeIs home P) → (IsSome a.reads → IsSome b.reads) → LeavesOnly a b (LeftBy area.Journal (Torn at n) (images_now a)) → Changes area.Journal (Written at bytes) a.reads b.reads → IsDurable area.Journal b.reads (images_now b) → ((old new : Bytes) → P old → Written at bytes old new → Q new) → AllHave b (HomeIs home Q)
+pub written_journal : (a b : DiskState) (home : Bytes) (at n : ℕ) (bytes : Bytes) (P Q : Bytes → Type 0) → IsDisk a → IsDisk b → AllHave a (HomeIs home P) → (IsSome a.reads → IsSome b.reads) → LeavesOnly a b (LeftBy area.Journal (Torn at n) (images_now a)) → Changes area.Journal (Written at bytes) a.reads b.reads → IsStable area.Journal b.reads (images_now b) → ((old new : Bytes) → P old → Written at bytes old new → Q new) → AllHave b (HomeIs home Q)
 written_journal a b home at n bytes P Q before after have told leaves changes durable follows =
     let loose : LeavesOnly a b (HomeIs home (λ journal. Unit {0})) = torn_journal a b home at n P (λ journal. Unit {0}) have leaves (λ old new has torn. tt) in
     record {
@@ -43,7 +43,7 @@ written_journal a b home at n bytes P Q before after have told leaves changes du
     }
 
 -- what every image has once Home is stable, with all pages laid over it
-pub laid_settled : (old now : Option Areas) (writes : Writes) (before : Bytes) (c : DiskState) → c.reads ≡ now → IsSome c.reads → LaidHome writes old now → IsDurable area.Home now (images_now c) → ((i : Areas) → images_now c i → IsMidway writes before i) → WhereTold old (λ areas. AllHave c (HomeIs (home_after writes areas.home) (IsGated writes)))
+pub laid_settled : (old now : Option Areas) (writes : Writes) (before : Bytes) (c : DiskState) → c.reads ≡ now → IsSome c.reads → LaidHome writes old now → IsStable area.Home now (images_now c) → ((i : Areas) → images_now c i → IsMidway writes before i) → WhereTold old (λ areas. AllHave c (HomeIs (home_after writes areas.home) (IsGated writes)))
 laid_settled None now writes before c is told laid durable each = tt
 laid_settled (Some x) None writes before c is told laid durable each = absurd laid
 laid_settled (Some x) (Some y) writes before c is told laid durable each =

@@ -28,7 +28,7 @@ use Rattle.poom.specs.Cuts.{AreApart}
 use Rattle.poom.specs.Positions.{StandsBetween, clip, laid_between}
 use Rattle.poom.proofs.Places.{if_true, if_false, before_there, past_there}
 use Rattle.poom.proofs.RowsFrom.{each_row, keeps_none}
-use Rattle.poom.proofs.RightRows.{sum-place}
+use Rattle.poom.proofs.WellFormedRows.{sum-place}
 use Rattle.poom.proofs.Back.{same_piece, length-addresses, text_pieces, link_pieces}
 use Rattle.poom.proofs.Documents.{made_of}
 use Rattle.poom.proofs.Looks.{fits_in}

@@ -166,15 +166,15 @@ shown_here part from to span end row shown r own e le f t start count =
     ap (λ (n : ℕ). positions_from n shown.count) start ∙ (ap (positions_from (place row.first 1 + from)) count
     ∙ shown_row part span from to row r own le f (subst (λ (b : List ℕ). CountsBefore row.second row.leaf b to) e t))
 
-pub shown_right : (from to : ℕ) (row : Row ℕ) (shown : Interval) → IsPieceRow row → from ≤ row.leaf → to ≤ row.leaf → shown.start ≡ place row.first 1 + from → shown.count ≡ to - from → IsInterval shown
-shown_right from to row shown r f t start count =
+pub shown_well_formed : (from to : ℕ) (row : Row ℕ) (shown : Interval) → IsPieceRow row → from ≤ row.leaf → to ≤ row.leaf → shown.start ≡ place row.first 1 + from → shown.count ≡ to - from → IsInterval shown
+shown_well_formed from to row shown r f t start count =
     let told = row_told row r in
     let one = told.from_one in
     let room = told.fits in
     record { from_one = omega arith; fits = omega arith }
 
-pub nowhere_right : (row : Row ℕ) (shown : Interval) → IsPieceRow row → shown.start ≡ place row.first 1 → shown.count ≡ 0 → IsInterval shown
-nowhere_right row shown r start count =
+pub nowhere_well_formed : (row : Row ℕ) (shown : Interval) → IsPieceRow row → shown.start ≡ place row.first 1 → shown.count ≡ 0 → IsInterval shown
+nowhere_well_formed row shown r start count =
     let told = row_told row r in
     let one = told.from_one in
     let room = told.fits in
@@ -183,4 +183,4 @@ nowhere_right row shown r start count =
 pub start_room : (from : ℕ) (row : Row ℕ) → IsPieceRow row → from ≤ row.leaf → place row.first 1 + from < 2 ^ 32
 start_room from row r f = let room = (row_told row r).fits in omega arith
 
-pub ruleset clips = (two_places, has_address, shown_nowhere, shown_here, shown_right, nowhere_right, start_room)
+pub ruleset clips = (two_places, has_address, shown_nowhere, shown_here, shown_well_formed, nowhere_well_formed, start_room)

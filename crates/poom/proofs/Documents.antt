@@ -5,7 +5,7 @@ use Rattle.std.proofs.lemmas.List.Elements.{All-nil, All-append}
 use Rattle.tumbler.proofs.Alls.{All-front, All-back}
 use Rattle.enfilade_core.specs.declared.tree.Row.{Row}
 use Rattle.enfilade_core.specs.declared.gap.Gap.{Gap}
-use Rattle.enfilade_core.specs.Axes.{IsRightRows}
+use Rattle.enfilade_core.specs.Axes.{IsWellFormedRows}
 use Rattle.enfilade_core.specs.Planes.{text_widths}
 use Rattle.enfilade_core.specs.Edits.{shifted}
 use Rattle.enfilade_core.specs.Exchange.{exchanged}
@@ -17,7 +17,7 @@ use Rattle.poom.specs.Pieces.{IsPiece, laid, total, rows_from, pieces_in}
 use Rattle.poom.specs.Laid.{part_number, standing_in, texts, links, most_in, IsOneDocument, exchanged_at, other_part, HasBorders}
 use Rattle.enfilade_core.specs.Edits.{shift_row}
 use Rattle.poom.proofs.RowsFrom.{IsFront, IsPast, rows-append, all_front, all_past, text_front, links_past, three_parts, rows_shifted, links_shifted}
-use Rattle.poom.proofs.RightRows.{right_document}
+use Rattle.poom.proofs.WellFormedRows.{well_formed_document}
 use Rattle.poom.proofs.Back.{text_pieces, link_pieces, length-laid, laid_exchanged}
 
 pub record IsMadeOf (rows : List (Row ℕ)) (xs zs : List Piece) : Type 0 where
@@ -130,7 +130,7 @@ after part from to onto new rows = exchanged (gap_in part from to onto) (rows_fr
 
 -- what they are
 pub record IsDone (part : Part) (rows : List (Row ℕ)) (new : List Piece) (from to onto : ℕ) : Type 0 where
-  pub right : IsRightRows text_widths (after (part_number part) from to onto new rows)
+  pub well_formed : IsWellFormedRows text_widths (after (part_number part) from to onto new rows)
   pub one : IsOneDocument (after (part_number part) from to onto new rows)
   pub here : standing_in part (after (part_number part) from to onto new rows) ≡ exchanged_at from to (laid (part_number part) new) (standing_in part rows)
   pub there : standing_in (other_part part) (after (part_number part) from to onto new rows) ≡ standing_in (other_part part) rows
@@ -155,7 +155,7 @@ done_in_text rows new from to onto made b news o fits =
     let fewer : total zs ≤ 4294967294 = made.fewer in
     let s = shows (after 1 from to onto new rows) xs zs (record { are = are; each = all; also = made.also; few = few; fewer = fewer }) in
     record {
-      right = subst (IsRightRows text_widths) (sym are) (right_document xs zs all made.also (omega arith) (omega arith));
+      well_formed = subst (IsWellFormedRows text_widths) (sym are) (well_formed_document xs zs all made.also (omega arith) (omega arith));
       one = s.one;
       here = ap (laid 1) s.text ∙ addresses;
       there = ap (laid 2) s.link;
@@ -181,7 +181,7 @@ done_in_links rows new from to onto made b news o fits =
     let few : total xs ≤ 1073741824 = made.few in
     let s = shows (after 2 from to onto new rows) xs zs (record { are = are; each = made.each; also = all; few = few; fewer = fewer }) in
     record {
-      right = subst (IsRightRows text_widths) (sym are) (right_document xs zs made.each all (omega arith) (omega arith));
+      well_formed = subst (IsWellFormedRows text_widths) (sym are) (well_formed_document xs zs made.each all (omega arith) (omega arith));
       one = s.one;
       here = ap (laid 2) s.link ∙ addresses;
       there = ap (laid 1) s.text;

@@ -4,7 +4,7 @@ use Rattle.std.specs.List.{All}
 use Rattle.enfilade_core.specs.declared.tree.Row.{Row}
 use Rattle.enfilade_core.specs.declared.gap.Gap.{Gap}
 use Rattle.enfilade_core.specs.Rows.{Shape, rows_of}
-use Rattle.enfilade_core.specs.Axes.{IsRightRows}
+use Rattle.enfilade_core.specs.Axes.{IsWellFormedRows}
 use Rattle.enfilade_core.specs.Planes.{text_widths}
 use Rattle.enfilade_core.specs.Plain.{plain_row}
 use Rattle.enfilade_core.specs.Exchange.{exchanged}
@@ -51,7 +51,7 @@ abbrev pub asked : List ℕ → List ℕ → List ℕ → List (Row ℕ) → Lis
 asked f t o items nodes k = exchanged (record { from = f; to = t; onto = o }) (map (plain_row (λ (n : ℕ). n)) items) (rows_of nodes k)
 
 pub record IsCalled (part : Part) (old inside : List (Shape ℕ)) (k : ℕ) (new : List Piece) (from to end : ℕ) (f t o : List ℕ) (items : List (Row ℕ)) : Type 0 where
-  pub right : IsRightRows text_widths (asked f t o items inside k)
+  pub well_formed : IsWellFormedRows text_widths (asked f t o items inside k)
   pub gives : (rows : List (Row ℕ)) → rows ≡ asked f t o items inside k → IsAfter part (rows_of old k) new from to rows
 
 pub called : (part : Part) (old inside : List (Shape ℕ)) (k : ℕ) (new : List Piece) (from to end : ℕ) (f t o : List ℕ) (items : List (Row ℕ))
@@ -66,7 +66,7 @@ called part old inside k new from to end f t o items root borders each fits ends
     ∙ (ap (λ (g : Gap). exchanged g (map (plain_row (λ (n : ℕ). n)) items) (rows_of old k)) (same_gap f t o (p ∷ from ∷ []) (p ∷ to ∷ []) (p ∷ end ∷ []) fe te oe)
     ∙ ap (λ (rows : List (Row ℕ)). exchanged (gap_in p from to end) rows (rows_of old k)) (plain_rows items ∙ ie)) in
     record {
-      right = subst (IsRightRows text_widths) (sym same) d.right;
+      well_formed = subst (IsWellFormedRows text_widths) (sym same) d.well_formed;
       gives = λ rows e. let is : rows ≡ after p from to end new (rows_of old k) = e ∙ same in record {
         one = subst IsOneDocument (sym is) d.one;
         here = ap (standing_in part) is ∙ d.here;

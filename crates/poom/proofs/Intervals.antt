@@ -103,8 +103,8 @@ next_open part held next old new some elsewhere is e = λ rest.
     ∙ (sym (append_assoc old (intervals part (positions_of held)) (intervals part (positions_of next ++ rest)))
     ∙ ap (λ (spans : List Span). spans ++ intervals part (positions_of next ++ rest)) (sym e)))
 
-pub longer_right : (held next now : Interval) → IsInterval held → IsInterval next → held.start + held.count ≡ next.start → now.start ≡ held.start → now.count ≡ held.count + next.count → IsInterval now
-longer_right held next now is also touches start count =
+pub longer_well_formed : (held next now : Interval) → IsInterval held → IsInterval next → held.start + held.count ≡ next.start → now.start ≡ held.start → now.count ≡ held.count + next.count → IsInterval now
+longer_well_formed held next now is also touches start count =
     let one = is.from_one in
     let room = also.fits in
     record { from_one = omega arith; fits = omega arith }
@@ -115,7 +115,7 @@ open_room held is = is.fits
 pub joined_room : (held next : Interval) → IsInterval next → held.start + held.count ≡ next.start → held.count + next.count < 2 ^ 32
 joined_room held next also touches = let room = also.fits in omega arith
 
-pub ruleset following = (stays_open, longer_open, next_open, longer_right, open_room, joined_room)
+pub ruleset following = (stays_open, longer_open, next_open, longer_well_formed, open_room, joined_room)
 
 -- ---- all rows
 

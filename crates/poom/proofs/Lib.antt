@@ -1,6 +1,6 @@
 pub mod Places
 pub mod RowsFrom
-pub mod RightRows
+pub mod WellFormedRows
 pub mod Back
 pub mod Documents
 pub mod Roots
@@ -9,6 +9,7 @@ pub mod Exchanges
 pub mod Held
 pub mod Cutting
 pub mod Joins
+pub mod Extents
 pub mod Looks
 pub mod Puts
 pub mod Inserts

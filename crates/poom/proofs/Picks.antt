@@ -13,7 +13,7 @@ use Rattle.poom.specs.Picked.{is_picked, picked_from}
 use Rattle.poom.specs.Bounds.{IsBound}
 use Rattle.poom.specs.Edited.{IsContentRun, piece_run, run_addresses}
 use Rattle.poom.proofs.Places.{if_true, if_false}
-use Rattle.poom.proofs.RightRows.{short_document}
+use Rattle.poom.proofs.WellFormedRows.{short_document}
 use Rattle.poom.proofs.Joins.{addresses-more, laid-push, own_piece}
 use Rattle.poom.proofs.Looks.{fits_in}
 use Rattle.poom.proofs.Betweens.{none_apart}

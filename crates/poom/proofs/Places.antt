@@ -7,7 +7,7 @@ use Rattle.tumbler.specs.Places.{place_bound, IsTumbler, IsUpTo, comes_before, s
 use Rattle.tumbler.proofs.Order.{before_by_first, before_by_rest}
 use Rattle.tumbler.proofs.Before.{true_if_before, false_if_up_to}
 use Rattle.tumbler.proofs.Tumblers.{EndsWell-one, EndsWell-more, difference-same, difference-less}
-use Rattle.enfilade_core.specs.Edits.{shift_place}
+use Rattle.enfilade_core.specs.Edits.{shift_coordinate}
 
 pub before_there : (part n m : ℕ) → n < m → comes_before (part ∷ n ∷ []) (part ∷ m ∷ []) ≡ true
 before_there part n m h = true_if_before (part ∷ n ∷ []) (part ∷ m ∷ []) (before_by_rest part (n ∷ []) (m ∷ []) (before_by_first n m [] [] h))
@@ -42,14 +42,14 @@ further part t o m r (inr less) e =
     ap (λ (d : List ℕ). sum (part ∷ o ∷ []) (after_zero d)) (difference-less m t [] [] less)
     ∙ ap (λ (s : List ℕ). part ∷ s) (sum-one o (m - t) more ∙ ap (λ (n : ℕ). n ∷ []) there)
 
-pub shift_same : (part t o m r : ℕ) → t ≤ m → m + o ≡ t + r → shift_place (part ∷ t ∷ []) (part ∷ o ∷ []) (part ∷ m ∷ []) ≡ part ∷ r ∷ []
+pub shift_same : (part t o m r : ℕ) → t ≤ m → m + o ≡ t + r → shift_coordinate (part ∷ t ∷ []) (part ∷ o ∷ []) (part ∷ m ∷ []) ≡ part ∷ r ∷ []
 shift_same part t o m r h e =
     let split : (t ≡ m) ⊎ (t < m) = grind arith in
     if_false (comes_before (part ∷ m ∷ []) (part ∷ t ∷ [])) (part ∷ m ∷ []) (sum (part ∷ o ∷ []) (difference (part ∷ m ∷ []) (part ∷ t ∷ []))) (past_there part m t h)
     ∙ ap (sum (part ∷ o ∷ [])) (difference-same part (m ∷ []) (t ∷ [])) ∙ further part t o m r split e
 
 -- links stay where text moves
-pub shift_link : (t o m : ℕ) → shift_place (1 ∷ t ∷ []) (1 ∷ o ∷ []) (2 ∷ m ∷ []) ≡ 2 ∷ m ∷ []
+pub shift_link : (t o m : ℕ) → shift_coordinate (1 ∷ t ∷ []) (1 ∷ o ∷ []) (2 ∷ m ∷ []) ≡ 2 ∷ m ∷ []
 shift_link t o m = refl
 
 pub place-is_tumbler : (part n : ℕ) → part < 3 → 1 ≤ n → n < 2 ^ 32 → IsTumbler (part ∷ n ∷ [])

@@ -12,7 +12,7 @@ use Rattle.tumbler.proofs.Before.{before_if_true, up_to_if_false}
 use Rattle.tumbler.proofs.Spans.{are_places}
 use Rattle.enfilade_core.specs.declared.tree.Row.{Row}
 use Rattle.enfilade_core.specs.Rows.{Shape, rows_of}
-use Rattle.enfilade_core.specs.Axes.{second_axis, IsRightRow}
+use Rattle.enfilade_core.specs.Axes.{second_axis, IsWellFormedRow}
 use Rattle.enfilade_core.specs.Plain.{plain_row}
 use Rattle.enfilade_core.specs.Planes.{text_widths}
 use Rattle.enfilade_search.specs.Meeting.{meets}
@@ -29,7 +29,7 @@ use Rattle.poom.specs.Shown.{positions_in, intervals_in}
 use Rattle.poom.specs.Positions.{shown_by, shown_by_all, IsPieceRow}
 use Rattle.poom.proofs.Places.{if_true, if_false}
 use Rattle.poom.proofs.RowsFrom.{each_row}
-use Rattle.poom.proofs.RightRows.{address-is_tumbler, sum-address, short_document, right_row}
+use Rattle.poom.proofs.WellFormedRows.{address-is_tumbler, sum-address, short_document, well_formed_row}
 use Rattle.poom.proofs.Back.{length-addresses}
 use Rattle.poom.proofs.Documents.{made_of}
 use Rattle.poom.proofs.Counting.{last_up_to, last_earlier}
@@ -76,10 +76,10 @@ none_picked span part document n first (suc count) h =
 
 not_met : (part n : ℕ) (x : Piece) (span : Span) → part < 3 → 1 ≤ n → n + x.count < 2 ^ 32 → IsPiece x → IsTumbler span.start → is_met span (piece_row part n x) ≡ false → shown_by part span (piece_row part n x) ≡ []
 not_met part n x span p one room is start e =
-    let right : IsRightRow text_widths (piece_row part n x) = right_row part n x p one room is in
+    let well_formed : IsWellFormedRow text_widths (piece_row part n x) = well_formed_row part n x p one room is in
     shown-own part n span x
     ∙ none_picked span part x.document n x.first x.count (λ k less. false_from_ne_true (is_picked span (address_in part x.document (x.first + k))) (λ h.
-    both_ways (is_met span (piece_row part n x)) e (((meets_exactly text_widths).second span (piece_row part n x) start right).1 (inl ((right.proper.1 refl).0, shared part n x span k p is less h)))))
+    both_ways (is_met span (piece_row part n x)) e (((meets_exactly text_widths).second span (piece_row part n x) start well_formed).1 (inl ((well_formed.proper.1 refl).0, shared part n x span k p is less h)))))
 
 row_not_met : (part : ℕ) (span : Span) (row : Row ℕ) → IsTumbler span.start → IsPieceRow row → is_met span row ≡ false → shown_by part span row ≡ []
 row_not_met part span row start r e =

@@ -22,7 +22,7 @@ use tumbler::{List, Memory, Tumbler};
 fn run_piece(run: &Run) -> Piece
     requires { IsContentRun run.now }
     ensures piece { result ≡ record { document = run.now.content; first = run.now.first; count = run.now.length } }
-    ensures right { IsPiece result }
+    ensures well_formed { IsPiece result }
 {
     let _places = run.content.places();
     Piece {
@@ -51,7 +51,7 @@ fn run_pieces(alloc: Global, runs: &[Run]) -> Result<List<Piece>, Memory>
 #[tactic(auto, using(crate::proofs::Inserts::linked))]
 fn link_piece(link: &Tumbler) -> Piece
     requires { IsLinkId link.now }
-    ensures right { IsPiece result }
+    ensures well_formed { IsPiece result }
     ensures laid { laid 2 (result ∷ []) ≡ link.now ∷ [] }
 {
     let Some(document) = link.document_of() else {

@@ -99,7 +99,9 @@ impl Poom {
         ensures visits { IfSome result (λ at. at.visits ≡ min (depth_of text_widths self.now root.0) 4294967295) }
     {
         let at = position(self.alloc, part, n);
-        let row = self.arena.row_before(root, &at)?;
+        let Some(row) = self.arena.row_before(root, &at) else {
+            return None;
+        };
         self.piece_at(
             root,
             part,
@@ -112,8 +114,27 @@ impl Poom {
     }
 
     /// How much stands in a part.
-    #[tactic(auto, using(crate::proofs::Looks::lengths))]
+    ///
+    /// The tree's rows end where the document's last part does, so that one is as long as the end says. The text of
+    /// a document that has links is looked for.
     pub(crate) fn length_of(&self, root: Node, part: Part) -> u32
+        requires document { IsRoot self.now root.0 }
+        ensures { result ≡ length (standing_in part (rows_of self.now root.0)) }
+    {
+        let end = self.arena.first_extent(root);
+        let places = end.places();
+        if places.len() < 2 {
+            return 0;
+        }
+        if places[0] != part.number() {
+            return self.length_by_pieces(root, part);
+        }
+        places[1] - 1
+    }
+
+    /// How much stands in a part, told by the last piece there.
+    #[tactic(auto, using(crate::proofs::Looks::lengths))]
+    fn length_by_pieces(&self, root: Node, part: Part) -> u32
         requires document { IsRoot self.now root.0 }
         ensures { result ≡ length (standing_in part (rows_of self.now root.0)) }
     {

@@ -3,7 +3,7 @@ ghost use Rattle.std.specs.Prelude.{◌≡◌, ◌+◌, ◌<◌, ◌≤◌, ◌+
 ghost use Rattle.enfilade_core.specs.Rows.{Rows, rows_of, node_at};
 ghost use Rattle.enfilade_core.specs.Edits.{KeepsRows};
 ghost use Rattle.enfilade_core.specs.Exchange.{Grows};
-ghost use Rattle.enfilade_core.specs.Standing.{tree_debt, tree_allows, has_lone_child};
+ghost use Rattle.enfilade_core.specs.BalanceState.{tree_debt, tree_allows, has_lone_child};
 ghost use Rattle.enfilade_balance.specs.Steps.{root_after, is_idle, is_dropped};
 ghost use Rattle.poom.specs.declared.part.Part.TheVariants.{Text, Links};
 ghost use Rattle.poom.specs.Laid.{IsRoot, texts, links};

@@ -58,7 +58,7 @@ fn shown_by(part: Part, row: &Row<u32>, span: &Span) -> Interval
     requires row { IsPieceRow row.now }
     requires fits { SpanFits span.now }
     ensures positions { positions_of result ≡ shown_by (part_number part) span.now row.now }
-    ensures right { IsInterval result }
+    ensures well_formed { IsInterval result }
 {
     let places = row.first.places();
     let start = places[1];
@@ -102,7 +102,7 @@ fn follow(
     requires held { IsInterval held }
     requires next { IsInterval next }
     ensures stand { IfOk result (λ now. StandFor (part_number part) spans.old.items (positions_of held ++ positions_of next) spans.new.items now) }
-    ensures right { IfOk result IsInterval }
+    ensures well_formed { IfOk result IsInterval }
 {
     if next.count == 0 {
         return Ok(held);

@@ -19,12 +19,13 @@ use Rattle.world_rules.specs.Edits.{new_rows}
 use Rattle.world_rules.specs.Picking.{content_of, number_of}
 use Rattle.world_rules.specs.Relation.{pairs_of_row, is_pair, has_pair}
 use Rattle.world_rules.specs.RelationLaws.{IsPairBefore}
+use Rattle.world_rules.proofs.Later.{after_first, without_first, none_later}
 use Rattle.poom_compare.specs.declared.placing.Placed.{Placed}
 use Rattle.poom_compare.specs.declared.stretch.Stretch.{Stretch}
 use Rattle.poom_compare.specs.Shared.{pairs_between}
 use Rattle.poom_compare.specs.Segments.{is_same_byte, ArePairsOf}
 use Rattle.poom_compare.specs.Placed.{IsPlaced, rows_at, rows_laid, number_in, AreNumbers, HasNumber, AreStretchesOf, RowsAscend, stretch_of, text_of, code_of, shown, IsStretch, AreStretches}
-use Rattle.poom_compare.proofs.Lists.{here, there, none_there, first_or_rest, contains_flat, all_flat, after_first, without_first, no_pairs, pairs_map, pairs_flat}
+use Rattle.poom_compare.proofs.Lists.{here, there, none_there, first_or_rest, contains_flat, all_flat, pairs_map, pairs_flat}
 
 abbrev Numbers : Type 0
 Numbers = BTreeMap (List ℕ) ℕ
@@ -339,7 +340,7 @@ rest_ascends [] ys each = each
 rest_ascends (x ∷ xs) ys each = rest_ascends xs ys (without_first IsRowBefore x (xs ++ ys) each)
 
 placed_ascend : (all : List Placed) → All IsPlaced all → RowsAscend (rows_laid all) → AllPairs (λ (a : Placed) (b : Placed). a.at + a.length ≤ b.at) all
-placed_ascend [] each ascend = no_pairs (λ (a : Placed) (b : Placed). a.at + a.length ≤ b.at)
+placed_ascend [] each ascend = none_later (λ (a : Placed) (b : Placed). a.at + a.length ≤ b.at)
 placed_ascend (p ∷ ps) each ascend =
     AllPairs-cons (λ (a : Placed) (b : Placed). a.at + a.length ≤ b.at) p ps
     (λ k d lt.

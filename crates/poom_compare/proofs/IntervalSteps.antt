@@ -16,10 +16,12 @@ use Rattle.std.proofs.lemmas.List.Sorted.{list_any-IsPermutation}
 use Rattle.tumbler.specs.declared.span.Span.{Span}
 use Rattle.tumbler.specs.Span.{end_of}
 use Rattle.tumbler.specs.Places.{comes_before}
+use Rattle.tumbler.proofs.OrLaws.{or_none}
+use Rattle.world_rules.proofs.Later.{none_later}
 use Rattle.poom.specs.Bounds.{IsBound}
 use Rattle.poom_compare.specs.declared.positions.Interval.{Interval}
 use Rattle.poom_compare.specs.Placed.{is_in, is_in_some, is_picked_at, is_picked_at_by, IsIntervalOf, IsInterval, AreApart}
-use Rattle.poom_compare.proofs.Lists.{no_pairs, here, pairs_front, pairs_across, all_front, all_last, same_at}
+use Rattle.poom_compare.proofs.Lists.{here, pairs_front, pairs_across, all_front, all_last, same_at}
 
 -- ---- what one span picks
 
@@ -76,10 +78,6 @@ PicksSame long intervals spans = (n : ℕ) → 1 ≤ n → n ≤ long → is_in_
 
 pub picks_none : (long : ℕ) → PicksSame long [] []
 picks_none long n one le = refl
-
-or_none : (b : Bool) → b ≡ (b || false)
-or_none true = refl
-or_none false = refl
 
 pub picks_more : (long : ℕ) (spans : List Span) (k m : ℕ) (span : Span) (interval : Interval) (now new : List Interval) → PicksSame long now (take k spans) → k < length spans → span ≡ get_or spans k span → IsIntervalOf long span interval → new ≡ now ++ interval ∷ [] → m ≡ k + 1
     → PicksSame long new (take m spans)
@@ -169,7 +167,7 @@ more_apart long xs last interval apart each gap =
     omega arith) gap)
 
 pub one_apart : (interval : Interval) (none : List Interval) → none ≡ [] → AreApart (none ++ interval ∷ [])
-one_apart interval none is = subst (λ (l : List Interval). AreApart (l ++ interval ∷ [])) (sym is) (all_pairs_push Gap [] interval (no_pairs Gap) (λ k d lt. absurd (omega arith)))
+one_apart interval none is = subst (λ (l : List Interval). AreApart (l ++ interval ∷ [])) (sym is) (all_pairs_push Gap [] interval (none_later Gap) (λ k d lt. absurd (omega arith)))
 
 -- ---- all of them, sorted
 
@@ -182,7 +180,7 @@ pub record IsJoined (long : ℕ) (sorted : List Interval) (k : ℕ) (now : List 
 pub joined_none : (long : ℕ) (sorted : List Interval) (none : List Interval) → none ≡ [] → IsJoined long sorted 0 none
 joined_none long sorted none is = record {
   each = subst (All (IsInterval long)) (sym is) (All-nil (IsInterval long));
-  apart = subst AreApart (sym is) (no_pairs Gap);
+  apart = subst AreApart (sym is) (none_later Gap);
   behind = λ d lt. subst (All (NotBehind (get_or sorted 0 d).from)) (sym is) (All-nil (NotBehind (get_or sorted 0 d).from));
   same = λ n. ap (λ (l : List Interval). is_in_some l n) is;
 }

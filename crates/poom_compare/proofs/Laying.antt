@@ -24,11 +24,11 @@ use Rattle.poom.proofs.Picks.{picked-is}
 use Rattle.world_rules.specs.declared.rows.Row.{Row}
 use Rattle.world_rules.specs.declared.rows.Part.TheVariants.{Text}
 use Rattle.world_rules.specs.Edits.{new_rows}
+use Rattle.world_rules.proofs.Later.{after_first, without_first, none_later}
 use Rattle.poom_compare.specs.declared.placing.Placed.{Placed}
 use Rattle.poom_compare.specs.declared.positions.Interval.{Interval}
 use Rattle.poom_compare.specs.Shared.{rows_of_text, rows_picked, is_picked_by_some}
 use Rattle.poom_compare.specs.Placed.{is_in, is_in_some, is_picked_at_by, IsInterval, AreApart, AreIntervalsOf, IsPlaced, rows_at, rows_laid, RowsAscend}
-use Rattle.poom_compare.proofs.Lists.{after_first, without_first, no_pairs}
 use Rattle.poom_compare.proofs.Found.{front_shorter}
 
 -- ---- rows of addresses
@@ -57,7 +57,7 @@ abbrev IsRowBefore : Row → Row → Type 0
 IsRowBefore row later = row.n < later.n
 
 rows_ascend : (n : ℕ) (xs : List (List ℕ)) → RowsAscend (new_rows [] n xs)
-rows_ascend n [] = no_pairs IsRowBefore
+rows_ascend n [] = none_later IsRowBefore
 rows_ascend n (x ∷ xs) =
     AllPairs-cons IsRowBefore (record { document = []; part = Text; n = n; address = x }) (new_rows [] (n + 1) xs) (λ k d lt. let later = rows_from (n + 1) xs k d lt in omega arith) (rows_ascend (n + 1) xs)
 

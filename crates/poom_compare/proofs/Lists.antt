@@ -7,6 +7,7 @@ use Rattle.std.proofs.lemmas.Bool.{true≢false}
 use Rattle.std.proofs.lemmas.List.Elements.{All-nil, All-head, All-tail, All-append, All-map, All-filter, filter_passes, Contains-append_left, Contains-append_right, Contains-get_or, Contains-push, All-contains}
 use Rattle.std.proofs.lemmas.List.Kept.{AllPairs-cons}
 use Rattle.std.proofs.lemmas.Map.Keys.{apart_from_distinct, IsDistinct-from_apart, IsDistinct-IsPermutation}
+use Rattle.world_rules.proofs.Later.{none_later, after_first, without_first, pairs_append}
 
 -- ---- elements
 
@@ -60,31 +61,15 @@ all_passed p P Q says xs each k d within = says (get_or (filter p xs) k d) (All-
 
 -- ---- an element and each later one
 
-module _ {X : Type 0} (R : X → X → Type 0) where
-  pub no_pairs : AllPairs R []
-  no_pairs i j d lt within = absurd (omega arith)
-
-  pub after_first : (x : X) (xs : List X) → AllPairs R (x ∷ xs) → All (R x) xs
-  after_first x xs each k d within = each 0 (suc k) d (omega arith) (omega arith)
-
-  pub without_first : (x : X) (xs : List X) → AllPairs R (x ∷ xs) → AllPairs R xs
-  without_first x xs each i j d lt within = each (suc i) (suc j) d (omega arith) (omega arith)
-
-  pub pairs_append : (xs ys : List X) → AllPairs R xs → AllPairs R ys → All (λ x. All (R x) ys) xs → AllPairs R (xs ++ ys)
-  pairs_append [] ys first second across = second
-  pairs_append (x ∷ xs) ys first second across =
-      AllPairs-cons R x (xs ++ ys) (All-append (R x) xs ys (after_first x xs first) (across 0 x (omega arith)))
-      (pairs_append xs ys (without_first x xs first) second (λ k d within. across (suc k) d (omega arith)))
-
 pub pairs_map : {X Y : Type 0} (P : X → Type 0) (R : X → X → Type 0) (S : Y → Y → Type 0) (f : X → Y) → ((x y : X) → P x → P y → R x y → S (f x) (f y)) → (xs : List X) → All P xs → AllPairs R xs → AllPairs S (map f xs)
-pairs_map P R S f keeps [] all each = no_pairs S
+pairs_map P R S f keeps [] all each = none_later S
 pairs_map P R S f keeps (x ∷ xs) all each =
     AllPairs-cons S (f x) (map f xs) (All-map (S (f x)) f xs (λ k d within. keeps x (get_or xs k d) (All-head P x xs all) (All-tail P x xs all k d within) (after_first R x xs each k d within)))
     (pairs_map P R S f keeps xs (All-tail P x xs all) (without_first R x xs each))
 
 pub pairs_flat : {X Y : Type 0} (P : X → Type 0) (R : X → X → Type 0) (S : Y → Y → Type 0) (f : X → List Y)
     → ((x : X) → P x → AllPairs S (f x)) → ((x y : X) → P x → P y → R x y → All (λ a. All (S a) (f y)) (f x)) → (xs : List X) → All P xs → AllPairs R xs → AllPairs S (flat_map f xs)
-pairs_flat P R S f one across [] all each = no_pairs S
+pairs_flat P R S f one across [] all each = none_later S
 pairs_flat P R S f one across (x ∷ xs) all each =
     pairs_append S (f x) (flat_map f xs) (one x (All-head P x xs all)) (pairs_flat P R S f one across xs (All-tail P x xs all) (without_first R x xs each))
     (λ k d within. all_flat (S (get_or (f x) k d)) f xs (λ j e inside. across x (get_or xs j e) (All-head P x xs all) (All-tail P x xs all j e inside) (after_first R x xs each j e inside) k d within))
@@ -153,7 +138,7 @@ same_at (x ∷ xs) (suc n) a b lt = same_at xs n a b (omega arith)
 -- ---- two lists in a row
 
 pub pairs_front : {X : Type 0} (R : X → X → Type 0) (xs ys : List X) → AllPairs R (xs ++ ys) → AllPairs R xs
-pairs_front R [] ys each = no_pairs R
+pairs_front R [] ys each = none_later R
 pairs_front R (x ∷ xs) ys each =
     AllPairs-cons R x xs (λ k d lt. All-contains (R x) (xs ++ ys) (get_or xs k d) (after_first R x (xs ++ ys) each) (Contains-append_left xs ys (get_or xs k d) (Contains-get_or xs k d lt)))
     (pairs_front R xs ys (without_first R x (xs ++ ys) each))

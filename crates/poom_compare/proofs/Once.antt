@@ -11,8 +11,9 @@ use Rattle.poom_compare.specs.declared.segment.Segment.{Segment}
 use Rattle.poom_compare.specs.declared.segment.Side.{Side}
 use Rattle.poom_compare.specs.declared.segment.Side.TheVariants.{Left, Right}
 use Rattle.world_rules.specs.Relation.{is_pair}
+use Rattle.world_rules.proofs.Later.{pairs_append}
 use Rattle.poom_compare.specs.Segments.{IsSegment, IsSegmentOf, is_meeting, AreSegmentsOf, AreStarts, pair_of, is_start_in, starts_in, starts_of, all_starts}
-use Rattle.poom_compare.proofs.Lists.{all_flat, all_passed, pairs_append, pairs_map, pairs_flat, apart_in_order}
+use Rattle.poom_compare.proofs.Lists.{all_flat, all_passed, pairs_map, pairs_flat, apart_in_order}
 use Rattle.poom_compare.proofs.Beginnings.{pairs_differ_left, pairs_differ_right, meeting_flips, meet_not, bounds_in, found_each, find}
 
 -- the position of the outer segment's text, and that of the inner one's

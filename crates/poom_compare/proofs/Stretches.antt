@@ -4,10 +4,11 @@ use Rattle.std.specs.Prelude.{Contains, nat_le, nat_lt, ◌⊎◌}
 use Rattle.std.specs.List.{AllPairs}
 use Rattle.std.proofs.lemmas.Bool.Decides.{nat_tests}
 use Rattle.std.proofs.lemmas.List.Elements.{All-map, All-contains, Contains-get_or}
+use Rattle.world_rules.proofs.Later.{after_first, without_first}
 use Rattle.poom_compare.specs.declared.stretch.Stretch.{Stretch}
 use Rattle.poom_compare.specs.Segments.{IsSegment, IsSegmentOf, AreSegmentsOf, is_meeting}
 use Rattle.poom_compare.specs.Placed.{AreStretches, IsStretch, text_of, segment_of}
-use Rattle.poom_compare.proofs.Lists.{here, there, none_there, first_or_rest, contains_map, after_first, without_first, pairs_map, same_at}
+use Rattle.poom_compare.proofs.Lists.{here, there, none_there, first_or_rest, contains_map, pairs_map, same_at}
 
 abbrev Before : Stretch → Stretch → Type 0
 Before a b = a.at + a.length ≤ b.at

@@ -1,5 +1,5 @@
 -- What is shared in a world is what the texts share.
-use Rattle.std.proofs.Common.{◌≡◌, ℕ, ◌+◌, ◌∙◌, ◌++◌, ◌∷◌, [], ◌&&◌, Bool, List, map, true, false, ap, sym, refl, cond}
+use Rattle.std.proofs.Common.{◌≡◌, ℕ, ◌+◌, ◌∙◌, ◌++◌, ◌∷◌, [], Bool, List, map, true, false, ap, sym, refl, cond}
 use Rattle.std.specs.Prelude.{filter}
 use Rattle.std.specs.List.{flat_map}
 use Rattle.std.proofs.lemmas.Simd.{map-map}
@@ -12,17 +12,10 @@ use Rattle.world_rules.specs.World.{World, is_same, is_text_of}
 use Rattle.world_rules.specs.Picking.{picked_once}
 use Rattle.world_rules.specs.Edits.{new_rows}
 use Rattle.world_rules.specs.Relation.{pairs_of_row, diagonals_of}
+use Rattle.world_rules.proofs.ListTests.{filter_both}
 use Rattle.poom_compare.specs.Shared.{is_picked_by_some, rows_picked, pairs_between, Shows, IsRelationOfWorld}
 
 -- ---- lists
-
-filter_both : {X : Type 0} (p q : X → Bool) (xs : List X) → filter (λ x. p x && q x) xs ≡ filter q (filter p xs)
-filter_both p q [] = refl
-filter_both {X = X} p q (x ∷ xs) = step (p x) (filter_both p q xs)
-  where
-    step : (b : Bool) → filter (λ x. p x && q x) xs ≡ filter q (filter p xs) → cond (b && q x) (x ∷ filter (λ x. p x && q x) xs) (filter (λ x. p x && q x) xs) ≡ filter q (cond b (x ∷ filter p xs) (filter p xs))
-    step true rest = ap (λ (ys : List X). cond (q x) (x ∷ ys) ys) rest
-    step false rest = rest
 
 pub filter_mapped : {X Y : Type 0} (p : Y → Bool) (f : X → Y) (xs : List X) → filter p (map f xs) ≡ map f (filter (λ x. p (f x)) xs)
 filter_mapped p f [] = refl

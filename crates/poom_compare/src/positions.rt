@@ -56,7 +56,8 @@ fn interval_of(span: &Span, length: u32) -> Interval
     }
 }
 
-/// Those that each of some spans picks, where it picks any.
+/// The positions of a text that spans pick: one interval for each span, in their order, but none for a span that picks
+/// nothing.
 fn intervals(alloc: Global, spans: &[Span], length: u32) -> Result<Vec<Interval>, Memory>
     requires fits { All SpanFits spans.now }
     requires few { length ≤ 1073741824 }

@@ -12,14 +12,16 @@ use world_rules::Pair;
 /// The most diagonals that are listed.
 pub(crate) const MOST: usize = 65_536;
 
-/// By what segments are looked up: the number of the first byte, and among equal ones that of the one before.
+/// The key of a segment's beginning: the number of its first byte, and among equal ones that of the byte in front of
+/// it.
 fn begin_key(segment: &Segment) -> u128
     ensures { result ≡ begin_key segment.now }
 {
     u128::from(segment.first) * 18_446_744_073_709_551_616 + u128::from(segment.before)
 }
 
-/// The segments in that order.
+/// The segments sorted by how they begin, so that those that begin within another stand together and are found by
+/// halving.
 fn by_begin(alloc: Global, segments: &[Segment]) -> Result<Vec<Segment>, Memory>
     requires { All IsSegment segments.now }
     ensures right { IfOk result (λ made. All IsSegment made.items) }
@@ -132,7 +134,8 @@ fn push_starts(
     Ok(())
 }
 
-/// Adds those of all outer segments, or stops where there are more than may be listed.
+/// Adds, for each outer segment, the pairs of inner segments at which diagonals begin, or stops where there are more
+/// than may be listed.
 #[tactic(auto, using(crate::proofs::Found::pushed))]
 fn push_all(
     found: &mut Vec<Pair>,

@@ -8,7 +8,7 @@ ghost use Rattle.session_pool.specs.inside.Work.{IsPlaced, IsWorkers, GoesOn};
 
 use crate::accept::Accept;
 use crate::gate::Gate;
-use crate::passes::Passes;
+use crate::passes::IssuePasses;
 use crate::serve::Serve;
 use crate::serving::serve_one;
 use crate::traffic::{Message, Put, Take, Unite};
@@ -72,7 +72,15 @@ fn stop<R: Wait, J: Drop>(rt: &R, to: &Outgoing<J>, seat: &mut Seat<J>, workers:
 }
 
 // Sends a job to the workers, or serves it here.
-fn send_or_serve<R: Wait, L: Passes<Pass = P>, J: Drop, W: Serve<L, J, Tally = Y>, G: Gate, P, Y>(
+fn send_or_serve<
+    R: Wait,
+    L: IssuePasses<Pass = P>,
+    J: Drop,
+    W: Serve<L, J, Tally = Y>,
+    G: Gate,
+    P,
+    Y,
+>(
     rt: &R,
     alloc: Global,
     lock: &L,
@@ -108,7 +116,7 @@ fn send_or_serve<R: Wait, L: Passes<Pass = P>, J: Drop, W: Serve<L, J, Tally = Y
 // Takes jobs until there are no more, and has each served.
 fn feed<
     R: Wait,
-    L: Passes<Pass = P>,
+    L: IssuePasses<Pass = P>,
     J: Drop,
     W: Serve<L, J, Tally = Y>,
     G: Gate,
@@ -146,7 +154,7 @@ fn feed<
 // The same, and then tells so many workers to stop.
 pub(crate) fn feed_and_stop<
     R: Wait,
-    L: Passes<Pass = P>,
+    L: IssuePasses<Pass = P>,
     J: Drop,
     W: Serve<L, J, Tally = Y>,
     G: Gate,
@@ -183,7 +191,7 @@ pub(crate) fn feed_and_stop<
 }
 
 // Takes in what a worker brought back.
-pub(crate) fn take_in<L: Passes<Pass = P>, J: Drop, W: Serve<L, J, Tally = Y>, P, Y>(
+pub(crate) fn take_in<L: IssuePasses<Pass = P>, J: Drop, W: Serve<L, J, Tally = Y>, P, Y>(
     lock: &L,
     to: &Outgoing<J>,
     worker: &W,
@@ -234,7 +242,7 @@ fn left_over<R: Wait, J: Drop>(rt: &R, from: &Incoming<J>, seat: &mut Seat<J>) -
 // Serves what no worker has taken.
 pub(crate) fn drain<
     R: Wait,
-    L: Passes<Pass = P>,
+    L: IssuePasses<Pass = P>,
     J: Drop,
     W: Serve<L, J, Tally = Y>,
     G: Gate,

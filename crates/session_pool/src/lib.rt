@@ -19,6 +19,6 @@ mod workers;
 
 pub use accept::Accept;
 pub use gate::{Gate, OpenGate};
-pub use passes::Passes;
+pub use passes::IssuePasses;
 pub use pool::run_pool;
 pub use serve::Serve;

@@ -6,7 +6,7 @@ ghost use Rattle.history_lock.specs.Passes.{newcomer, HasTakenIn};
 use history_lock::{HistoryLock, Kept, Pass};
 
 /// A lock with passes. It stands for a `HistoryLock`, since a closure over one gets no proof where its value's type is a parameter.
-pub trait Passes {
+pub trait IssuePasses {
     /// What contracts see as an entry of the history.
     type Entry;
 
@@ -35,7 +35,7 @@ pub trait Passes {
         ensures taken_in { HasTakenIn owner (knows into.old) (knows pass) (knows into.new) };
 }
 
-impl<T: Kept> Passes for HistoryLock<T> {
+impl<T: Kept> IssuePasses for HistoryLock<T> {
     ghost use Rattle.history_lock.specs.Passes.{known, IsPassOf};
 
     type Entry = T::Entry;

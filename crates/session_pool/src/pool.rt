@@ -9,7 +9,7 @@ ghost use Rattle.session_pool.specs.Serving.{HasPooled};
 use crate::accept::Accept;
 use crate::gate::Gate;
 use crate::gather::{drain, next_given};
-use crate::passes::Passes;
+use crate::passes::IssuePasses;
 use crate::serve::Serve;
 use crate::serving::serve_one;
 use crate::work::{Incoming, Outgoing, Seat, Worked};
@@ -33,7 +33,7 @@ fn take_back<A>(accept: &mut A)
 // Serves jobs in this thread until there are no more.
 fn serve_all<
     R: Wait,
-    L: Passes<Pass = P>,
+    L: IssuePasses<Pass = P>,
     J,
     W: Serve<L, J, Tally = Y>,
     G: Gate,
@@ -61,7 +61,7 @@ fn serve_all<
 // Serves jobs in workers, and what they leave in this thread.
 fn pool<
     R: Threads + Wait + Sync,
-    L: Passes<Pass = P> + Sync,
+    L: IssuePasses<Pass = P> + Sync,
     J: Send + Drop,
     W: Serve<L, J, Tally = Y> + Sync,
     G: Gate + Sync,
@@ -103,7 +103,7 @@ fn pool<
 /// Where there is no memory for a channel or no thread can be made, it serves every job in the thread that calls it.
 pub fn run_pool<
     R: Threads + Wait + Sync,
-    L: Passes<Pass = P> + Sync,
+    L: IssuePasses<Pass = P> + Sync,
     J: Send + Drop,
     W: Serve<L, J, Tally = Y> + Sync,
     G: Gate + Sync,

@@ -3,12 +3,12 @@ ghost use Rattle.std.specs.Prelude.{◌≡◌, ◌+◌, ℕ};
 ghost use Rattle.history_lock.specs.Histories.{StartsWith};
 ghost use Rattle.session_pool.specs.Counts.{saturated, raised};
 
-use crate::passes::Passes;
+use crate::passes::IssuePasses;
 use std::alloc::Global;
 use std::sync::Wait;
 
 /// Serves jobs over a lock. All workers share it, and each keeps a tally of what it has served.
-pub trait Serve<L: Passes, J> {
+pub trait Serve<L: IssuePasses, J> {
     type Tally;
 
     // How many jobs a tally tells of, or the greatest number of 64 bits.

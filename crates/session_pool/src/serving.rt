@@ -4,13 +4,13 @@ ghost use Rattle.session_pool.specs.Counts.{raised};
 ghost use Rattle.session_pool.specs.Serving.{HasServed};
 
 use crate::gate::Gate;
-use crate::passes::Passes;
+use crate::passes::IssuePasses;
 use crate::serve::Serve;
 use std::alloc::Global;
 use std::sync::Wait;
 
 // Serves a job with a new pass, which the given one then takes in.
-pub(crate) fn serve_one<R: Wait, L: Passes, J, W: Serve<L, J>, G: Gate>(
+pub(crate) fn serve_one<R: Wait, L: IssuePasses, J, W: Serve<L, J>, G: Gate>(
     rt: &R,
     alloc: Global,
     lock: &L,

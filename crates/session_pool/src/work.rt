@@ -6,7 +6,7 @@ ghost use Rattle.session_pool.specs.inside.Rule.{traffic};
 ghost use Rattle.session_pool.specs.inside.Work.{IsPlaced, IsWorkers};
 
 use crate::gate::Gate;
-use crate::passes::Passes;
+use crate::passes::IssuePasses;
 use crate::serve::Serve;
 use crate::serving::serve_one;
 use crate::traffic::{Balance, Message, Take, Traffic};
@@ -38,8 +38,9 @@ pub(crate) struct OfThese<L, C, W> {
     pub worker: Snapshot<W>,
 }
 
-impl<L: Passes<Pass = P>, J: Drop, W: Serve<L, J, Tally = Y>, P, Y> Promise<Worked<P, Seat<J>, Y>>
-    for OfThese<L, Incoming<J>, W> {
+impl<L: IssuePasses<Pass = P>, J: Drop, W: Serve<L, J, Tally = Y>, P, Y> Promise<
+    Worked<P, Seat<J>, Y>,
+> for OfThese<L, Incoming<J>, W> {
     ghost use Rattle.crossbeam_channel.specs.Claims.{IsSeatAt};
     ghost use Rattle.crossbeam_channel.specs.Ends.{receives_on};
     ghost use Rattle.session_pool.specs.inside.Work.{IsPlaced, IsWorkers};
@@ -61,7 +62,15 @@ fn next_job<R: Wait, J: Drop>(rt: &R, from: &Incoming<J>, seat: &mut Seat<J>) ->
 }
 
 // Serves jobs from the channel until it is told to stop.
-pub(crate) fn work<R: Wait, L: Passes<Pass = P>, J: Drop, W: Serve<L, J, Tally = Y>, G: Gate, P, Y>(
+pub(crate) fn work<
+    R: Wait,
+    L: IssuePasses<Pass = P>,
+    J: Drop,
+    W: Serve<L, J, Tally = Y>,
+    G: Gate,
+    P,
+    Y,
+>(
     rt: &R,
     alloc: Global,
     lock: &L,

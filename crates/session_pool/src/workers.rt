@@ -9,7 +9,7 @@ ghost use Rattle.session_pool.specs.inside.Work.{IsPlaced, IsWorkers, GoesOn};
 use crate::accept::Accept;
 use crate::gate::Gate;
 use crate::gather::{feed_and_stop, take_in};
-use crate::passes::Passes;
+use crate::passes::IssuePasses;
 use crate::serve::Serve;
 use crate::traffic::Cut;
 use crate::work::{Incoming, OfThese, Outgoing, Seat, Worked, work};
@@ -34,7 +34,7 @@ pub(crate) const NONE_REFUSED: u64 = u64::MAX;
 // Works, unless this is the worker that no thread could be made for.
 fn work_unless_refused<
     R: Wait,
-    L: Passes<Pass = P>,
+    L: IssuePasses<Pass = P>,
     J: Drop,
     W: Serve<L, J, Tally = Y>,
     G: Gate,
@@ -67,7 +67,7 @@ fn start_worker<
     's,
     E,
     R: Wait + Sync,
-    L: Passes<Pass = P> + Sync,
+    L: IssuePasses<Pass = P> + Sync,
     J: Send + Drop + 's,
     W: Serve<L, J, Tally = Y> + Sync,
     G: Gate + Sync,
@@ -118,7 +118,7 @@ fn start_worker<
 }
 
 // What a new worker begins with.
-fn new_worker<L: Passes<Pass = P>, J: Drop, W: Serve<L, J, Tally = Y>, P, Y>(
+fn new_worker<L: IssuePasses<Pass = P>, J: Drop, W: Serve<L, J, Tally = Y>, P, Y>(
     lock: &L,
     to: &Outgoing<J>,
     worker: &W,
@@ -141,7 +141,7 @@ fn new_worker<L: Passes<Pass = P>, J: Drop, W: Serve<L, J, Tally = Y>, P, Y>(
 // Joins a worker, and takes in what it brought back.
 fn join_worker<
     R: Threads,
-    L: Passes<Pass = P>,
+    L: IssuePasses<Pass = P>,
     J: Drop,
     W: Serve<L, J, Tally = Y>,
     P: Drop,
@@ -171,7 +171,7 @@ fn with_workers<
     's,
     E,
     R: Threads + Wait + Sync,
-    L: Passes<Pass = P> + Sync,
+    L: IssuePasses<Pass = P> + Sync,
     J: Send + Drop + 's,
     W: Serve<L, J, Tally = Y> + Sync,
     G: Gate + Sync,
@@ -238,7 +238,7 @@ fn with_workers<
 pub(crate) fn run_workers<
     'a,
     R: Threads + Wait + Sync,
-    L: Passes<Pass = P> + Sync,
+    L: IssuePasses<Pass = P> + Sync,
     J: Send + Drop + 'a,
     W: Serve<L, J, Tally = Y> + Sync,
     G: Gate + Sync,

@@ -10,21 +10,21 @@ use Rattle.tumbler.proofs.Order.{upto_upto, upto_or_before, upto_if_before, upto
 use Rattle.tumbler.proofs.Before.{true_if_before, false_if_up_to, up_to_if_false}
 use Rattle.tumbler.proofs.Tumblers.{sum-is_tumbler}
 use Rattle.enfilade_core.specs.declared.tree.Row.{Row}
-use Rattle.enfilade_core.specs.Axes.{InOrder, IsRightRow}
+use Rattle.enfilade_core.specs.Axes.{InOrder, IsWellFormedRow}
 use Rattle.enfilade_core.specs.Planes.{key_widths}
 use Rattle.enfilade_core.specs.Edits.{put_before}
 use Rattle.spanfilade.specs.Index.{row_of}
 use Rattle.spanfilade.specs.Groups.{FitIn, IsPast, IsBehind, AreBehind}
 
--- ---- what comes in is right
+-- ---- what comes in is well formed
 
 no_places : IsTumbler []
 no_places = record { few = omega arith; small = All-nil (λ p. p < 2 ^ 32); ends = λ _. refl }
 
-pub right_row : (span : Span) (key : List ℕ) → IsTumbler span.start → IsTumbler span.width → IsTumbler key → SpanFits span → IsRightRow key_widths (row_of span key)
-right_row span key start width at fits = record {
-  first_place = start;
-  second_place = at;
+pub well_formed_row : (span : Span) (key : List ℕ) → IsTumbler span.start → IsTumbler span.width → IsTumbler key → SpanFits span → IsWellFormedRow key_widths (row_of span key)
+well_formed_row span key start width at fits = record {
+  first_coordinate = start;
+  second_coordinate = at;
   first_width = width;
   second_width = no_places;
   first_end = sum-is_tumbler span.start span.width start width fits;

@@ -16,6 +16,7 @@ use Rattle.tumbler.specs.Places.{IsBefore, IsUpTo, comes_before}
 use Rattle.tumbler.specs.Span.{end_of, SpanFits}
 use Rattle.tumbler.proofs.Order.{upto_upto, before_upto, upto_itself}
 use Rattle.tumbler.proofs.Before.{before_if_true, true_if_before, up_to_if_false}
+use Rattle.tumbler.proofs.OrLaws.{or_none}
 use Rattle.enfilade_core.specs.declared.tree.Row.{Row}
 use Rattle.spanfilade.specs.Apart.{HasPlaces, EndsBefore, AreApart, StartsUpTo, IsByStart, IsJoined}
 use Rattle.spanfilade.specs.Keys.{is_met, is_met_by}
@@ -45,10 +46,6 @@ pub none_meets : (span : Span) → comes_before span.start (end_of span) ≡ fal
 none_meets span none row = false_from_ne_true (is_met span row) (λ is.
     let start = touches-starts span.start (end_of span) row.first row.leaf is in
     true≢false (sym (true_if_before span.start (end_of span) start) ∙ none))
-
-or_none : (a : Bool) → a ≡ (a || false)
-or_none true = refl
-or_none false = refl
 
 pub met_without : (spans : List Span) (span : Span) (has : Bool) → has ≡ comes_before span.start (end_of span) → has ≡ false → (row : Row (List ℕ)) → is_met_by spans row ≡ (is_met_by spans row || is_met span row)
 met_without spans span has is none row = or_none (is_met_by spans row) ∙ ap (λ (b : Bool). is_met_by spans row || b) (sym (none_meets span (sym is ∙ none) row))

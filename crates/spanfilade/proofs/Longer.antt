@@ -16,7 +16,7 @@ use Rattle.tumbler.proofs.Sums.{sum-upto}
 use Rattle.tumbler.proofs.SumOrder.{fits_if_tumbler}
 use Rattle.tumbler.proofs.Tumblers.{difference-is_tumbler}
 use Rattle.enfilade_core.specs.declared.tree.Row.{Row}
-use Rattle.enfilade_core.specs.Axes.{InOrder, IsRightRow, IsRightRows, later}
+use Rattle.enfilade_core.specs.Axes.{InOrder, IsWellFormedRow, IsWellFormedRows, later}
 use Rattle.enfilade_core.specs.Planes.{key_widths}
 use Rattle.enfilade_core.specs.Edits.{put_before, is_within, taken_out, left_by, shifted, last_before, or_else}
 use Rattle.enfilade_core.specs.Exchange.{rows_before, rows_past, exchanged}
@@ -69,7 +69,7 @@ exchange_is : {L : Type 0} (from to : List ℕ) (new rows : List (Row L)) → Is
 exchange_is {L} from to new rows le h =
     ap (λ (rs : List (Row L)). rows_before from rows ++ new ++ rs) (shift_none to (rows_past to rows) (past_are to rows h)) ∙ sym (put_in_cut from to new rows le h)
 
--- ---- that it is right
+-- ---- that it is well formed
 
 kept_in_order : {L : Type 0} (test : Row L → Bool) (b : Bool) (row : Row L) (rows : List (Row L)) → test row ≡ b → All (λ (r : Row L). IsUpTo row.first r.first) rows → InOrder (filter test rows) → InOrder (filter test (row ∷ rows))
 kept_in_order test true row rows is le h = rw is (All-filter test (λ r. IsUpTo row.first r.first) rows le, h)
@@ -79,14 +79,14 @@ filter_in_order : {L : Type 0} (test : Row L → Bool) (rows : List (Row L)) →
 filter_in_order test [] h = tt
 filter_in_order test (row ∷ rows) h = kept_in_order test (test row) row rows refl h.0 (filter_in_order test rows h.1)
 
-pub exchange_right : (to : List ℕ) (made : Row (List ℕ)) (new rows : List (Row (List ℕ))) → new ≡ made ∷ [] → IsUpTo made.first to → IsRightRow key_widths made → All (IsRightRow key_widths) rows → InOrder rows
-    → IsRightRows key_widths (exchanged (record { from = made.first; to = to; onto = to }) new rows)
-exchange_right to made new rows is le right all h =
+pub exchange_well_formed : (to : List ℕ) (made : Row (List ℕ)) (new rows : List (Row (List ℕ))) → new ≡ made ∷ [] → IsUpTo made.first to → IsWellFormedRow key_widths made → All (IsWellFormedRow key_widths) rows → InOrder rows
+    → IsWellFormedRows key_widths (exchanged (record { from = made.first; to = to; onto = to }) new rows)
+exchange_well_formed to made new rows is le well_formed all h =
     let test : Row (List ℕ) → Bool = λ row. not (is_within made.first to row) in
-    subst (λ (xs : List (Row (List ℕ))). IsRightRows key_widths (exchanged (record { from = made.first; to = to; onto = to }) xs rows)) (sym is)
-    (subst (IsRightRows key_widths) (sym (exchange_is made.first to (made ∷ []) rows le h))
+    subst (λ (xs : List (Row (List ℕ))). IsWellFormedRows key_widths (exchanged (record { from = made.first; to = to; onto = to }) xs rows)) (sym is)
+    (subst (IsWellFormedRows key_widths) (sym (exchange_is made.first to (made ∷ []) rows le h))
     record {
-      each = All-put (IsRightRow key_widths) made.first (made ∷ []) (filter test rows) (All-cons (IsRightRow key_widths) made [] right (All-nil (IsRightRow key_widths))) (All-filter test (IsRightRow key_widths) rows all);
+      each = All-put (IsWellFormedRow key_widths) made.first (made ∷ []) (filter test rows) (All-cons (IsWellFormedRow key_widths) made [] well_formed (All-nil (IsWellFormedRow key_widths))) (All-filter test (IsWellFormedRow key_widths) rows all);
       ordered = InOrder-put made.first (made ∷ []) (filter test rows) (one_fits_in made (filter test rows)) (filter_in_order test rows h);
     })
 
@@ -239,15 +239,15 @@ last_is_before {L} to (row ∷ rows) r e = by_test (comes_before row.first to) r
 
 -- ---- the longer row
 
-last_right : (to : List ℕ) (rows : List (Row (List ℕ))) (row : Row (List ℕ)) → last_before to rows ≡ Some row → All (IsRightRow key_widths) rows → IsRightRow key_widths row
-last_right to rows row last all = found_holds (IsRightRow key_widths) to rows row last all
+last_well_formed : (to : List ℕ) (rows : List (Row (List ℕ))) (row : Row (List ℕ)) → last_before to rows ≡ Some row → All (IsWellFormedRow key_widths) rows → IsWellFormedRow key_widths row
+last_well_formed to rows row last all = found_holds (IsWellFormedRow key_widths) to rows row last all
 
-pub last_fits : (to : List ℕ) (rows : List (Row (List ℕ))) (row : Row (List ℕ)) → last_before to rows ≡ Some row → All (IsRightRow key_widths) rows → Fits row.first row.leaf
-last_fits to rows row last all = fits_if_tumbler row.first row.leaf (last_right to rows row last all).first_end
+pub last_fits : (to : List ℕ) (rows : List (Row (List ℕ))) (row : Row (List ℕ)) → last_before to rows ≡ Some row → All (IsWellFormedRow key_widths) rows → Fits row.first row.leaf
+last_fits to rows row last all = fits_if_tumbler row.first row.leaf (last_well_formed to rows row last all).first_end
 
-pub last_reaches : (span : Span) (rows : List (Row (List ℕ))) (row : Row (List ℕ)) (end other to : List ℕ) → last_before span.start rows ≡ Some row → All (IsRightRow key_widths) rows → end ≡ sum row.first row.leaf → other ≡ end_of span → to ≡ later end other → IsUpTo row.first to
+pub last_reaches : (span : Span) (rows : List (Row (List ℕ))) (row : Row (List ℕ)) (end other to : List ℕ) → last_before span.start rows ≡ Some row → All (IsWellFormedRow key_widths) rows → end ≡ sum row.first row.leaf → other ≡ end_of span → to ≡ later end other → IsUpTo row.first to
 last_reaches span rows row end other to last all ends others is =
-    let own : IsUpTo row.first end = subst (IsUpTo row.first) (sym ends) (sum-upto row.first row.leaf (last_right span.start rows row last all).first_width.ends) in
+    let own : IsUpTo row.first end = subst (IsUpTo row.first) (sym ends) (sum-upto row.first row.leaf (last_well_formed span.start rows row last all).first_width.ends) in
     subst (IsUpTo row.first) (sym is) (upto_upto row.first end (later end other) own (first_up_to_later end other))
 
 same_key : (a b : List ℕ) → not (pointwise nat_eq a b) ≡ false → a ≡ b
@@ -258,24 +258,24 @@ same_key a b e = by_order (slice_cmp nat_cmp a b) refl (sym (ap not (texts_ties 
     by_order Less is h = absurd (false≢true (sym h ∙ ap (λ (o : Ordering). not (is_eq o)) is))
     by_order Greater is h = absurd (false≢true (sym h ∙ ap (λ (o : Ordering). not (is_eq o)) is))
 
-pub longer_is : (span : Span) (key : List ℕ) (rows : List (Row (List ℕ))) (row : Row (List ℕ)) (end other to first second leaf : List ℕ) → last_before span.start rows ≡ Some row → All (IsRightRow key_widths) rows → end ≡ sum row.first row.leaf → other ≡ end_of span
+pub longer_is : (span : Span) (key : List ℕ) (rows : List (Row (List ℕ))) (row : Row (List ℕ)) (end other to first second leaf : List ℕ) → last_before span.start rows ≡ Some row → All (IsWellFormedRow key_widths) rows → end ≡ sum row.first row.leaf → other ≡ end_of span
     → to ≡ later end other → IsTumbler to → not (pointwise nat_eq row.second key) ≡ false → comes_before end span.start ≡ false → first ≡ row.first → second ≡ row.second → leaf ≡ difference to row.first → IsLonger span key rows (record { first = first; second = second; leaf = leaf })
 longer_is span key rows row end other to first second leaf last all ends others is tumbler of_key reaches firsts seconds leaves =
-    let right = last_right span.start rows row last all in
+    let well_formed = last_well_formed span.start rows row last all in
     let up : IsUpTo row.first to = last_reaches span rows row end other to last all ends others is in
     let there : to ≡ later (row_end row) (end_of span) = is ∙ ap (λ (e : List ℕ). later e other) ends ∙ ap (later (row_end row)) others in
     let same : record { first = first; second = second; leaf = leaf } ≡ lengthened span row =
     ap (λ (x : List ℕ). record { first = x; second = second; leaf = leaf }) firsts
     ∙ ap (λ (x : List ℕ). record { first = row.first; second = x; leaf = leaf }) seconds
     ∙ ap (λ (x : List ℕ). record { first = row.first; second = row.second; leaf = x }) (leaves ∙ ap (λ (x : List ℕ). difference x row.first) there) in
-    let width : IsTumbler (difference to row.first) = difference-is_tumbler to row.first tumbler right.first_place up in
-    let whole : IsRightRow key_widths (record { first = row.first; second = row.second; leaf = difference to row.first }) = record {
-      first_place = right.first_place;
-      second_place = right.second_place;
+    let width : IsTumbler (difference to row.first) = difference-is_tumbler to row.first tumbler well_formed.first_coordinate up in
+    let whole : IsWellFormedRow key_widths (record { first = row.first; second = row.second; leaf = difference to row.first }) = record {
+      first_coordinate = well_formed.first_coordinate;
+      second_coordinate = well_formed.second_coordinate;
       first_width = width;
-      second_width = right.second_width;
+      second_width = well_formed.second_width;
       first_end = subst IsTumbler (sym (sum-difference row.first to up)) tumbler;
-      second_end = right.second_end;
+      second_end = well_formed.second_end;
       proper = ((λ t. absurd (false≢true t)), (λ t. absurd (false≢true t)));
     } in
     record {
@@ -284,7 +284,7 @@ longer_is span key rows row end other to first second leaf last all ends others 
       of_key = same_key row.second key of_key;
       reaches = subst (IsUpTo span.start) ends (up_to_if_false end span.start reaches);
       is = same;
-      right = subst (IsRightRow key_widths) (sym (same ∙ ap (λ (x : List ℕ). record { first = row.first; second = row.second; leaf = difference x row.first }) (sym there))) whole;
+      well_formed = subst (IsWellFormedRow key_widths) (sym (same ∙ ap (λ (x : List ℕ). record { first = row.first; second = row.second; leaf = difference x row.first }) (sym there))) whole;
     }
 
 pub longer_front : (span : Span) (key : List ℕ) (rows : List (Row (List ℕ))) (made : Row (List ℕ)) → IsLonger span key rows made → IsUpTo made.first span.start

@@ -7,7 +7,7 @@ use Rattle.enfilade_core.specs.declared.tree.Row.{Row}
 use Rattle.enfilade_core.specs.declared.tree.Node.{Node}
 use Rattle.enfilade_core.specs.declared.tree.TreeMark.{TreeMark}
 use Rattle.enfilade_core.specs.Rows.{Shape, rows_of}
-use Rattle.enfilade_core.specs.Axes.{later, IsRightRow}
+use Rattle.enfilade_core.specs.Axes.{later, IsWellFormedRow}
 use Rattle.enfilade_core.specs.Planes.{key_widths}
 use Rattle.enfilade_core.specs.Edits.{put_before, last_before}
 
@@ -59,7 +59,7 @@ pub record IsLonger (span : Span) (key : List ℕ) (rows : List (Row (List ℕ))
   pub of_key : row.second ≡ key
   pub reaches : IsUpTo span.start (row_end row)
   pub is : made ≡ lengthened span row
-  pub right : IsRightRow key_widths made
+  pub well_formed : IsWellFormedRow key_widths made
 
 -- the span is covered for the key: it came in, or a row of the key was made longer
 abbrev pub IsCovered : Span → List ℕ → List (Row (List ℕ)) → List (Row (List ℕ)) → Type 0

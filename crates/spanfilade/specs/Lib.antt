@@ -2,3 +2,4 @@ pub mod Index
 pub mod Keys
 pub mod Groups
 pub mod Apart
+pub mod Laws

@@ -7,7 +7,7 @@ ghost use Rattle.enfilade_core.specs.declared.tree.Row.{Row};
 ghost use Rattle.enfilade_core.specs.Rows.{rows_of};
 ghost use Rattle.enfilade_core.specs.Exchange.{Grows};
 ghost use Rattle.enfilade_core.specs.Edits.{KeepsRows};
-ghost use Rattle.enfilade_core.specs.Axes.{IsRightRow, InOrder};
+ghost use Rattle.enfilade_core.specs.Axes.{IsWellFormedRow, InOrder};
 ghost use Rattle.enfilade_core.specs.Planes.{key_widths};
 ghost use Rattle.spanfilade.specs.Index.{row_of, rows_for};
 ghost use Rattle.spanfilade.specs.Groups.{with_group, FitsAsGroup, LeavesRoom};
@@ -24,7 +24,7 @@ fn goes_on(arena: &Arena<KeyPlane>, root: Node, group: &[Row<Tumbler>], span: &S
     ensures up_to { result ≡ true → All (λ (row : Row (ListOf ℕ)). IsUpTo row.first span.now.start) group.now }
     ensures room { result ≡ true → LeavesRoom span.now.start group.now (rows_of arena.now root.0) }
 {
-    let _right = arena.allocator();
+    let _well_formed = arena.allocator();
     let count = group.len();
     if count == 0 {
         return true;
@@ -47,14 +47,14 @@ fn put_group(
     group: &List<Row<Tumbler>>,
 ) -> Result<Node, Memory>
     requires below { root.0 < length arena.old }
-    requires right { All (IsRightRow key_widths) group.now.items }
+    requires well_formed { All (IsWellFormedRow key_widths) group.now.items }
     requires fits { FitsAsGroup group.now.items (rows_of arena.old root.0) }
     ensures kept { KeepsRows arena.old arena.new }
     ensures grows { Grows arena.old arena.new }
     ensures below { IfOk result (λ made. made.0 < length arena.new) }
     ensures rows { IfOk result (λ made. rows_of arena.new made.0 ≡ with_group group.now.items (rows_of arena.old root.0)) }
 {
-    let _right = arena.allocator();
+    let _well_formed = arena.allocator();
     if group.is_empty() {
         return Ok(root);
     }
@@ -74,12 +74,12 @@ fn take_span(
 ) -> Result<Node, Memory>
     requires below { root.0 < length arena.old }
     requires span { SpanFits span.now }
-    requires right { All (IsRightRow key_widths) group.old.items }
+    requires well_formed { All (IsWellFormedRow key_widths) group.old.items }
     requires fits { FitsAsGroup group.old.items (rows_of arena.old root.0) }
     ensures kept { KeepsRows arena.old arena.new }
     ensures grows { Grows arena.old arena.new }
     ensures below { IfOk result (λ made. made.0 < length arena.new) }
-    ensures right { OnOk result (All (IsRightRow key_widths) group.new.items) }
+    ensures well_formed { OnOk result (All (IsWellFormedRow key_widths) group.new.items) }
     ensures fits { IfOk result (λ made. FitsAsGroup group.new.items (rows_of arena.new made.0)) }
     ensures rows { IfOk result (λ made. IsPermutation (row_of span.now key.now ∷ (group.old.items ++ rows_of arena.old root.0)) (group.new.items ++ rows_of arena.new made.0)) }
 {
@@ -115,6 +115,6 @@ pub(crate) fn put_all(
         root = take_span(arena, root, &mut group, span, key)?;
     }
     let made = put_group(arena, root, &group)?;
-    let _right = arena.allocator();
+    let _well_formed = arena.allocator();
     Ok(made)
 }

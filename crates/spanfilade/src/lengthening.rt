@@ -22,7 +22,7 @@ pub(crate) fn longer_row(
     requires span { SpanFits span.now }
     ensures { IfSome result (λ made. IsLonger span.now key.now (rows_of arena.now root.0) made) }
 {
-    let _right = arena.allocator();
+    let _well_formed = arena.allocator();
     let Some(row) = arena.row_before(root, &span.start) else {
         return None;
     };

@@ -4,6 +4,7 @@
 mod groups;
 mod joining;
 mod keys;
+pub mod laws;
 mod lengthening;
 mod spanfilade;
 

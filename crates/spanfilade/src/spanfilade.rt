@@ -4,9 +4,9 @@ ghost use Rattle.std.specs.List.Sorted.{IsPermutation};
 ghost use Rattle.tumbler.specs.Span.{SpanFits};
 ghost use Rattle.enfilade_core.specs.Rows.{rows_of, node_at};
 ghost use Rattle.enfilade_core.specs.Exchange.{Grows};
-ghost use Rattle.enfilade_core.specs.Standing.{tree_debt, tree_allows, has_lone_child};
+ghost use Rattle.enfilade_core.specs.BalanceState.{tree_debt, tree_allows, has_lone_child};
 ghost use Rattle.enfilade_balance.specs.Steps.{root_after, is_idle, is_dropped};
-ghost use Rattle.enfilade_core.specs.Axes.{IsRightRow, InOrder};
+ghost use Rattle.enfilade_core.specs.Axes.{IsWellFormedRow, InOrder};
 ghost use Rattle.enfilade_core.specs.Planes.{key_widths};
 ghost use Rattle.spanfilade.specs.Index.{IndexTree, rows_in_index, row_of, rows_for, with_span, IsCovered, mark_of, at_mark};
 ghost use Rattle.spanfilade.specs.Keys.{keys_met, count_met};
@@ -135,8 +135,8 @@ impl Spanfilade {
         listed(alloc, &keys)
     }
 
-    /// The same, or nothing where the spans meet more than `limit` rows, of which each counts for each span that it
-    /// meets.
+    /// The keys of the spans that meet one of these, in ascending order, each once, or none at all where more than
+    /// `limit` rows do. A row counts once for each span that it meets.
     ///
     /// Each span is looked up as it is, so spans are best joined before. It stops as soon as more than `limit` rows
     /// are found.
@@ -223,7 +223,7 @@ impl Spanfilade {
 pub(crate) fn row_of(span: &Span, key: &Tumbler) -> Row<Tumbler>
     requires { SpanFits span.now }
     ensures value { result ≡ row_of span.now key.now }
-    ensures right { IsRightRow key_widths (row_of span.now key.now) }
+    ensures well_formed { IsWellFormedRow key_widths (row_of span.now key.now) }
 {
     let _start = span.start.places();
     let _width = span.width.places();
@@ -235,11 +235,11 @@ pub(crate) fn row_of(span: &Span, key: &Tumbler) -> Row<Tumbler>
     }
 }
 
-/// That row alone.
+/// A list of one row: that of a span that is added for a key.
 fn one_row(alloc: Global, span: &Span, key: &Tumbler) -> Result<List<Row<Tumbler>>, Memory>
     requires { SpanFits span.now }
     ensures value { IfOk result (λ rows. rows.items ≡ row_of span.now key.now ∷ []) }
-    ensures right { IsRightRow key_widths (row_of span.now key.now) }
+    ensures well_formed { IsWellFormedRow key_widths (row_of span.now key.now) }
 {
     let mut rows = List::new(alloc);
     rows.push(row_of(span, key))?;

@@ -13,7 +13,7 @@ use Rattle.std.proofs.lemmas.Map.Keys.{sorted_head, sorted_tail}
 use Rattle.std.proofs.lemmas.Map.Text.{is_eq-slice_cmp}
 use Rattle.enfilade_core.specs.declared.tree.Node.{Node}
 use Rattle.enfilade_core.specs.Rows.{Shape, rows_of}
-use Rattle.enfilade_core.specs.Standing.{tree_debt, tree_allows}
+use Rattle.enfilade_core.specs.BalanceState.{tree_debt, tree_allows}
 use Rattle.enfilade_core.specs.Edits.{KeepsRows}
 use Rattle.enfilade_core.specs.Exchange.{Grows}
 use Rattle.enfilade_balance.specs.declared.balance.Balance.{Balance}

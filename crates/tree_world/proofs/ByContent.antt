@@ -16,6 +16,7 @@ use Rattle.std.proofs.lemmas.List.Folds.{list_any-append, list_any_more}
 use Rattle.std.proofs.lemmas.List.Elements.{All-weaker}
 use Rattle.tumbler.specs.declared.span.Span.{Span}
 use Rattle.tumbler.proofs.Order.{same_if_tied}
+use Rattle.tumbler.proofs.OrLaws.{or_none}
 use Rattle.febe_data.specs.declared.run.Run.{Run}
 use Rattle.links.specs.LinkLists.{LinkLists, IsRun, IsLink, run_span, runs_at}
 use Rattle.links.specs.Finding.{spans_met}
@@ -96,10 +97,6 @@ numbers_more end links extents old new document key extent made at updates same 
 ]
 
 -- ---- the numbers that spans name
-
-or_none : (a : Bool) → a ≡ (a || false)
-or_none true = refl
-or_none false = refl
 
 pub named_more : (spans : List Span) (k : ℕ) (span : Span) (numbers : Interval) (old new : List Interval) (m : ℕ) → k < length spans → span ≡ get_or spans k span → is_in_some old m ≡ list_any (λ s. names_number s m) (take k spans) → new ≡ old ++ numbers ∷ []
     → is_in m numbers ≡ names_number span m → is_in_some new m ≡ list_any (λ s. names_number s m) (take (k + 1) spans)

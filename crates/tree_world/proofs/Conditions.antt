@@ -6,7 +6,7 @@ use Rattle.std.proofs.lemmas.List.Elements.{All-nil, All-cons, All-head, All-tai
 use Rattle.enfilade_core.specs.declared.tree.Node.{Node}
 use Rattle.enfilade_core.specs.Rows.{Shape}
 use Rattle.enfilade_core.specs.Planes.{content_widths, text_widths, key_widths}
-use Rattle.enfilade_core.specs.Standing.{tree_allows}
+use Rattle.enfilade_core.specs.BalanceState.{tree_allows}
 use Rattle.enfilade_sweep.specs.Sweep.{unreached_count}
 use Rattle.enfilade_sweep.proofs.Counted.{none_left}
 use Rattle.enfilade_balance.specs.Laws.{SettledTreesAreFull}

@@ -29,8 +29,8 @@ use Rattle.doc_table.specs.declared.rows.DocumentRow.{DocumentRow}
 use Rattle.doc_table.specs.DocumentRows.{documents_in, root_in, is_of}
 use Rattle.spanfilade.specs.Index.{rows_in_index, row_end}
 use Rattle.spanfilade.specs.Keys.{is_met, is_met_by, keys_of, keys_met, with_keys}
+use Rattle.tumbler.proofs.InOrder.{left_ascend}
 use Rattle.spanfilade.proofs.Ascending.{among, with_keys-among, with_keys-ascends, none_ascends}
-use Rattle.links.proofs.Ordered.{ascends_left}
 use Rattle.links.specs.LinkLists.{run_span}
 use Rattle.poom.specs.declared.piece.Piece.{Piece}
 use Rattle.poom.specs.Edited.{IsContentRun, run_addresses}
@@ -394,7 +394,7 @@ module _ (trees : Trees) (view : FlatView) (stands : Stands trees view) (roots :
   pub found_is : filter (shows trees (map run_span runs)) (keys_met (map run_span runs) (rows_in_index trees.index)) ≡ ascending (filter (shows_one_of view.world (run_addresses runs)) view.world.documents)
   found_is =
       btree_set_from_contains nat_list_cmp_total (record { keys = filter (shows trees (map run_span runs)) (keys_met (map run_span runs) (rows_in_index trees.index)) }) (record { keys = ascending (filter (shows_one_of view.world (run_addresses runs)) view.world.documents) })
-      (ascends_left (shows trees (map run_span runs)) (keys_met (map run_span runs) (rows_in_index trees.index)) (with_keys-ascends (keys_of (filter (is_met_by (map run_span runs)) (rows_in_index trees.index))) [] none_ascends))
+      (left_ascend (slice_cmp nat_cmp) (shows trees (map run_span runs)) (keys_met (map run_span runs) (rows_in_index trees.index)) (with_keys-ascends (keys_of (filter (is_met_by (map run_span runs)) (rows_in_index trees.index))) [] none_ascends))
       (with_keys-ascends (filter (shows_one_of view.world (run_addresses runs)) view.world.documents) [] none_ascends)
       found_alike same_if_tied
 

@@ -1,11 +1,7 @@
 -- The text that is in the ends of links.
 use Rattle.std.proofs.Common.{◌≡◌, ◌∙◌, ◌⊎◌, inl, inr, ℕ, zero, suc, ◌+◌, ◌-◌, ◌<◌, ◌≤◌, ◌==◌, ◌&&◌, ◌||◌, Bool, true, false, List, [], ◌∷◌, ◌++◌, length, take, map, get_or, max, min, Some, None, cond, refl, sym, ap, subst, arith, All, IsPermutation}
-use Rattle.std.specs.Prelude.{filter, nat_le, nat_lt, fold}
+use Rattle.std.specs.Prelude.{filter, nat_le, nat_lt}
 use Rattle.std.specs.List.{list_any, flat_map}
-use Rattle.std.specs.declared.cmp.Ordering.{Ordering}
-use Rattle.std.specs.declared.cmp.Ordering.TheVariants.{Less, Equal, Greater}
-use Rattle.std.specs.Ordering.{match_ordering}
-use Rattle.std.specs.BTreeSet.{insert_key}
 use Rattle.std.proofs.lemmas.Bool.Decides.{nat_tests}
 use Rattle.std.proofs.lemmas.List.{take_more, take_all}
 use Rattle.std.proofs.lemmas.List.Folds.{list_any-append, list_any_more}
@@ -13,6 +9,8 @@ use Rattle.std.proofs.lemmas.List.Elements.{All-weaker}
 use Rattle.std.proofs.lemmas.List.Sorted.{list_any-IsPermutation}
 use Rattle.std.proofs.lemmas.Grind.{flat_map-append}
 use Rattle.tumbler.specs.declared.span.Span.{Span}
+use Rattle.tumbler.proofs.InOrder.{any_more}
+use Rattle.tumbler.proofs.OrLaws.{or_none}
 use Rattle.febe_data.specs.declared.run.Run.{Run}
 use Rattle.febe_data.specs.Plain.{PlainSpec}
 use Rattle.enfilade_core.specs.declared.tree.Node.{Node}
@@ -36,10 +34,11 @@ use Rattle.world_rules.specs.Picking.{is_in_run, is_in_runs, picked_once, interv
 use Rattle.world_rules.specs.Edits.{new_rows}
 use Rattle.world_rules.specs.Ends.{runs_of_end, end_set_of}
 use Rattle.world_rules.specs.FlatView.{FlatView}
+use Rattle.world_rules.proofs.ListTests.{filter_both}
 use Rattle.tree_world.specs.Trees.{Trees, text_at, text_in}
 use Rattle.tree_world.specs.Standing.{Stands}
 use Rattle.tree_world.specs.inside.InEnds.{names_number, is_met_at, is_in_end_of, has_row_in_end, span_between, spans_in_end, IsNumbersOf}
-use Rattle.tree_world.proofs.Lists.{any_alike, any_map, any_filter, filter_both, none_any}
+use Rattle.tree_world.proofs.Lists.{any_alike, any_map, any_filter, none_any}
 use Rattle.tree_world.proofs.Places.{runs_met, content_is, number_is, width_number}
 use Rattle.tree_world.proofs.Rising.{Rise, wider, fewest}
 
@@ -57,39 +56,6 @@ when_true false c d same = refl
 any_flat : {X Y : Type 0} (p : Y → Bool) (f : X → List Y) (xs : List X) → list_any p (flat_map f xs) ≡ list_any (λ x. list_any p (f x)) xs
 any_flat p f [] = refl
 any_flat p f (x ∷ xs) = list_any-append p (f x) (flat_map f xs) ∙ ap (λ (b : Bool). list_any p (f x) || b) (any_flat p f xs)
-
--- ---- spans in order
-
-or_again : (a b : Bool) → (a || b) ≡ (a || (a || b))
-or_again true b = refl
-or_again false b = refl
-
-or_across : (a b c : Bool) → (a || (b || c)) ≡ (b || (a || c))
-or_across true true c = refl
-or_across true false c = refl
-or_across false b c = refl
-
-or_aside : (a b c : Bool) → ((a || b) || c) ≡ (b || (a || c))
-or_aside true true c = refl
-or_aside true false c = refl
-or_aside false b c = refl
-
-or_none : (a : Bool) → a ≡ (a || false)
-or_none true = refl
-or_none false = refl
-
-any_inserted : (p : Span → Bool) (spans : List Span) (s : Span) → list_any p (insert_key span_cmp spans s) ≡ (p s || list_any p spans)
-any_inserted p [] s = refl
-any_inserted p (x ∷ xs) s = by_order (span_cmp s x) refl (any_inserted p xs s)
-  where
-    by_order : (r : Ordering) → span_cmp s x ≡ r → list_any p (insert_key span_cmp xs s) ≡ (p s || list_any p xs) → list_any p (match_ordering r (s ∷ x ∷ xs) (x ∷ xs) (x ∷ insert_key span_cmp xs s)) ≡ (p s || (p x || list_any p xs))
-    by_order Less e rest = refl
-    by_order Equal e rest = or_again (p x) (list_any p xs) ∙ ap (λ (k : Span). p k || (p x || list_any p xs)) (sym (same_span s x e))
-    by_order Greater e rest = ap (λ (b : Bool). p x || b) rest ∙ or_across (p x) (p s) (list_any p xs)
-
-any_with : (p : Span → Bool) (more spans : List Span) → list_any p (fold (insert_key span_cmp) spans more) ≡ (list_any p spans || list_any p more)
-any_with p [] spans = or_none (list_any p spans)
-any_with p (s ∷ more) spans = any_with p more (insert_key span_cmp spans s) ∙ ap (λ (b : Bool). b || list_any p more) (any_inserted p spans s) ∙ or_aside (p s) (list_any p spans) (list_any p more)
 
 -- ---- the bytes of a run that are in an end
 
@@ -123,7 +89,7 @@ module _ (run : Run) (right : IsRun run) (number : ℕ) (from : run.first ≤ nu
 
   pub named_in_end : (end : ℕ) (links : List LinkRow) → All IsLink links → list_any (λ span. names_number span number) (spans_met end (run_span run) links) ≡ list_any (λ (link : LinkRow). is_in_runs (runs_at end link) (content_address run.content number)) links
   named_in_end end links all =
-      any_with (λ span. names_number span number) (filter (spans_meet (run_span run)) (flat_map (spans_at end) links)) []
+      any_more span_cmp same_span (λ span. names_number span number) (filter (spans_meet (run_span run)) (flat_map (spans_at end) links)) []
       ∙ any_filter (λ span. names_number span number) (spans_meet (run_span run)) (flat_map (spans_at end) links)
       ∙ any_flat (λ span. spans_meet (run_span run) span && names_number span number) (spans_at end) links
       ∙ any_alike (λ link. list_any (λ span. spans_meet (run_span run) span && names_number span number) (spans_at end link)) (λ (link : LinkRow). is_in_runs (runs_at end link) (content_address run.content number)) links

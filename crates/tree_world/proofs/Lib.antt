@@ -7,7 +7,6 @@ pub mod Writers
 pub mod Looked
 pub mod Lists
 pub mod Places
-pub mod SharedRuns
 pub mod Linked
 pub mod NowShown
 pub mod Rising
@@ -47,3 +46,4 @@ pub mod Brought
 pub mod EntryCounted
 pub mod Undone
 pub mod Restored
+pub mod RunsMeet

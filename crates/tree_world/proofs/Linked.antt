@@ -28,12 +28,13 @@ use Rattle.world_rules.specs.Picking.{runs_of}
 use Rattle.world_rules.specs.Finding.{is_home_wanted, is_end_wanted, is_wanted, links_found, ids_found, ids_after, link_at}
 use Rattle.world_rules.specs.FlatView.{FlatView}
 use Rattle.world_rules.specs.Wanted.{AreWantedRuns}
+use Rattle.world_rules.specs.Meeting.{shares_byte, share_bytes}
+use Rattle.world_rules.proofs.SharedBytes.{specs_share}
 use Rattle.tree_world.specs.Trees.{Trees}
 use Rattle.tree_world.specs.Standing.{Stands}
 use Rattle.tree_world.specs.inside.Met.{IsWantedEnd, AreWantedEnds}
 use Rattle.tree_world.proofs.Lists.{filter_alike, any_alike, any_across, none_any, any_map, found_or_not, none_passes, whole_front, all_pass}
-use Rattle.tree_world.proofs.Places.{shares_byte, runs_met}
-use Rattle.tree_world.proofs.SharedRuns.{share_bytes, specs_share}
+use Rattle.tree_world.proofs.Places.{runs_met}
 
 -- ---- one end
 

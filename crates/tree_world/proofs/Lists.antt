@@ -5,6 +5,7 @@ use Rattle.std.specs.List.{find, list_any}
 use Rattle.std.proofs.lemmas.List.{take_all, map_more, map-append}
 use Rattle.std.proofs.lemmas.List.Elements.{All-head, All-tail, All-cons, All-nil, All-more, All-push}
 use Rattle.std.proofs.lemmas.List.Sorted.{list_any-IsPermutation, All-permutation}
+use Rattle.world_rules.proofs.ListTests.{any_or}
 
 -- ---- tests that agree
 
@@ -19,16 +20,6 @@ any_alike p q (x ∷ xs) all = (λ i. All-head (λ y. p y ≡ q y) x xs all i ||
 pub none_any : {X : Type 0} (xs : List X) → list_any (λ x. false) xs ≡ false
 none_any [] = refl
 none_any (x ∷ xs) = none_any xs
-
-any_or : {X : Type 0} (p q : X → Bool) (xs : List X) → list_any (λ x. p x || q x) xs ≡ (list_any p xs || list_any q xs)
-any_or p q [] = refl
-any_or p q (x ∷ xs) = ap (λ (b : Bool). p x || q x || b) (any_or p q xs) ∙ turned (p x) (q x) (list_any p xs) (list_any q xs)
-  where
-    turned : (a b c d : Bool) → (a || b || (c || d)) ≡ (a || c || (b || d))
-    turned true b c d = refl
-    turned false true true d = refl
-    turned false true false d = refl
-    turned false false c d = refl
 
 -- pairs may be looked through from either side
 pub any_across : {X Y : Type 0} (p : X → Y → Bool) (xs : List X) (ys : List Y) → list_any (λ x. list_any (p x) ys) xs ≡ list_any (λ y. list_any (λ x. p x y) xs) ys
@@ -45,14 +36,6 @@ any_filter {X} p q (x ∷ xs) = step (q x) (any_filter p q xs)
   where
     step : (b : Bool) → list_any p (filter q xs) ≡ list_any (λ y. q y && p y) xs → list_any p (cond b (x ∷ filter q xs) (filter q xs)) ≡ ((b && p x) || list_any (λ y. q y && p y) xs)
     step true rest = ap (λ (c : Bool). p x || c) rest
-    step false rest = rest
-
-pub filter_both : {X : Type 0} (p q : X → Bool) (xs : List X) → filter (λ x. p x && q x) xs ≡ filter q (filter p xs)
-filter_both p q [] = refl
-filter_both {X = X} p q (x ∷ xs) = step (p x) (filter_both p q xs)
-  where
-    step : (b : Bool) → filter (λ x. p x && q x) xs ≡ filter q (filter p xs) → cond (b && q x) (x ∷ filter (λ x. p x && q x) xs) (filter (λ x. p x && q x) xs) ≡ filter q (cond b (x ∷ filter p xs) (filter p xs))
-    step true rest = ap (λ (ys : List X). cond (q x) (x ∷ ys) ys) rest
     step false rest = rest
 
 -- ---- what is found in another order

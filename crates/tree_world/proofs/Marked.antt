@@ -10,7 +10,7 @@ use Rattle.std.proofs.lemmas.Map.Keys.{any_passes_from_place}
 use Rattle.std.proofs.lemmas.Option.{slice_get-map}
 use Rattle.enfilade_core.specs.declared.tree.Node.{Node}
 use Rattle.enfilade_core.specs.Rows.{Shape, Rows, rows_of}
-use Rattle.enfilade_core.specs.Standing.{no_standing, standing_in, has_lone_child, tree_debt, tree_allows}
+use Rattle.enfilade_core.specs.BalanceState.{no_balance_state, balance_state_in, has_lone_child, tree_debt, tree_allows}
 use Rattle.enfilade_core.specs.Edits.{KeepsRows}
 use Rattle.enfilade_core.specs.Exchange.{Grows}
 use Rattle.enfilade_core.proofs.Tables.{table-later}
@@ -62,7 +62,7 @@ marked_more due now document is =
 -- ---- nodes come in, and what trees allow stays
 
 allows_later : (nodes more : List (Shape ℕ)) (k : ℕ) → k < length nodes → tree_allows (nodes ++ more) k ≡ tree_allows nodes k
-allows_later nodes more k lt = λ i. (table-later standing_in nodes more k no_standing lt i).allows || has_lone_child (get_or_append_left nodes more (Rows []) k lt i)
+allows_later nodes more k lt = λ i. (table-later balance_state_in nodes more k no_balance_state lt i).allows || has_lone_child (get_or_append_left nodes more (Rows []) k lt i)
 
 pub allows_grown : (nodes more : List (Shape ℕ)) (k : ℕ) → Grows nodes more → k < length nodes → tree_allows more k ≡ tree_allows nodes k
 allows_grown nodes more k grows lt = ap (λ ns. tree_allows ns k) grows.is ∙ allows_later nodes grows.more k lt

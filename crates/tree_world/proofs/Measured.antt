@@ -7,7 +7,7 @@ use Rattle.std.proofs.lemmas.List.Sums.{sum_by_more, fold_more}
 use Rattle.enfilade_core.specs.declared.tree.Node.{Node}
 use Rattle.enfilade_core.specs.Rows.{Shape}
 use Rattle.enfilade_core.specs.Planes.{text_widths}
-use Rattle.enfilade_core.specs.Standing.{tree_debt}
+use Rattle.enfilade_core.specs.BalanceState.{tree_debt}
 use Rattle.enfilade_core.specs.Summary.{depth_of, most_count}
 use Rattle.doc_table.specs.declared.rows.DocumentRow.{DocumentRow}
 use Rattle.tree_world.specs.Condition.{documents_debt, documents_depth}

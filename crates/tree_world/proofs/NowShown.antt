@@ -29,9 +29,10 @@ use Rattle.world_rules.specs.Answers.{follow_of}
 use Rattle.febe_data.specs.declared.spec.Spec.{Spec}
 use Rattle.febe_data.specs.Plain.{plain_spec}
 use Rattle.world_rules.specs.FlatView.{FlatView}
+use Rattle.world_rules.proofs.ListTests.{filter_both}
 use Rattle.tree_world.specs.Trees.{Trees, text_at, text_in}
 use Rattle.tree_world.specs.Standing.{Stands, EachIdOnce}
-use Rattle.tree_world.proofs.Lists.{filter_both, none_passes, IsOnly, same_found}
+use Rattle.tree_world.proofs.Lists.{none_passes, IsOnly, same_found}
 use Rattle.tree_world.proofs.Places.{byte_met, link_unmet}
 
 -- ---- intervals of both kinds

@@ -17,6 +17,7 @@ use Rattle.links.specs.LinkLists.{IsRun, run_span}
 use Rattle.links.specs.Finding.{spans_meet}
 use Rattle.world_rules.specs.World.{is_same, content_address}
 use Rattle.world_rules.specs.Picking.{content_of, number_of, is_in_run}
+use Rattle.world_rules.specs.Meeting.{shares_byte}
 
 -- ---- fronts with as many zeros
 
@@ -87,7 +88,7 @@ apart_fronts a b before = (differs (is_same a b) refl, differs_back (is_same b a
     differs_back true e = absurd (same_never (sym ((bytes_decides b a).0 e)))
     differs_back false e = refl
 
-alike : (a : List ℕ) → is_same a a ≡ true
+pub alike : (a : List ℕ) → is_same a a ≡ true
 alike a = (bytes_decides a a).1 refl
 
 -- ---- numbers of one front
@@ -315,10 +316,6 @@ two_zeros document is =
 
 both_documents : (document content : List ℕ) → IsDocument document → IsDocument content → zeros document ≡ zeros content
 both_documents document content is is' = two_zeros document is ∙ sym (two_zeros content is')
-
--- some byte is in both runs
-abbrev pub shares_byte : Run → Run → Bool
-shares_byte a b = is_same a.content b.content && nat_lt (max a.first b.first) (min (a.first + a.length) (b.first + b.length))
 
 pub runs_met : (run other : Run) → IsRun run → IsRun other → spans_meet (run_span run) (run_span other) ≡ shares_byte run other
 runs_met run other is is' = met_if_shared run.content other.content run.first run.length other.first other.length (both_documents run.content other.content is.content is'.content) is.some is'.some

@@ -25,6 +25,7 @@ use Rattle.world_rules.specs.Picking.{is_between, picks, picked_text, picked_lin
 use Rattle.world_rules.specs.Edits.{new_rows}
 use Rattle.world_rules.specs.FlatView.{FlatView}
 use Rattle.world_rules.specs.Refusals.{total_of}
+use Rattle.world_rules.proofs.ListTests.{filter_both}
 use Rattle.tree_world.specs.Trees.{Trees, text_in}
 use Rattle.tree_world.specs.Standing.{Stands, link_rows}
 use Rattle.tree_world.specs.inside.Seen.{text_picked, text_count, runs_picked, runs_by_specs}
@@ -42,16 +43,6 @@ le_or_before a b = ap is_le (nat_list_cmp_total.antisymm a b) ∙ reversed (slic
 -- two words for what a span has
 pub between_is : (span : Span) (address : List ℕ) → is_between span.start (end_of span) address ≡ is_picked span address
 between_is span address = ap (λ (b : Bool). b && comes_before address (end_of span)) (le_or_before span.start address)
-
--- ---- rows that pass two tests
-
-both_pass : {X : Type 0} (p q : X → Bool) (xs : List X) → filter (λ x. p x && q x) xs ≡ filter q (filter p xs)
-both_pass p q [] = refl
-both_pass {X = X} p q (x ∷ xs) = step (p x) (both_pass p q xs)
-  where
-    step : (b : Bool) → filter (λ x. p x && q x) xs ≡ filter q (filter p xs) → cond (b && q x) (x ∷ filter (λ x. p x && q x) xs) (filter (λ x. p x && q x) xs) ≡ filter q (cond b (x ∷ filter p xs) (filter p xs))
-    step true rest = ap (λ (ys : List X). cond (q x) (x ∷ ys) ys) rest
-    step false rest = rest
 
 -- ---- what a span picks of rows
 
@@ -86,11 +77,11 @@ link_rows_picked span document n (x ∷ xs) =
 -- of a world whose rows of the document are these
 pub text_seen : (world : World) (document : List ℕ) (text : List (List ℕ)) (span : Span) → filter (is_text_of document) world.rows ≡ new_rows document 1 text → addresses_of (picked_text world document span) ≡ picked_from 1 span 1 text
 text_seen world document text span rows =
-    ap addresses_of (both_pass (is_text_of document) (picks span) world.rows ∙ ap (filter (picks span)) rows) ∙ text_rows_picked span document 1 text
+    ap addresses_of (filter_both (is_text_of document) (picks span) world.rows ∙ ap (filter (picks span)) rows) ∙ text_rows_picked span document 1 text
 
 pub links_seen : (world : World) (document : List ℕ) (ids : List (List ℕ)) (span : Span) → filter (is_link_of document) world.rows ≡ link_rows document 1 ids → addresses_of (picked_links world document span) ≡ picked_from 2 span 1 ids
 links_seen world document ids span rows =
-    ap addresses_of (both_pass (is_link_of document) (picks span) world.rows ∙ ap (filter (picks span)) rows) ∙ link_rows_picked span document 1 ids
+    ap addresses_of (filter_both (is_link_of document) (picks span) world.rows ∙ ap (filter (picks span)) rows) ∙ link_rows_picked span document 1 ids
 
 -- ---- runs
 

@@ -1,10 +1,9 @@
 -- One spec and one span more.
-use Rattle.std.proofs.Common.{◌≡◌, ◌∙◌, ℕ, zero, suc, ◌+◌, ◌<◌, ◌≤◌, ◌++◌, not, true, false, List, [], ◌∷◌, length, length-append, take, get_or, map, ap, sym, append-nil, append_assoc, arith, subst, refl, All}
+use Rattle.std.proofs.Common.{◌≡◌, ◌∙◌, ℕ, zero, suc, ◌+◌, ◌<◌, ◌≤◌, ◌++◌, not, true, false, List, [], ◌∷◌, length, length-append, take, get_or, map, ap, sym, append_assoc, arith, subst, refl, All}
 use Rattle.std.specs.List.{flat_map, sum_by, list_any}
 use Rattle.std.specs.Prelude.{nat_lt}
 use Rattle.std.proofs.lemmas.Bool.{lt-ltb}
 use Rattle.std.proofs.lemmas.Bool.Decides.{nat_tests}
-use Rattle.std.proofs.lemmas.List.{take_more}
 use Rattle.std.proofs.lemmas.List.Concat.{flat_map-append}
 use Rattle.std.proofs.lemmas.List.Folds.{flat_map-map, list_any_at}
 use Rattle.std.proofs.lemmas.List.Sums.{sum_by_more}
@@ -18,17 +17,7 @@ use Rattle.poom.specs.Edited.{IsContentRun, run_addresses}
 use Rattle.poom.specs.Pieces.{addresses_from}
 use Rattle.world_rules.specs.Refusals.{total_of, has_bad_span}
 use Rattle.world_rules.proofs.Specs.{sum_by-map, list_any-map}
-
--- one more of a list of lists
-pub flat_map_at : {X Y : Type 0} (f : X → List Y) (xs : List X) (i : ℕ) (d : X) → i < length xs → flat_map f (take (i + 1) xs) ≡ flat_map f (take i xs) ++ f (get_or xs i d)
-flat_map_at f xs i d lt = rw (take_more xs i d lt, flat_map-append) (ap (λ (ys : List _). flat_map f (take i xs) ++ ys) (append-nil (f (get_or xs i d))))
-
--- one more spec
-pub flat_map_spec : {Y : Type 0} (f : PlainSpec → List Y) (specs : List Spec) (i : ℕ) (d : Spec) → i < length specs
-    → flat_map f (map plain_spec (take (i + 1) specs)) ≡ flat_map f (map plain_spec (take i specs)) ++ f (plain_spec (get_or specs i d))
-flat_map_spec f specs i d lt =
-    rw (flat_map-map f plain_spec (take (i + 1) specs), flat_map-map f plain_spec (take i specs))
-    (flat_map_at (λ (spec : Spec). f (plain_spec spec)) specs i d lt)
+use Rattle.world_rules.proofs.ListTests.{flat_map_at, flat_map_spec}
 
 -- one more term
 pub sum_at : {X : Type 0} (f : X → ℕ) (xs : List X) (i : ℕ) (d : X) → i < length xs → sum_by f (take (i + 1) xs) ≡ sum_by f (take i xs) + f (get_or xs i d)

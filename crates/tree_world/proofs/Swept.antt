@@ -10,7 +10,7 @@ use Rattle.enfilade_core.specs.declared.tree.Node.{Node}
 use Rattle.enfilade_core.specs.declared.tree.Row.{Row}
 use Rattle.enfilade_core.specs.Rows.{Shape, rows_of}
 use Rattle.enfilade_core.specs.Planes.{text_widths, key_widths}
-use Rattle.enfilade_core.specs.Standing.{tree_debt, tree_allows}
+use Rattle.enfilade_core.specs.BalanceState.{tree_debt, tree_allows}
 use Rattle.enfilade_core.specs.Summary.{depth_of}
 use Rattle.enfilade_sweep.specs.Sweep.{is_root, IsSwept, numbers, reached_count, unreached_count}
 use Rattle.granfilade.specs.Content.{ContentTree}

@@ -28,7 +28,7 @@ use Rattle.world_rules.specs.Apply.{without_opening}
 use Rattle.world_rules.specs.declared.rows.SessionRow.{SessionRow}
 use Rattle.world_rules.specs.FlatView.{FlatView, with_entry}
 use Rattle.febe_data.specs.Plain.{PlainChange, restarted, began, ended, account_changed, document_opened, document_closed, document_created, version_made, copy_opened, text_inserted, span_deleted, blocks_swapped, specs_copied, link_made}
-use Rattle.tree_world.specs.declared.undoing.Undo.{Undo}
+use Rattle.tree_world.specs.declared.undoing.UndoRecord.{UndoRecord}
 use Rattle.tree_world.specs.declared.undoing.Touched.{Touched}
 use Rattle.tree_world.specs.declared.undoing.Touched.TheVariants as touched
 use Rattle.tree_world.specs.Trees.{Trees, AreSound}
@@ -263,7 +263,7 @@ stays_there (row ∷ rows) document root = λ i. same (is_of document row) i || 
     same true = refl
     same false = refl
 
-pub as_row : (undo : Undo) (document : List ℕ) (root : Node) (content : ℕ) (before after : Tables) → undo.touched ≡ touched.Row document root content → TablesGoBack undo.session undo.touched before after → TablesGoBack undo.session (touched.Row document root content) before after
+pub as_row : (undo : UndoRecord) (document : List ℕ) (root : Node) (content : ℕ) (before after : Tables) → undo.touched ≡ touched.Row document root content → TablesGoBack undo.session undo.touched before after → TablesGoBack undo.session (touched.Row document root content) before after
 as_row undo document root content before after is back = subst (λ t. TablesGoBack undo.session t before after) is back
 
 pub row_back : (session : ℕ) (document : List ℕ) (root : Node) (content : ℕ) (before after : Tables) → EachOnce is_same (documents_in before.documents) → TablesGoBack session (touched.Row document root content) before after
@@ -271,7 +271,7 @@ pub row_back : (session : ℕ) (document : List ℕ) (root : Node) (content : �
 row_back session document root content before after once back =
     back.2.documents root content ∙ ap (λ rows. with_content rows document content) (root_as_was before.documents document root once back.0) ∙ content_as_was before.documents document content once back.1
 
-pub as_home : (undo : Undo) (home : List ℕ) (root : Node) (id : List ℕ) (before after : Tables) → undo.touched ≡ touched.Link home root id → TablesGoBack undo.session undo.touched before after → TablesGoBack undo.session (touched.Link home root id) before after
+pub as_home : (undo : UndoRecord) (home : List ℕ) (root : Node) (id : List ℕ) (before after : Tables) → undo.touched ≡ touched.Link home root id → TablesGoBack undo.session undo.touched before after → TablesGoBack undo.session (touched.Link home root id) before after
 as_home undo home root id before after is back = subst (λ t. TablesGoBack undo.session t before after) is back
 
 pub home_back : (session : ℕ) (home : List ℕ) (root : Node) (id : List ℕ) (before after : Tables) → EachOnce is_same (documents_in before.documents) → TablesGoBack session (touched.Link home root id) before after → with_root after.documents home root ≡ before.documents
@@ -303,10 +303,10 @@ each_once trees view stand =
     apart_once (documents_in trees.documents)
     (IsDistinct-IsPermutation is_same (λ x y. nat_list_eq_equiv.symm x y) view.world.documents (documents_in trees.documents) (IsPermutation-sym (documents_in trees.documents) view.world.documents stand.documents) (once_apart view.world.documents stand.documents_once))
 
-pub tables_were : (after : Trees) (undo : Undo) (view : FlatView) (back : ComesBack after undo view) → TablesWere undo (tables_of back.before) (tables_of after)
+pub tables_were : (after : Trees) (undo : UndoRecord) (view : FlatView) (back : ComesBack after undo view) → TablesWere undo (tables_of back.before) (tables_of after)
 tables_were after undo view back = record { back = back.came.1; once = each_once back.before view back.stood; ends = back.stood.ends; marks = back.kept.links; grow = back.came.0.links }
 
-pub tables_may : (after : Trees) (undo : Undo) → MayComeBack after undo → TablesMayGoBack undo (tables_of after)
+pub tables_may : (after : Trees) (undo : UndoRecord) → MayComeBack after undo → TablesMayGoBack undo (tables_of after)
 tables_may after undo may = record { before = tables_of may.back.before; were = tables_were after undo may.view may.back }
 
 pub contents_were : (before after new : ContentTree) (mark : TreeMark) → mark.root.0 ≡ before.root → mark.count ≡ length before.nodes → Grows before.nodes after.nodes → new.nodes ≡ take mark.count after.nodes → new.root ≡ mark.root.0 → new ≡ before
@@ -356,7 +356,7 @@ came_inside session change before now inside is came = subst (λ t. ChangeCame s
 pub recounted : (before after : Trees) (held : List SessionRow) → NodesCame before after → NodesCame before (record after { sessions = held })
 recounted before after held came = record { contents = came.contents; nodes = came.nodes; index = came.index; links = came.links; due = came.due }
 
-abbrev pub comes_back : (before : Trees) (view : FlatView) (session : ℕ) (change : PlainChange) (undo : Undo) (after : Trees) (held : List SessionRow) → Stands before view → AreSound before → IsKept before undo → undo.session ≡ session → IsTouched before change undo.touched
+abbrev pub comes_back : (before : Trees) (view : FlatView) (session : ℕ) (change : PlainChange) (undo : UndoRecord) (after : Trees) (held : List SessionRow) → Stands before view → AreSound before → IsKept before undo → undo.session ≡ session → IsTouched before change undo.touched
     → ChangeCame session change before after → CountsStand held (with_entry session view.sessions) → ComesBack (record after { sessions = held }) undo view
 comes_back before view session change undo after held stood sound kept own is came counts =
     let back = goes_back undo.session undo.touched before after change is (subst (λ (n : ℕ). ChangeCame n change before after) (sym own) came) in

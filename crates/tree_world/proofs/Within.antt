@@ -1,5 +1,5 @@
 -- Which addresses of bytes and links are in the span of a run.
-use Rattle.std.proofs.Common.{◌≡◌, ◌∙◌, ◌⊎◌, inl, inr, ℕ, zero, suc, ◌+◌, ◌<◌, ◌≤◌, ◌&&◌, ◌||◌, ◌++◌, Bool, true, false, not, List, [], ◌∷◌, refl, sym, ap, subst, arith, append_assoc, true≢false, All}
+use Rattle.std.proofs.Common.{◌≡◌, ◌∙◌, ◌⊎◌, inl, inr, ℕ, zero, suc, ◌+◌, ◌<◌, ◌≤◌, ◌&&◌, ◌||◌, ◌++◌, Bool, true, false, not, List, [], ◌∷◌, refl, sym, ap, subst, arith, append_assoc, true≢false}
 use Rattle.std.specs.List.{list_any}
 use Rattle.std.specs.Prelude.{◌==◌}
 use Rattle.std.proofs.lemmas.Bool.Decides.{nat_tests}
@@ -7,37 +7,12 @@ use Rattle.tumbler.specs.Address.{IsDocument}
 use Rattle.tumbler.specs.Places.{IsBefore, IsUpTo, comes_before}
 use Rattle.tumbler.proofs.Addresses.{one_cut}
 use Rattle.tumbler.proofs.Before.{before_if_true, true_if_before, up_to_if_false, false_if_up_to}
+use Rattle.tumbler.proofs.DocumentFields.{fields}
 use Rattle.tumbler.proofs.Order.{before_by_first, before_by_rest, upto_cases, upto_itself, upto_if_before}
 use Rattle.poom.specs.Pieces.{address_in, addresses_from}
 use Rattle.world_rules.specs.World.{is_same}
 
--- ---- the fields of a document
-
-record Fields (document : List ℕ) : Type 0 where
-  node : List ℕ
-  user : List ℕ
-  field : List ℕ
-  whole : document ≡ node ++ (0 ∷ (user ++ (0 ∷ field)))
-  with_tail : (tail : List ℕ) → document ++ tail ≡ node ++ (0 ∷ (user ++ (0 ∷ (field ++ tail))))
-  node_full : All (λ p. 0 < p) node
-  user_full : All (λ p. 0 < p) user
-  field_full : All (λ p. 0 < p) field
-
-fields : (document : List ℕ) → IsDocument document → Fields document
-fields document h =
-    let d = h.1 in
-    let a = d.account_address in
-    let whole : document ≡ a.node ++ (0 ∷ (a.user ++ (0 ∷ d.field))) = d.parts ∙ ap (λ acc. acc ++ 0 ∷ d.field) a.parts ∙ append_assoc a.node (0 ∷ a.user) (0 ∷ d.field) in
-    record {
-      node = a.node;
-      user = a.user;
-      field = d.field;
-      whole = whole;
-      with_tail = λ tail. ap (λ p. p ++ tail) whole ∙ append_assoc a.node (0 ∷ (a.user ++ (0 ∷ d.field))) tail ∙ ap (λ p. a.node ++ (0 ∷ p)) (append_assoc a.user (0 ∷ d.field) tail);
-      node_full = a.node_field.full;
-      user_full = a.user_field.full;
-      field_full = d.document_field.full;
-    }
+-- ---- addresses of one document
 
 -- what begins as an address of one document is an address of that document
 pub same_made : (document other tail rest : List ℕ) → IsDocument document → IsDocument other → document ++ 0 ∷ tail ≡ other ++ 0 ∷ rest → (document ≡ other) × (tail ≡ rest)

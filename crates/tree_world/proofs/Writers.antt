@@ -12,7 +12,7 @@ use Rattle.world_rules.specs.World.{World, is_same, opens, is_write, mode_of, is
 use Rattle.world_rules.specs.Holding.{holder, opens_for_writing}
 use Rattle.access_table.specs.AccessRows.{mode_in, Writes, IsFirstWriter}
 use Rattle.access_table.proofs.Keyed.{document_alike}
-use Rattle.doc_table.proofs.Counted.{same_is}
+use Rattle.world_rules.proofs.CountSteps.{same_is}
 use Rattle.tree_world.specs.Trees.{Trees}
 use Rattle.tree_world.specs.Standing.{EachOpenedOnce, OneWriterEach, SessionsStand}
 

@@ -9,7 +9,7 @@ use Rattle.doc_table.specs.declared.rows.DocumentRow.{DocumentRow}
 use Rattle.doc_table.specs.DocumentRows.{has_in, most_documents}
 use Rattle.febe_data.specs.Plain.{PlainChange}
 use Rattle.world_rules.specs.declared.rows.OpenRow.{OpenRow}
-use Rattle.world_rules.specs.History.{is_counted}
+use Rattle.world_rules.specs.History.{is_durable}
 use Rattle.world_rules.specs.Apply.{change_world}
 use Rattle.world_rules.specs.FlatView.{FlatView}
 use Rattle.access_table.specs.AccessRows.{mode_in, Writes, IsFirstWriter}
@@ -17,7 +17,7 @@ use Rattle.access_table.specs.AccessRows.{mode_in, Writes, IsFirstWriter}
 -- the world is changed, and the change is counted where the limits count it
 abbrev pub after_change : FlatView → ℕ → PlainChange → FlatView
 after_change view session change =
-    record view { world = change_world view.world session change; counted = if is_counted change then view.counted + 1 else view.counted }
+    record view { world = change_world view.world session change; counted = if is_durable change then view.counted + 1 else view.counted }
 
 -- the session is the first that writes the document, or none does
 abbrev pub MayWrite : List OpenRow → List ℕ → ℕ → Type 0

@@ -4,7 +4,7 @@ use Rattle.std.specs.List.{list_any}
 use Rattle.enfilade_core.specs.declared.tree.Node.{Node}
 use Rattle.enfilade_core.specs.Rows.{Shape}
 use Rattle.enfilade_core.specs.Planes.{content_widths, text_widths, key_widths}
-use Rattle.enfilade_core.specs.Standing.{tree_debt, tree_allows}
+use Rattle.enfilade_core.specs.BalanceState.{tree_debt, tree_allows}
 use Rattle.enfilade_core.specs.Summary.{depth_of, most_count}
 use Rattle.enfilade_sweep.specs.Sweep.{reached_count, unreached_count}
 use Rattle.doc_table.specs.declared.rows.DocumentRow.{DocumentRow}

@@ -1,11 +1,16 @@
--- Laws of the condition of a world's trees.
-use Rattle.std.specs.Prelude.{◌≡◌, ℕ, ◌^◌, ◌≤◌, false, List, [], ◌∷◌, length, All}
+-- Laws of the condition of a world's trees, and of what it says that runs meet.
+use Rattle.std.specs.Prelude.{◌≡◌, ◌↔◌, ℕ, ◌^◌, ◌≤◌, true, false, List, [], ◌∷◌, length, All}
 use Rattle.enfilade_core.specs.declared.tree.Node.{Node}
 use Rattle.enfilade_core.specs.Rows.{Shape, rows_of}
 use Rattle.enfilade_core.specs.Axes.{Widths}
 use Rattle.enfilade_core.specs.Planes.{content_widths, text_widths, key_widths}
 use Rattle.enfilade_core.specs.Summary.{depth_of}
 use Rattle.enfilade_sweep.specs.Sweep.{AllReached}
+use Rattle.febe_data.specs.declared.run.Run.{Run}
+use Rattle.world_rules.specs.World.{content_address}
+use Rattle.world_rules.specs.Picking.{is_in_run}
+use Rattle.links.specs.LinkLists.{IsRun, run_span}
+use Rattle.links.specs.Finding.{spans_meet}
 use Rattle.doc_table.specs.declared.rows.DocumentRow.{DocumentRow}
 use Rattle.tree_world.specs.Trees.{Trees}
 use Rattle.tree_world.specs.Condition.{condition_of, roots_in}
@@ -39,3 +44,15 @@ pub record EachFull (trees : Trees) : Type 0 where
 -- all trees are full where none of them allows a step
 abbrev pub TreesAreFull : Trees → Type 0
 TreesAreFull trees = (condition_of trees).allows ≡ false → EachFull trees
+
+-- ---- runs
+
+-- some byte is in both runs
+pub record HaveByte (a b : Run) : Type 0 where
+  pub number : ℕ
+  pub in_first : is_in_run (content_address a.content number) a ≡ true
+  pub in_second : is_in_run (content_address a.content number) b ≡ true
+
+-- the spans of two runs meet exactly where some byte is in both
+abbrev pub RunsMeetExactly : Type 0
+RunsMeetExactly = (a b : Run) → IsRun a → IsRun b → ((spans_meet (run_span a) (run_span b) ≡ true) ↔ HaveByte a b)

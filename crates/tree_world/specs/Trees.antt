@@ -4,7 +4,7 @@ use Rattle.std.specs.List.{list_any}
 use Rattle.tumbler.specs.Address.{IsDocument}
 use Rattle.enfilade_core.specs.declared.tree.Node.{Node}
 use Rattle.enfilade_core.specs.Rows.{Shape, rows_of}
-use Rattle.enfilade_core.specs.Standing.{tree_allows}
+use Rattle.enfilade_core.specs.BalanceState.{tree_allows}
 use Rattle.granfilade.specs.Content.{ContentTree, ByteAt, content, tree_rows}
 use Rattle.granfilade.specs.Puts.{IsContent}
 use Rattle.poom.specs.Laid as laid

@@ -13,7 +13,7 @@ use Rattle.links.specs.declared.row.LinkMarks.{LinkMarks}
 use Rattle.febe_data.specs.Plain.{PlainChange, document_created, version_made, copy_opened, text_inserted, span_deleted, blocks_swapped, specs_copied, link_made}
 use Rattle.world_rules.specs.World.{is_same, link_address}
 use Rattle.world_rules.specs.FlatView.{FlatView, with_entry}
-use Rattle.tree_world.specs.declared.undoing.Undo.{Undo}
+use Rattle.tree_world.specs.declared.undoing.UndoRecord.{UndoRecord}
 use Rattle.tree_world.specs.declared.undoing.Touched.{Touched}
 use Rattle.tree_world.specs.declared.undoing.Touched.TheVariants as touched
 use Rattle.tree_world.specs.Condition.{Condition, condition_of}
@@ -94,7 +94,7 @@ pub record AreLinksKept (links : LinkLists) (marks : LinkMarks) : Type 0 where
   pub three : IsInside marks.three
 
 -- the marks of all trees, and the numbers
-pub record IsKept (trees : Trees) (undo : Undo) : Type 0 where
+pub record IsKept (trees : Trees) (undo : UndoRecord) : Type 0 where
   pub contents_root : undo.contents.root.0 ≡ trees.contents.root
   pub contents_count : undo.contents.count ≡ length trees.contents.nodes
   pub contents_inside : IsInside undo.contents
@@ -139,7 +139,7 @@ TablesGoBack session (touched.Link home root id) before after = (root_in before.
 
 -- The same with what is kept of the links. No document stands twice, and the index of each end has exactly the runs of
 -- that end.
-pub record TablesWere (undo : Undo) (before after : Tables) : Type 0 where
+pub record TablesWere (undo : UndoRecord) (before after : Tables) : Type 0 where
   pub back : TablesGoBack undo.session undo.touched before after
   pub once : EachOnce is_same (documents_in before.documents)
   pub ends : EndsStand before.links
@@ -147,13 +147,13 @@ pub record TablesWere (undo : Undo) (before after : Tables) : Type 0 where
   pub grow : AllGrow before.links after.links
 
 -- there were such tables
-pub record TablesMayGoBack (undo : Undo) (after : Tables) : Type 0 where
+pub record TablesMayGoBack (undo : UndoRecord) (after : Tables) : Type 0 where
   pub before : Tables
   pub were : TablesWere undo before after
 
 -- Taken back by this, trees stand for the view: they came of trees that stood for it and that were kept, and the one entry
 -- more is counted for the session.
-pub record ComesBack (after : Trees) (undo : Undo) (view : FlatView) : Type 0 where
+pub record ComesBack (after : Trees) (undo : UndoRecord) (view : FlatView) : Type 0 where
   pub before : Trees
   pub stood : Stands before view
   pub sound : AreSound before
@@ -162,11 +162,11 @@ pub record ComesBack (after : Trees) (undo : Undo) (view : FlatView) : Type 0 wh
   pub entries : CountsStand after.sessions (with_entry undo.session view.sessions)
 
 -- there is such a view
-pub record MayComeBack (after : Trees) (undo : Undo) : Type 0 where
+pub record MayComeBack (after : Trees) (undo : UndoRecord) : Type 0 where
   pub view : FlatView
   pub back : ComesBack after undo view
 
 -- so it is, and the trees that they came of were in this condition
-pub record ComesTo (after : Trees) (undo : Undo) (condition : Condition) : Type 0 where
+pub record ComesTo (after : Trees) (undo : UndoRecord) (condition : Condition) : Type 0 where
   pub may : MayComeBack after undo
   pub was : condition ≡ condition_of may.back.before

@@ -11,7 +11,7 @@ ghost use Rattle.tree_world.specs.Undone.{ChangeCame};
 use crate::world::TreeWorld;
 use febe_data::{Change, Entry, Memory};
 use std::alloc::Global;
-use world_rules::Applies;
+use world_rules::Apply;
 
 impl TreeWorld {
     /// What a session's change does, before it is counted for the session.
@@ -71,7 +71,7 @@ impl TreeWorld {
     }
 }
 
-impl Applies for TreeWorld {
+impl Apply for TreeWorld {
     fn apply(&mut self, alloc: Global, entry: &Entry) -> Result<(), Memory> {
         self.apply_entry(alloc, entry)
     }

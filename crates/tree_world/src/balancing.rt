@@ -1,6 +1,6 @@
 //! Steps of the balancer, in one tree of the world after the other.
 ghost use Rattle.std.specs.Prelude.{◌≡◌, ◌⊎◌, ◌+◌, ◌≤◌, false, not, IsOk, IsTrue, IfOk, OnErr};
-ghost use Rattle.enfilade_core.specs.Standing.{tree_allows};
+ghost use Rattle.enfilade_core.specs.BalanceState.{tree_allows};
 ghost use Rattle.enfilade_balance.specs.Steps.{root_after, is_idle};
 ghost use Rattle.links.specs.LinkLists.{index_at};
 ghost use Rattle.world_rules.specs.FlatView.{FlatView};
@@ -108,9 +108,10 @@ impl TreeWorld {
     {
         self.documents.in_order();
         debts_stay(self.pooms.arena());
-        let Some((document, root)) = due_tree(&self.pooms, &self.documents, &mut self.due) else {
+        let Some(due) = due_tree(&self.pooms, &self.documents, &mut self.due) else {
             return Ok(false);
         };
+        let (document, root) = due;
         let made = self.pooms.balance(root)?;
         self.documents.set_root(&document, root_after(root, made));
         Ok(true)

@@ -31,7 +31,7 @@ fn shows_span(poom: &Poom, root: Node, span: &Span) -> Result<bool, Memory>
     Ok(!found.is_empty())
 }
 
-/// Whether it has some in one of the spans.
+/// Whether a document's tree shows content or links at addresses of one of the spans.
 fn shows_any(poom: &Poom, root: Node, spans: &[Span]) -> Result<bool, Memory>
     requires root { IsRoot poom.now root.0 }
     requires fits { All SpanFits spans.now }
@@ -110,7 +110,7 @@ impl TreeWorld {
         Ok(asked)
     }
 
-    /// Which of the documents do.
+    /// Those of the documents that show content of one of the spans, in the order in which they are given.
     fn showing(
         &self,
         alloc: Global,

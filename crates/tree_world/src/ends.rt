@@ -42,7 +42,7 @@ pub(crate) fn spec_of(document: &Tumbler, spans: List<Span>) -> Spec
     }
 }
 
-/// Start and width of each are tumblers, which callers are to know of all together.
+/// Lets callers know that the start and the width of each span are tumblers. It changes nothing.
 fn are_spans(spans: &[Span])
     ensures { All IsSpan spans.now }
 {
@@ -67,7 +67,8 @@ impl TreeWorld {
         Ok(spans)
     }
 
-    /// The same as a spec of the run's origin.
+    /// Where a run's bytes are now, as a spec: the V-spans at which the run's origin shows them, and no span where it
+    /// shows none.
     fn run_now(&self, alloc: Global, run: &Run) -> Result<Spec, WorldError>
         ensures value { (view : FlatView) → Stands self.now view → IfOk result (λ spec. plain_spec spec ≡ run_now view.world run.now) }
         ensures valid { IfOk result (λ spec. NamesSpans (plain_spec spec)) }

@@ -4,9 +4,9 @@ ghost use Rattle.std.specs.Prelude.{◌≡◌};
 use crate::world::TreeWorld;
 use febe_data::{Diagonal, Item, List, Run, Spec, Tumbler, Want};
 use std::alloc::Global;
-use world_rules::{End, Finds, Size, WantedRuns, WorldError};
+use world_rules::{End, Find, Size, WantedRuns, WorldError};
 
-impl Finds for TreeWorld {
+impl Find for TreeWorld {
     fn picked_length(&self, _alloc: Global, specs: &[Spec]) -> Result<usize, WorldError> {
         self.picked_addresses(specs)
     }

@@ -1,8 +1,8 @@
-//! Laws of a world's condition. Each is a function that does nothing, whose contract says the law.
+//! Laws of a world's condition, and of runs that meet. Each is a function that does nothing, whose contract says the law.
 ghost use Rattle.std.specs.Prelude.{◌≡◌, ◌<◌, false, length};
 ghost use Rattle.enfilade_core.specs.Planes.{content_widths, text_widths, key_widths};
 ghost use Rattle.enfilade_balance.specs.Laws.{SettledTreesAreFull};
-ghost use Rattle.tree_world.specs.Laws.{NodesAreReached, TreesAreFull};
+ghost use Rattle.tree_world.specs.Laws.{NodesAreReached, TreesAreFull, RunsMeetExactly};
 
 use crate::world::TreeWorld;
 use enfilade_balance::laws::settled_trees_are_full;
@@ -56,3 +56,8 @@ pub fn trees_are_full(world: &TreeWorld)
     ends_are_full(&world.links);
     settled_trees_are_full(world.pooms.arena());
 }
+
+/// Two runs of bytes meet, as spans of addresses, exactly where some byte is in both.
+pub fn runs_meet_exactly()
+    ensures { RunsMeetExactly }
+{}

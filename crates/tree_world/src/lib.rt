@@ -31,6 +31,6 @@ mod tending;
 mod undoing;
 mod world;
 
-pub use tending::Tends;
-pub use undoing::{Undo, Undoes};
+pub use tending::Rebalance;
+pub use undoing::{Undo, UndoRecord};
 pub use world::TreeWorld;

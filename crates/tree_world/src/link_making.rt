@@ -81,7 +81,8 @@ fn linked(alloc: Global, links: &mut Links, link: LinkRow) -> Result<(), Memory>
     Ok(())
 }
 
-/// Both, or none of them.
+/// Makes a link: its row comes in behind the other links of its home, the link into the table, and its ends into their
+/// indexes. Where memory is refused in the midst, trees, table and indexes are as before.
 fn come_in(
     alloc: Global,
     pooms: &mut Poom,

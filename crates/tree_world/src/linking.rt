@@ -34,7 +34,8 @@ pub(crate) fn span_of_run(run: &Run) -> Result<Span, WorldError>
     Ok(run_span(run))
 }
 
-/// Those of each run, in the order of the runs.
+/// The spans of I-addresses of runs, one for each run and in their order. There are none unless each is a run of a
+/// document's content.
 fn spans_of_runs(alloc: Global, runs: &[Run]) -> Result<List<Span>, WorldError>
     ensures right { IfOk result (λ made. All IsRun runs.now) }
     ensures value { IfOk result (λ made. made.items ≡ map run_span runs.now) }
@@ -80,7 +81,7 @@ pub(crate) fn all_fit(spans: &[Span]) -> bool
     true
 }
 
-/// Each is a tumbler, which callers are to know of all together.
+/// Lets callers know that each is a tumbler. It changes nothing.
 fn are_tumblers(tumblers: &[Tumbler])
     ensures { All IsTumbler tumblers.now }
 {

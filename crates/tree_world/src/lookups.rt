@@ -5,9 +5,9 @@ ghost use Rattle.tree_world.specs.Standing.{Stands};
 use crate::world::TreeWorld;
 use febe_data::{Mode, Tumbler};
 use tumbler::MOST_DOCUMENT_PLACES;
-use world_rules::{Lookups, WorldError};
+use world_rules::{LookUp, WorldError};
 
-impl Lookups for TreeWorld {
+impl LookUp for TreeWorld {
     ghost stands = { λ it view. Stands it view };
 
     fn counted(&self) -> u64 {

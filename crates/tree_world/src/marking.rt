@@ -4,7 +4,7 @@
 //! balancer looks at it and the tree allows none. So each document whose tree allows a step is marked, and each mark is
 //! dropped once.
 ghost use Rattle.std.specs.Prelude.{◌≡◌, ◌<◌, ◌≤◌, true, false, Some, IsTrue, All, length, drop, IfSome, IfNone};
-ghost use Rattle.enfilade_core.specs.Standing.{tree_allows};
+ghost use Rattle.enfilade_core.specs.BalanceState.{tree_allows};
 ghost use Rattle.poom.specs.Laid.{IsRoot};
 ghost use Rattle.doc_table.specs.DocumentRows.{root_in, with_root};
 ghost use Rattle.tree_world.specs.Trees.{document_allows, is_marked, AreDue};

@@ -1,7 +1,7 @@
 //! How far the trees are from their good shape, how deep they are, and how many nodes there are.
 ghost use Rattle.std.specs.Prelude.{◌≡◌, ◌+◌, ◌<◌, min, max, length, All};
 ghost use Rattle.enfilade_core.specs.Planes.{content_widths, key_widths};
-ghost use Rattle.enfilade_core.specs.Standing.{tree_debt};
+ghost use Rattle.enfilade_core.specs.BalanceState.{tree_debt};
 ghost use Rattle.enfilade_core.specs.Summary.{depth_of, most_count};
 ghost use Rattle.tree_world.specs.Condition.{documents_debt, documents_depth, debt_of, depth_in, nodes_of};
 

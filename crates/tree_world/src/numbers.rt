@@ -83,7 +83,7 @@ fn numbers_of(span: &Span) -> Result<Interval, WorldError>
     })
 }
 
-/// Those that the spans of runs name.
+/// The numbers of content bytes that spans of runs name, one interval for each span and in their order.
 fn all_numbers(alloc: Global, spans: &[Span]) -> Result<Vec<Interval>, WorldError>
     ensures each { IfOk result (λ made. All (IsInterval 4294967295) made.items) }
     ensures same { IfOk result (λ made. (m : ℕ) → is_in_some made.items m ≡ list_any (λ span. names_number span m) spans.now) }
@@ -107,7 +107,7 @@ fn run_between(document: &Tumbler, extent: Interval) -> Run
     }
 }
 
-/// How many of them end before a number or at it. They come one after another.
+/// How many of the intervals end before a number or at it. They ascend and lie apart.
 fn first_behind(numbers: &[Interval], from: u32) -> usize
     requires each { All (IsInterval 4294967295) numbers.now }
     requires apart { AreApart numbers.now }
@@ -117,7 +117,7 @@ fn first_behind(numbers: &[Interval], from: u32) -> usize
     numbers.partition_point(|interval| interval.to <= from)
 }
 
-/// How many of them begin before a number.
+/// How many of the intervals begin before a number.
 fn count_before(numbers: &[Interval], to: u32) -> usize
     requires each { All (IsInterval 4294967295) numbers.now }
     requires apart { AreApart numbers.now }
@@ -127,7 +127,8 @@ fn count_before(numbers: &[Interval], to: u32) -> usize
     numbers.partition_point(|interval| interval.from < to)
 }
 
-/// Those of the numbers that may lie from one on and before another. The numbers come one after another.
+/// The intervals of numbers that can have one from `from` on and before `to`, where the intervals ascend and lie
+/// apart.
 pub(crate) fn numbers_between(numbers: &[Interval], from: u32, to: u32) -> &[Interval]
     requires each { All (IsInterval 4294967295) numbers.now }
     requires apart { AreApart numbers.now }

@@ -18,7 +18,7 @@ pub(crate) fn run_span(run: &Run) -> Span
     Span { start, width }
 }
 
-/// Those of each run, in the order of the runs.
+/// The spans of I-addresses of runs, one for each run and in their order.
 pub(crate) fn run_spans(alloc: Global, runs: &[Run]) -> Result<List<Span>, Memory>
     requires { All IsContentRun runs.now }
     ensures value { IfOk result (λ made. made.items ≡ map run_span runs.now) }

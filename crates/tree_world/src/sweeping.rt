@@ -1,7 +1,7 @@
 //! Nodes that no root reaches are let go: trees are copied into arenas of their own, which then take the place of the old.
 ghost use Rattle.std.specs.Prelude.{◌≡◌, ◌<◌, [], ◌∷◌, length, map, All, IfOk, OnOk, OnErr};
 ghost use Rattle.enfilade_core.specs.Rows.{rows_of};
-ghost use Rattle.enfilade_core.specs.Standing.{tree_debt, tree_allows};
+ghost use Rattle.enfilade_core.specs.BalanceState.{tree_debt, tree_allows};
 ghost use Rattle.enfilade_core.specs.Summary.{depth_of};
 ghost use Rattle.enfilade_sweep.specs.Sweep.{reached_count, unreached_count};
 ghost use Rattle.poom.specs.Laid.{IsRoot};

@@ -3,17 +3,17 @@ ghost use Rattle.std.specs.Prelude.{◌≡◌, ◌+◌, ◌≤◌, min, false, t
 ghost use Rattle.enfilade_core.specs.Summary.{most_count};
 ghost use Rattle.febe_data.specs.Plain.{plain_entry};
 ghost use Rattle.world_rules.specs.FlatView.{FlatView, after_entry};
-ghost use Rattle.world_rules.specs.History.{is_counted};
+ghost use Rattle.world_rules.specs.History.{is_durable};
 ghost use Rattle.world_rules.specs.InPlace.{DropsOnly, HasRoom};
 ghost use Rattle.tree_world.specs.Condition.{Condition, StaysInShape};
 
 use crate::world::TreeWorld;
 use febe_data::{Entry, Memory};
 use std::alloc::Global;
-use world_rules::Applies;
+use world_rules::Apply;
 
 /// A world of trees, which can be put into better shape while it stands for the same.
-pub trait Tends: Applies {
+pub trait Rebalance: Apply {
     /// What contracts see of the trees, beside what they stand for.
     ghost condition: { Self → Condition };
 
@@ -37,7 +37,7 @@ pub trait Tends: Applies {
     /// Changes the world by an entry that the limits do not count, as `apply` does. The trees stay as they are, also
     /// where it is refused.
     fn apply_beside(&mut self, alloc: Global, entry: &Entry) -> Result<(), Memory>
-        requires { is_counted (plain_entry entry.now).change ≡ false }
+        requires { is_durable (plain_entry entry.now).change ≡ false }
         ensures ok { (view : FlatView) → Self.stands self.old view → OnOk result (Self.stands self.new (after_entry view (plain_entry entry.now))) }
         ensures err { (view : FlatView) → Self.stands self.old view → OnErr result (Self.stands self.new view) }
         ensures in_place { (view : FlatView) → Self.stands self.old view → DropsOnly entry.now.change → HasRoom view.sessions entry.now.session → IsOk result }
@@ -63,7 +63,7 @@ pub trait Tends: Applies {
         ensures err { OnErr result (condition self.new ≡ condition self.old) };
 }
 
-impl Tends for TreeWorld {
+impl Rebalance for TreeWorld {
     ghost use Rattle.tree_world.specs.Condition.{condition_of};
 
     ghost condition = { condition_of };

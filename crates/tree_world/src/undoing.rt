@@ -7,7 +7,7 @@ ghost use Rattle.tree_world.specs.Condition.{Condition, condition_of};
 ghost use Rattle.tree_world.specs.Standing.{Stands};
 ghost use Rattle.tree_world.specs.Undone.{Tables, IsRow, IsHome, IsKept, IsTouched, TablesWere, TablesMayGoBack, ComesBack, MayComeBack, ComesTo};
 
-use crate::tending::Tends;
+use crate::tending::Rebalance;
 use crate::world::TreeWorld;
 use access_table::AccessTable;
 use doc_table::DocTable;
@@ -18,23 +18,25 @@ use std::alloc::Global;
 
 /// A world that can take its last entry back, so that an edit that could not be written down leaves no trace: neither in
 /// what the world stands for, nor in the condition of its trees.
-pub trait Undoes: Tends {
+pub trait Undo: Rebalance {
     /// What has to be known to take an entry back.
-    type Undo: Drop;
+    type UndoRecord: Drop;
 
     /// The entry that this was kept for is the last one that changed the world.
-    ghost may_come_back: { Self → Self.Undo → Type 0 };
+    ghost may_come_back: { Self → Self.UndoRecord → Type 0 };
 
-    /// So it is, and without the entry the world stands for this view.
-    ghost comes_back: { Self → Self.Undo → FlatView → Type 0 };
+    /// What undoing the record's entry leads back to, seen as a world: the entry is the last one that changed the
+    /// world, and without it the world stands for this view.
+    ghost comes_back: { Self → Self.UndoRecord → FlatView → Type 0 };
 
-    /// So it is, and without the entry the trees are in this condition.
-    ghost comes_to: { Self → Self.Undo → Condition → Type 0 };
+    /// What undoing the record's entry leads back to, seen as trees: the entry is the last one that changed the world,
+    /// and without it the trees are in this condition.
+    ghost comes_to: { Self → Self.UndoRecord → Condition → Type 0 };
 
     /// Changes the world as the entry says, and counts it, as `apply` does. It is for the changes that the limits count,
     /// which alone are written down: a document made, a version, an edit, a link. Others are refused. Where it is refused
     /// the trees are in the condition that they were in, with no node more.
-    fn apply_with_undo(&mut self, alloc: Global, entry: &Entry) -> Result<Self::Undo, Memory>
+    fn apply_with_undo(&mut self, alloc: Global, entry: &Entry) -> Result<Self::UndoRecord, Memory>
         ensures ok { (view : FlatView) → Self.stands self.old view → IfOk result (λ undo. Self.stands self.new (after_entry view (plain_entry entry.now))) }
         ensures last { (view : FlatView) → Self.stands self.old view → IfOk result (may_come_back self.new) }
         ensures back { (view : FlatView) → Self.stands self.old view → IfOk result (λ undo. comes_back self.new undo view) }
@@ -43,7 +45,7 @@ pub trait Undoes: Tends {
         ensures stays { OnErr result (Self.condition self.new ≡ Self.condition self.old) };
 
     /// Takes the last entry back. It takes no memory, and the time grows with what the entry brought.
-    fn undo(&mut self, undo: Self::Undo)
+    fn undo(&mut self, undo: Self::UndoRecord)
         requires { may_come_back self.old undo }
         ensures stands { (view : FlatView) → comes_back self.old undo view → Self.stands self.new view }
         ensures condition { (was : Condition) → comes_to self.old undo was → Self.condition self.new ≡ was };
@@ -88,7 +90,7 @@ impl Drop for Touched {
 }
 
 /// What a world of trees goes back to: a mark of each tree, the numbers, and what the entry was to touch.
-pub struct Undo {
+pub struct UndoRecord {
     pub(crate) contents: TreeMark,
     pub(crate) content: usize,
     pub(crate) nodes: u64,
@@ -99,9 +101,9 @@ pub struct Undo {
     pub(crate) touched: Touched,
 }
 
-impl Drop for Undo {
+impl Drop for UndoRecord {
     fn drop(self) {
-        let Undo {
+        let UndoRecord {
             contents: _,
             content: _,
             nodes: _,
@@ -188,7 +190,7 @@ impl TreeWorld {
     }
 
     /// What the world goes back to, if it is changed by a change of the session.
-    fn kept(&self, session: u64, change: &Change) -> Option<Undo>
+    fn kept(&self, session: u64, change: &Change) -> Option<UndoRecord>
         ensures kept { IfSome result (IsKept self.now) }
         ensures session { IfSome result (λ undo. undo.session ≡ session) }
         ensures touched { IfSome result (λ undo. IsTouched self.now (plain_change change.now) undo.touched) }
@@ -199,7 +201,7 @@ impl TreeWorld {
             to: self.links.index(2).mark(),
             three: self.links.index(3).mark(),
         };
-        Some(Undo {
+        Some(UndoRecord {
             contents: self.contents.mark(),
             content: self.content,
             nodes: self.pooms.mark(),
@@ -212,7 +214,7 @@ impl TreeWorld {
     }
 
     /// Changes the world as the entry says, and tells how it goes back.
-    pub(crate) fn apply_kept(&mut self, alloc: Global, entry: &Entry) -> Result<Undo, Memory>
+    pub(crate) fn apply_kept(&mut self, alloc: Global, entry: &Entry) -> Result<UndoRecord, Memory>
         ensures ok { (view : FlatView) → Stands self.old view → IfOk result (λ undo. Stands self.new (after_entry view (plain_entry entry.now))) }
         ensures back { (view : FlatView) → Stands self.old view → IfOk result (λ undo. ComesBack self.new undo view) }
         ensures was { (view : FlatView) → Stands self.old view → IfOk result (λ undo. ComesTo self.new undo (condition_of self.old)) }
@@ -234,7 +236,7 @@ fn tables_back(
     documents: &mut DocTable<Node>,
     access: &mut AccessTable,
     links: &mut Links,
-    undo: &Undo,
+    undo: &UndoRecord,
 )
     requires { TablesMayGoBack undo.now (record { documents = documents.old; access = access.old; links = links.old }) }
     ensures documents { (before : Tables) → TablesWere undo.now before (record { documents = documents.old; access = access.old; links = links.old }) → documents.new ≡ before.documents }
@@ -263,7 +265,7 @@ fn tables_back(
 
 impl TreeWorld {
     /// Takes the last entry back.
-    pub(crate) fn take_back(&mut self, undo: &Undo)
+    pub(crate) fn take_back(&mut self, undo: &UndoRecord)
         requires { MayComeBack self.old undo.now }
         ensures stands { (view : FlatView) → ComesBack self.old undo.now view → Stands self.new view }
         ensures condition { (was : Condition) → ComesTo self.old undo.now was → condition_of self.new ≡ was }
@@ -278,8 +280,8 @@ impl TreeWorld {
     }
 }
 
-impl Undoes for TreeWorld {
-    type Undo = Undo;
+impl Undo for TreeWorld {
+    type UndoRecord = UndoRecord;
 
     ghost may_come_back = { MayComeBack };
 
@@ -287,11 +289,11 @@ impl Undoes for TreeWorld {
 
     ghost comes_to = { ComesTo };
 
-    fn apply_with_undo(&mut self, alloc: Global, entry: &Entry) -> Result<Undo, Memory> {
+    fn apply_with_undo(&mut self, alloc: Global, entry: &Entry) -> Result<UndoRecord, Memory> {
         self.apply_kept(alloc, entry)
     }
 
-    fn undo(&mut self, undo: Undo) {
+    fn undo(&mut self, undo: UndoRecord) {
         self.take_back(&undo)
     }
 }

@@ -1,4 +1,4 @@
-//! What a world of trees gives back after changes that are taken back.
+//! What a world of trees tells at first, and what it does not take back.
 #![tactic(auto, using(tree_world::proofs::Counted::by_session))]
 
 #[cfg(test)]

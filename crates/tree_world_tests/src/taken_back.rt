@@ -1,10 +1,9 @@
-//! What is told of a world in which nothing was made.
+//! What is told of a world in which nothing was made, and an entry that is not taken back.
 
-use febe_data::{Change, Entry, List, Memory, Text, Tumbler};
-use std::alloc::Global;
+use febe_data::{Change, Entry, Tumbler};
 use std::test::Fail;
-use tree_world::{TreeWorld, Undoes};
-use world_rules::{Applies, Lookups};
+use tree_world::{TreeWorld, Undo};
+use world_rules::LookUp;
 
 #[test]
 fn has_nothing_at_first(rt: HostRuntime) -> Result<(), Fail> {
@@ -38,68 +37,6 @@ fn entry(session: u64, serial: u64, change: Change) -> Entry {
         serial,
         change,
     }
-}
-
-fn bytes(alloc: Global, text: &[u8]) -> Result<Text, Memory> {
-    let mut made = List::new(alloc);
-    for byte in text {
-        made.push(*byte)?;
-    }
-    Ok(made)
-}
-
-#[test]
-fn takes_a_document_back(rt: HostRuntime) -> Result<(), Fail> {
-    let alloc = rt.alloc();
-    let mut world = TreeWorld::new(alloc)?;
-    let document = Tumbler::from_places(alloc, &[1, 1, 0, 1, 0, 1])?;
-    let created = entry(
-        7,
-        1,
-        Change::Create {
-            document: document.copy(),
-        },
-    );
-    let undo = world.apply_with_undo(alloc, &created)?;
-    assert!(rt; world.has_document(&document));
-    world.undo(undo);
-    assert!(rt; !world.has_document(&document));
-    assert!(rt; world.holder_of(&document).is_none());
-    assert!(rt; world.counted() == 0);
-    Ok(())
-}
-
-#[test]
-fn takes_an_insert_back(rt: HostRuntime) -> Result<(), Fail> {
-    let alloc = rt.alloc();
-    let mut world = TreeWorld::new(alloc)?;
-    let document = Tumbler::from_places(alloc, &[1, 1, 0, 1, 0, 1])?;
-    let created = entry(
-        7,
-        1,
-        Change::Create {
-            document: document.copy(),
-        },
-    );
-    let inserted = entry(
-        7,
-        2,
-        Change::Insert {
-            document: document.copy(),
-            at: 1,
-            first: 1,
-            text: bytes(alloc, b"abc")?,
-        },
-    );
-    world.apply(alloc, &created)?;
-    let undo = world.apply_with_undo(alloc, &inserted)?;
-    assert!(rt; world.text_length(&document) == 3);
-    world.undo(undo);
-    assert!(rt; world.text_length(&document) == 0);
-    assert!(rt; world.next_content(&document) == Ok(1));
-    assert!(rt; world.content() == 0);
-    assert!(rt; world.entries_of(7) == 1);
-    Ok(())
 }
 
 #[test]

@@ -1,7 +1,6 @@
 pub mod Order
 pub mod Tumblers
 pub mod Sums
-pub mod SumSteps
 pub mod Differences
 pub mod DifferenceSteps
 pub mod ByPlaces
@@ -15,5 +14,11 @@ pub mod ReachSteps
 pub mod JustBefore
 pub mod Widths
 pub mod Alls
+pub mod LeadingZeros
 pub mod PaddedSteps
 pub mod RaiseSteps
+pub mod Covered
+pub mod OrLaws
+pub mod InOrder
+pub mod RowsInOrder
+pub mod DocumentFields

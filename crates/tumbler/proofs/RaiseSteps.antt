@@ -1,13 +1,14 @@
 -- One place is raised in an array of places with zeros behind them; then a lead, a reach that is moved, or all places.
-use Rattle.std.proofs.Common.{◌≡◌, ◌≢◌, ℕ, zero, suc, ◌+◌, ◌-◌, ◌^◌, ◌<◌, ◌≤◌, max, List, [], ◌∷◌, ◌++◌, length, get_or, take, drop, replicate, refl, arith, ap, ◌∙◌, sym, length-take-le, inl, inr}
+use Rattle.std.proofs.Common.{◌≡◌, ◌≢◌, ℕ, zero, suc, true, min, ◌+◌, ◌-◌, ◌^◌, ◌<◌, ◌≤◌, ◌↔◌, leb, max, List, [], ◌∷◌, ◌++◌, length, get_or, take, drop, replicate, refl, arith, ap, ◌∙◌, sym, length-take-le, inl, inr}
 use Rattle.std.proofs.Math.ListN.{set}
-use Rattle.std.proofs.lemmas.List.{length-set, drop-set-lt, drop-drop, drop-replicate, get_or-take, take_more}
+use Rattle.std.proofs.lemmas.List.{length-set, drop-set-lt, drop-drop, drop-replicate, get_or-take, get_or-set_other, take_more}
 use Rattle.std.proofs.lemmas.Grind.{common_steps, same_number_lists, get_or-set_at, get_or_after_one}
-use Rattle.std.proofs.lemmas.Bool.{cases_lt}
+use Rattle.std.proofs.lemmas.Bool.{cases_lt, leb-true, le-leb}
 use Rattle.tumbler.specs.Places.{sum, EndsWell}
-use Rattle.tumbler.specs.Reach.{lead, greater, HasRoom}
-use Rattle.tumbler.specs.Padded.{IsPadded}
+use Rattle.tumbler.specs.Reach.{lead, greater, HasRoom, IsCovered}
+use Rattle.tumbler.specs.Padded.{IsPadded, AreCells, leading_zeros}
 use Rattle.tumbler.proofs.Reaches.{greater-none, greater_assoc}
+use Rattle.tumbler.proofs.LeadingZeros.{AreZero, no_places, cells-zero, cells-filled, counted-within, zeros-set_some, zeros-set_none}
 use Rattle.tumbler.proofs.PaddedSteps.{padded-place}
 
 -- ---- one place behind zeros
@@ -51,13 +52,6 @@ lift-padded n cells k v padded lt =
           ∙ ap (drop (max n (k + 1) - n)) padded.zeros ∙ drop-replicate (max n (k + 1) - n) (24 - n) 0 ∙ ap (λ (i : ℕ). replicate i 0) fewer;
     }
 
-set_off : (xs : List ℕ) (k j v : ℕ) → j ≢ k → get_or (set xs k v) j 0 ≡ get_or xs j 0
-set_off [] k j v ne = refl
-set_off (x ∷ xs) zero zero v ne = absurd (ne refl)
-set_off (x ∷ xs) zero (suc j) v ne = refl
-set_off (x ∷ xs) (suc k) zero v ne = refl
-set_off (x ∷ xs) (suc k) (suc j) v ne = set_off xs k j v (λ e. ne (ap suc e))
-
 pub lift-value : (n : ℕ) (cells : List ℕ) (k x : ℕ) → IsPadded n cells → k < 24 → take (max n (k + 1)) (set cells k (max (get_or cells k 0) x)) ≡ greater (take n cells) (replicate k 0 ++ x ∷ [])
 lift-value n cells k x padded lt =
     let v : ℕ = max (get_or cells k 0) x in
@@ -82,7 +76,7 @@ lift-value n cells k x padded lt =
         → get_or (greater (take n cells) (replicate k 0 ++ x ∷ [])) j 0 ≡ max (get_or (take n cells) j 0) (get_or (replicate k 0 ++ x ∷ []) j 0)
         → get_or (take (max n (k + 1)) (set cells k (max (get_or cells k 0) x))) j 0 ≡ get_or (greater (take n cells) (replicate k 0 ++ x ∷ [])) j 0
     off n cells k x j ne made_at old_at both_at =
-        let stays = set_off cells k j (max (get_or cells k 0) x) ne in
+        let stays = get_or-set_other cells k j (max (get_or cells k 0) x) 0 ne in
         let none = alone_off k x j ne in
         omega (arith, made_at, old_at, both_at, stays, none)
 
@@ -104,7 +98,19 @@ lift-value n cells k x padded lt =
       ]
     ]
 
-pub ruleset lifting = (lift-padded, lift-value)
+pub lift-filled : (n z : ℕ) (cells : List ℕ) (k v : ℕ) → AreCells n z cells → k < 24 → v ≢ 0 → AreCells (max n (k + 1)) (min z k) (set cells k v)
+lift-filled n z cells k v are lt ne = record {
+  padded = lift-padded n cells k v are.padded lt;
+  zeros = ap (λ (i : ℕ). min i k) are.zeros ∙ sym (zeros-set_some cells k v (omega (arith, lt, are.padded.long)) ne);
+}
+
+pub lift-blank : (n z : ℕ) (cells : List ℕ) (k x v : ℕ) → AreCells n z cells → k < 24 → v ≡ max (get_or cells k 0) x → v ≡ 0 → AreCells (max n (k + 1)) z (set cells k v)
+lift-blank n z cells k x v are lt is e = record {
+  padded = lift-padded n cells k v are.padded lt;
+  zeros = are.zeros ∙ sym (zeros-set_none cells k v (omega (arith, is, e)));
+}
+
+pub ruleset lifting = (lift-padded, lift-value, lift-filled, lift-blank)
 
 -- ---- all places
 
@@ -136,10 +142,6 @@ pub ruleset raising = (raise-first, raise-more, raise-end)
 
 -- ---- a lead
 
--- all cells before k are 0
-abbrev pub AreZero : List ℕ → ℕ → Type 0
-AreZero cells k = (j : ℕ) → j < k → get_or cells j 0 ≡ 0
-
 pub zero-first : (cells : List ℕ) → AreZero cells 0
 zero-first cells = λ j lt. absurd (omega (arith, lt))
 
@@ -168,22 +170,36 @@ lead-here n cells k padded lt zeros ne =
     lead_at (take n cells) k (omega (arith, lt, front_long n cells padded)) (front_zero n cells k (omega (arith, lt)) zeros) (λ e. ne (sym same ∙ e))
     ∙ ap (λ (x : ℕ). replicate k 0 ++ x ∷ []) same
 
-no_places : (n : ℕ) (cells : List ℕ) (k : ℕ) → IsPadded n cells → k ≤ n → n ≤ k → AreZero cells k → EndsWell (take n cells) → n ≡ 0
-no_places zero cells k padded le ge zeros ends = refl
-no_places (suc n) cells k padded le ge zeros ends =
-    let long : length (take (suc n) cells) ≡ suc n = front_long (suc n) cells padded in
-    let end : length (take (suc n) cells) - 1 ≡ n = omega (arith, long) in
-    let last : get_or (take (suc n) cells) n 0 ≡ 0 = front_zero (suc n) cells k le zeros n (omega (arith, ge)) in
-    let none : length (take (suc n) cells) ≡ 0 = ends (ap (λ (i : ℕ). get_or (take (suc n) cells) i 0) end ∙ last) in
-    absurd (omega (arith, none, long))
-
 pub lead-none : (n : ℕ) (cells : List ℕ) (k : ℕ) → IsPadded n cells → k ≤ n → n ≤ k → AreZero cells k → EndsWell (take n cells) → lead (take n cells) ≡ []
 lead-none n cells k padded le ge zeros ends = ap (λ (i : ℕ). lead (take i cells)) (no_places n cells k padded le ge zeros ends)
 
 pub none-raised : (s p : List ℕ) → p ≡ [] → s ≡ greater s p
 none-raised s p e = sym (ap (greater s) e ∙ greater-none s)
 
-pub ruleset leads = (zero-first, zero-more, lead-here, lead-none, none-raised)
+-- the lead of places is their first one that is not 0, behind zeros
+pub lead-found : (n z : ℕ) (cells : List ℕ) → AreCells n z cells → z < 24 → lead (take n cells) ≡ replicate z 0 ++ get_or cells z 0 ∷ []
+lead-found n z cells are lt = lead-here n cells z are.padded (counted-within n z cells are lt) (cells-zero n z cells are) (cells-filled n z cells are lt)
+
+pub lead-missing : (n z : ℕ) (cells : List ℕ) → AreCells n z cells → 24 ≤ z → EndsWell (take n cells) → lead (take n cells) ≡ []
+lead-missing n z cells are ge ends =
+    let few : n ≤ 24 = are.padded.few in
+    lead-none n cells n are.padded (omega arith) (omega arith) (λ j lt. cells-zero n z cells are j (omega (arith, lt, few, ge))) ends
+
+-- whether the lead covers places, by how many they are and where it ends
+pub covered-tested : (m : ℕ) (a : List ℕ) (n z : ℕ) (d : List ℕ) → IsPadded m a → AreCells n z d → EndsWell (take n d) → (leb m (z + 1) ≡ true) ↔ IsCovered (take m a) (take n d)
+covered-tested m a n z d in_a are ends =
+    let few : m ≤ 24 = in_a.few in
+    let long = front_long m a in_a in
+    elim (cases_lt z 24) [
+      | inl lt ↦
+          let at : length (lead (take n d)) ≡ z + 1 = ap length (lead-found n z d are lt) ∙ alone_long z (get_or d z 0) in (
+            λ e. inr (let le = leb-true m (z + 1) e in omega (arith, le, at, long)),
+            λ c. le-leb m (z + 1) (elim c [ inl none ↦ absurd (omega (arith, none, at)) | inr le ↦ omega (arith, le, at, long) ]),
+          )
+      | inr ge ↦ (λ e. inl (ap length (lead-missing n z d are ge ends)), λ c. le-leb m (z + 1) (omega (arith, few, ge)))
+    ]
+
+pub ruleset leads = (lead-found, lead-missing, none-raised)
 
 -- ---- a reach that is moved
 

@@ -2,7 +2,7 @@
 use Rattle.std.specs.Prelude.{◌≡◌, ◌≢◌, ℕ, true, ◌+◌, ◌-◌, ◌<◌, ◌↔◌, List, [], ◌∷◌, ◌++◌, map, length, All}
 use Rattle.tumbler.specs.Address.{IsAccount, account_test}
 use Rattle.tumbler.specs.Places.{place, place_bound, EndsWell, IsTumbler, IsBefore, IsUpTo, sum, Fits, difference, just_before}
-use Rattle.tumbler.specs.Reach.{lead, greater, reach, HasRoom}
+use Rattle.tumbler.specs.Reach.{lead, greater, reach, HasRoom, IsCovered}
 
 -- what leads from a to b is a tumbler, and adding it to a fits and gives b
 pub record LeadsTo (a b : List ℕ) : Type 0 where
@@ -107,6 +107,10 @@ ReachIsMoved = (d : List ℕ) (several : List (List ℕ)) → reach (d ∷ map (
 -- the reach of two lists of places is place by place the greater one
 abbrev pub ReachIsJoined : Type 0
 ReachIsJoined = (several more : List (List ℕ)) → reach (several ++ more) ≡ greater (reach several) (reach more)
+
+-- what comes up to d fits after a where the lead of d covers a and the sum of a and d is a tumbler
+abbrev pub CoveredFits : Type 0
+CoveredFits = (a e d : List ℕ) → IsTumbler e → IsTumbler (sum a d) → IsUpTo e d → IsCovered a d → Fits a e
 
 -- a is a tumbler that is up to b, and before b where b is not zero
 pub record StandsBefore (a b : List ℕ) : Type 0 where

@@ -1,5 +1,5 @@
 -- How far places may be moved: to where all of them stay tumblers.
-use Rattle.std.specs.Prelude.{ℕ, zero, suc, ◌+◌, ◌<◌, max, List, [], ◌∷◌, drop}
+use Rattle.std.specs.Prelude.{◌≡◌, ℕ, zero, suc, ◌+◌, ◌<◌, ◌≤◌, ◌⊎◌, max, List, [], ◌∷◌, length, drop}
 use Rattle.tumbler.specs.Places.{place, place_bound}
 
 -- the places up to and with the first one that is not 0
@@ -23,3 +23,7 @@ reach (places ∷ more) = greater (lead places) (reach more)
 abbrev pub HasRoom : List ℕ → List ℕ → Type 0
 HasRoom a [] = Unit {0}
 HasRoom a (x ∷ r) = (place a 0 + x < place_bound) × HasRoom (drop 1 a) r
+
+-- no place of a stands behind the lead of d, or d is zero
+abbrev pub IsCovered : List ℕ → List ℕ → Type 0
+IsCovered a d = (length (lead d) ≡ 0) ⊎ (length a ≤ length (lead d))

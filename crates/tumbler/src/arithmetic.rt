@@ -1,4 +1,4 @@
-//! What goes with sums of places.
+//! Places in slices: leads, room for a reach, zeros at the end, and places that are made of others.
 ghost use Rattle.std.specs.Prelude.{◌≡◌, ◌≢◌, ℕ, ◌+◌, ◌-◌, ◌^◌, ◌<◌, ◌≤◌, ◌⊎◌, ◌↔◌, [], ◌∷◌, ◌++◌, length, take, drop, slice_index, IsTrue};
 ghost use Rattle.tumbler.specs.Places.{most_places, place, IsUpTo, sum, fits, Fits, difference, width_at, trimmed};
 ghost use Rattle.tumbler.specs.Reach.{lead, greater, HasRoom};
@@ -13,19 +13,7 @@ fn place_at(places: &[u32], k: usize) -> u32
     places.get(k).copied().unwrap_or(0)
 }
 
-#[tactic(auto, using(crate::proofs::SumSteps::sums))]
-pub(crate) fn sum_fits(a: &[u32], d: &[u32]) -> bool
-    ensures { result ≡ fits a.now d.now }
-{
-    for (k, x) in d.iter().enumerate() {
-        if *x != 0 {
-            return place_at(a, k).checked_add(*x).is_some();
-        }
-    }
-    true
-}
-
-/// How many places there are up to and with the first one that is not 0.
+/// The length of the lead: the number of places up to and with the first one that is not 0.
 #[tactic(auto, using(crate::proofs::ReachSteps::reaches))]
 pub(crate) fn lead_len(places: &[u32]) -> usize
     ensures within { result ≤ length places.now }
@@ -39,7 +27,7 @@ pub(crate) fn lead_len(places: &[u32]) -> usize
     places.len()
 }
 
-/// Whether each place of the reach can be added to the place here.
+/// Whether a base leaves room for a reach: at each index the sum of both places stays below 2^32.
 #[tactic(auto, using(crate::proofs::ReachSteps::reaches))]
 pub(crate) fn room_for(a: &[u32], reach: &[u32]) -> bool
     ensures { IsTrue result ↔ HasRoom a.now reach.now }
@@ -52,7 +40,7 @@ pub(crate) fn room_for(a: &[u32], reach: &[u32]) -> bool
     true
 }
 
-/// How many places there are without the zeros at the end.
+/// The number of places without the zeros at the end.
 #[tactic(auto, using(crate::proofs::JustBefore::trims))]
 pub(crate) fn trimmed_len(places: &[u32]) -> usize
     ensures within { result ≤ length places.now }
@@ -67,7 +55,7 @@ pub(crate) fn trimmed_len(places: &[u32]) -> usize
     n
 }
 
-/// Zeros, and `n` at the last of `long` places.
+/// The width of `n` places in a row that differ at the last of `long` places: zeros, and `n` there.
 pub(crate) fn last_at(alloc: Global, long: usize, n: u32) -> Places
     requires few { long ≤ most_places }
     ensures { result ≡ width_at long n }

@@ -1,5 +1,15 @@
 //! The laws of tumblers. Each is a function that does nothing, whose contract says the law.
-ghost use Rattle.tumbler.specs.Laws.{DifferenceAddsBack, DifferenceUndoesSum, SumsAssociate, SumsFitTogether, SumsKeepOrder, SumsCancel, SumComesAfter, SumIsATumbler, OrderByPlaces, SumByPlaces, DifferenceByPlaces, FitsExactly, DifferenceOfSum, ReachIsExact, ReachIsMoved, ReachIsJoined, JustBeforeStands, AccountTested};
+ghost use Rattle.tumbler.specs.Places.{IsTumbler};
+ghost use Rattle.tumbler.specs.Laws.{DifferenceAddsBack, DifferenceUndoesSum, SumsAssociate, SumsFitTogether, SumsKeepOrder, SumsCancel, SumComesAfter, SumIsATumbler, OrderByPlaces, SumByPlaces, DifferenceByPlaces, FitsExactly, DifferenceOfSum, ReachIsExact, ReachIsMoved, ReachIsJoined, JustBeforeStands, AccountTested, CoveredFits};
+
+use crate::tumbler::Tumbler;
+
+/// A tumbler has at most 24 places, each below 2^32, of which the last is not 0.
+pub fn is_tumbler(tumbler: &Tumbler)
+    ensures { IsTumbler tumbler.now }
+{
+    let _ = tumbler.places();
+}
 
 /// For tumblers a and b with a up to b, the difference of b and a is a tumbler, and adding it
 /// to a fits and gives b.
@@ -71,6 +81,11 @@ pub fn fits_exactly()
 /// it does not end in 0.
 pub fn difference_of_sum()
     ensures { DifferenceOfSum }
+{}
+
+/// What comes up to a displacement fits wherever the displacement's lead covers the base, and it fits itself.
+pub fn covered_fits()
+    ensures { CoveredFits }
 {}
 
 /// Several places fit after a base exactly where the base has room for their reach.

@@ -8,8 +8,6 @@ mod list;
 mod memory;
 mod places;
 mod span;
-#[cfg(test)]
-mod tests;
 mod tumbler;
 
 pub use address::MOST_DOCUMENT_PLACES;

@@ -1,4 +1,4 @@
-//! Lists that may hold room in reserve.
+//! Lists that can keep room for items to come.
 ghost use Rattle.std.specs.Prelude.{◌≡◌, ℕ, ◌+◌, ◌-◌, ◌^◌, ◌<◌, ◌≤◌, ◌==◌, max, [], ◌∷◌, ◌++◌, length, take, insert, slice_get, IsOk, IfOk, OnOk, OnErr};
 ghost use Rattle.std.specs.Option.{option_copied};
 ghost use Rattle.std.specs.Slice.{IsItemAt};
@@ -13,10 +13,10 @@ use std::alloc::Global;
 use std::marker::Model;
 use std::{fmt, slice};
 
-/// Items in order, beside a number of places that are kept in reserve.
+/// A growable list that can keep room for items to come.
 ///
-/// A place in reserve is one that `push_reserved` can fill with no further memory. The spare is that
-/// number: it rises only by `reserve`, and each item that comes in takes one place of it, where there is one.
+/// Its spare is the number of items that can still come in without memory being taken. It rises only by
+/// `reserve`, and falls by one with each item that comes in, until it is 0. Beyond it memory may be refused.
 #[derive(Drop)]
 pub struct List<T> {
     held: Vec<T>,
@@ -58,13 +58,20 @@ impl<T> List<T> {
         self.held.len()
     }
 
-    /// The number of places in reserve.
+    /// The number of items that can still come in without memory being taken.
     pub fn spare(&self) -> usize
         ensures value { result ≡ self.now.spare }
         ensures in_memory { length self.now.items + result < 2 ^ 64 }
     {
-        let _ = self.held.len();
+        self.is_in_memory();
         self.spare
+    }
+
+    /// Tells the prover that items and spare lie in memory, so that they are fewer than 2^64.
+    fn is_in_memory(&self)
+        ensures { length self.now.items + self.now.spare < 2 ^ 64 }
+    {
+        let _ = self.held.len();
     }
 
     /// Whether there is no item.
@@ -99,7 +106,7 @@ impl<T> List<T> {
         self.held.iter()
     }
 
-    /// Makes room for `n` more items, so that the spare is `n` or more.
+    /// Makes room for `n` more items: the spare is `n` or more then.
     pub fn reserve(&mut self, n: usize) -> Result<(), Memory>
         ensures items { self.new.items ≡ self.old.items }
         ensures ok { OnOk result (self.new.spare ≡ max self.old.spare n) }
@@ -114,7 +121,7 @@ impl<T> List<T> {
         Ok(())
     }
 
-    /// Adds an item at the end, into a place that is in reserve where there is one.
+    /// Adds an item at the end. It takes no memory where the spare is not 0.
     pub fn push(&mut self, item: T) -> Result<(), Memory>
     where
         T: Drop,
@@ -128,7 +135,7 @@ impl<T> List<T> {
         Ok(())
     }
 
-    /// Adds an item at the end, into a place that is in reserve. It takes no memory.
+    /// Adds an item at the end where the spare is not 0. It takes no memory.
     pub fn push_reserved(&mut self, item: T)
         requires { 0 < self.old.spare }
         ensures items { self.new.items ≡ self.old.items ++ item ∷ [] }
@@ -176,7 +183,7 @@ impl<T> List<T> {
 }
 
 impl<T: Copy> List<T> {
-    /// A list of these items, with nothing in reserve.
+    /// A list of these items, with no spare.
     pub fn from_slice(alloc: Global, items: &[T]) -> Result<List<T>, Memory>
         ensures items { IfOk result (λ list. list.items ≡ items.now) }
         ensures spare { IfOk result (λ list. list.spare ≡ 0) }
@@ -187,7 +194,7 @@ impl<T: Copy> List<T> {
         })
     }
 
-    /// Adds all these items at the end, or none. They take places in reserve as `push` does.
+    /// Adds all these items at the end, or none where memory is refused. The spare falls as by `push`.
     pub fn extend_from_slice(&mut self, items: &[T]) -> Result<(), Memory>
         ensures ok { OnOk result (self.new.items ≡ self.old.items ++ items.now) }
         ensures spare { OnOk result (self.new.spare ≡ self.old.spare - length items.now) }

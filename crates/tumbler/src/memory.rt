@@ -1,4 +1,4 @@
-//! The one answer for want of memory.
+//! The error of a call that finds no memory.
 
 use std::alloc::{AllocError, AllocFailed};
 use std::error::Error;

@@ -4,7 +4,7 @@ ghost use Rattle.std.specs.Prelude.{◌≡◌, ℕ, ◌≤◌, ◌<◌, ◌↔�
 use crate::tumbler::Tumbler;
 
 /// A start and a width. It holds the places from the start on that are before start plus width.
-#[derive(Debug, PartialEq, Eq, Drop)]
+#[derive(Clone, Copy, Debug, PartialEq, Eq)]
 pub struct Span {
     pub start: Tumbler,
     pub width: Tumbler,
@@ -18,10 +18,7 @@ impl Span {
     pub fn copy(&self) -> Span
         ensures { result ≡ self.now }
     {
-        Span {
-            start: self.start.copy(),
-            width: self.width.copy(),
-        }
+        *self
     }
 
     /// Whether the end, start plus width, is a tumbler.

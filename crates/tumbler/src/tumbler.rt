@@ -3,11 +3,11 @@ ghost use Rattle.std.specs.Prelude.{◌≡◌, ◌≢◌, ℕ, ◌+◌, ◌-◌,
 ghost use Rattle.std.specs.Ordering.{nat_cmp, as_partial_cmp};
 ghost use Rattle.std.specs.Cmp.Lexicographic.{slice_cmp, nat_list_cmp_total, texts_ties, texts_po};
 ghost use Rattle.tumbler.specs.Places.{most_places, place, IsTumbler, EndsWell, IsBefore, IsUpTo, comes_before, sum, Fits, difference, width_at, trimmed, just_before};
-ghost use Rattle.tumbler.specs.Reach.{lead, greater, HasRoom};
+ghost use Rattle.tumbler.specs.Reach.{lead, greater, HasRoom, IsCovered};
 ghost use Rattle.tumbler.specs.Address.{IsAccount, IsDocument, IsDocumentOf, IsMadeIn};
 
 use crate::address;
-use crate::arithmetic::{last_at, lead_len, room_for, sum_fits, trimmed_len, with_last};
+use crate::arithmetic::{last_at, lead_len, room_for, trimmed_len, with_last};
 use crate::places::Places;
 use std::alloc::Global;
 use std::cmp::Ordering;
@@ -22,7 +22,7 @@ pub const MOST_PLACES: usize = 24;
 ///
 /// The order is place by place, where a missing place counts as 0. The places lie in the value
 /// itself, so nothing here takes memory.
-#[derive(Debug, PartialEq, Eq)]
+#[derive(Clone, Copy, Debug, PartialEq, Eq)]
 pub struct Tumbler {
     held: Places,
 }
@@ -85,11 +85,11 @@ impl Tumbler {
     pub fn copy(&self) -> Tumbler
         ensures { result ≡ self.now }
     {
-        Tumbler { held: self.held }
+        *self
     }
 
-    /// Zeros, and `n` at the last of `long` places: the width of `n` places in a row that differ there.
-    /// It is zero where `n` is 0 or `long` is 0.
+    /// The width of `n` places in a row that differ at the last of `long` places: zeros, and `n` there. It is
+    /// zero where `n` or `long` is 0.
     pub fn width(alloc: Global, long: usize, n: u32) -> Tumbler
         requires { long ≤ most_places }
         ensures { result ≡ width_at long n }
@@ -99,7 +99,7 @@ impl Tumbler {
         }
     }
 
-    /// What memory comes from. A tumbler takes none of it, but what is made of tumblers may.
+    /// The allocator that this was made with, for what is made of tumblers. A tumbler itself takes no memory.
     pub fn allocator(&self) -> Global {
         *self.held.allocator()
     }
@@ -118,7 +118,7 @@ impl Tumbler {
     pub fn fits(&self, d: &Tumbler) -> bool
         ensures { IsTrue result ↔ Fits self.now d.now }
     {
-        sum_fits(self.places(), d.places())
+        self.held.fits(&d.held)
     }
 
     /// The sum with the displacement `d`.
@@ -195,7 +195,7 @@ impl Tumbler {
         }
     }
 
-    /// The document in whose address a content byte's or a link's address begins.
+    /// The document that a content byte or a link was made in, if this is the address of one.
     pub fn document_of(&self) -> Option<Tumbler>
         ensures found { IfSome result (IsMadeIn self.now) }
         ensures none { IfNone result ((document : List ℕ) → ¬ IsMadeIn self.now document) }
@@ -228,14 +228,14 @@ impl Tumbler {
         self.held.is_before(&other.held)
     }
 
-    /// The places up to and with the first one that is not 0.
+    /// The lead: what a sum with this displacement adds to, the places up to and with the first one that is not 0.
     pub fn lead(&self) -> Tumbler
         ensures { result ≡ lead self.now }
     {
         self.front(lead_len(self.places()))
     }
 
-    /// Index by index the greater place of both.
+    /// The reach of both: at each index the greater place.
     pub fn greater(&self, other: &Tumbler) -> Tumbler
         ensures { result ≡ greater self.now other.now }
     {
@@ -244,21 +244,21 @@ impl Tumbler {
         Tumbler { held }
     }
 
-    /// Index by index the greater place of both is here from now on.
+    /// Raises this reach by another: at each index to the greater place.
     pub fn raise(&mut self, other: &Tumbler)
         ensures { self.new ≡ greater self.old other.now }
     {
         self.held.raise(&other.held);
     }
 
-    /// The same, with the places of another up to and with the first one that is not 0.
+    /// Raises this reach by the lead of a place, so that the place is within it.
     pub fn raise_by_lead(&mut self, place: &Tumbler)
         ensures { self.new ≡ greater self.old (lead place.now) }
     {
         self.held.raise_by_lead(&place.held);
     }
 
-    /// The same, with a reach that is moved by `d`.
+    /// Raises this reach by another one that is moved by `d`.
     pub fn raise_by_moved(&mut self, reach: &Tumbler, d: &Tumbler)
         requires { HasRoom d.now reach.now }
         ensures { self.new ≡ greater self.old (sum reach.now (lead d.now)) }
@@ -266,11 +266,20 @@ impl Tumbler {
         self.held.raise_by_moved(&reach.held, &d.held);
     }
 
-    /// Whether places that add up to the reach, each at its own index, can all be moved by this one.
+    /// Whether all places within a reach fit after this one: at each index the sum stays below 2^32.
     pub fn has_room(&self, reach: &Tumbler) -> bool
         ensures { IsTrue result ↔ HasRoom self.now reach.now }
     {
         room_for(self.places(), reach.places())
+    }
+
+    /// Whether no place of this one stands behind the lead of `d`. Then all that comes up to `d` fits after this
+    /// one where `d` does.
+    pub fn is_covered(&self, d: &Tumbler) -> bool
+        ensures covered { IsTrue result ↔ IsCovered self.now d.now }
+        ensures tumbler { IsTumbler self.now }
+    {
+        self.held.is_covered(&d.held)
     }
 
     /// A place that comes before this one: the last place less 1, without the zeros at the end. Zero stays.
@@ -288,12 +297,6 @@ impl Tumbler {
         Tumbler {
             held: with_last(*self.held.allocator(), places.split_at(n).0, *last - 1),
         }
-    }
-}
-
-impl Drop for Tumbler {
-    fn drop(self) {
-        let Tumbler { held: _ } = self;
     }
 }
 

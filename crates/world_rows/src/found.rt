@@ -11,7 +11,7 @@ use febe_data::{Diagonal, Item, List, Memory, Run, Span, Spec, Tumbler, Want};
 use std::alloc::Global;
 use std::process::Abort;
 use std::test::Fail;
-use world_rules::{End, Finds, WantedRuns, WorldError, has_bad_span, three_runs};
+use world_rules::{End, Find, WantedRuns, WorldError, has_bad_span, three_runs};
 
 /// The id of the one link.
 const LINK: [u32; 9] = [1, 1, 0, 1, 0, 1, 0, 2, 1];
@@ -25,7 +25,7 @@ fn is_quotation(alloc: Global, run: &Run) -> Result<bool, Memory> {
 }
 
 /// Whether the second document shows two bytes of the first one's content, as one run.
-fn shows_a_run<W: Finds>(alloc: Global, world: &W) -> Result<bool, Memory> {
+fn shows_a_run<W: Find>(alloc: Global, world: &W) -> Result<bool, Memory> {
     let picked = specs(alloc, &SECOND, 1, 9)?;
     let picked = picked.as_slice();
     let Some(runs) = world.runs_up_to(alloc, picked, 1)? else {
@@ -50,7 +50,7 @@ fn is_text(items: &[Item], wanted: &[u8]) -> bool {
 }
 
 /// Whether the second document gives `ab`.
-fn gives_its_text<W: Finds>(alloc: Global, world: &W) -> Result<bool, Memory> {
+fn gives_its_text<W: Find>(alloc: Global, world: &W) -> Result<bool, Memory> {
     let picked = specs(alloc, &SECOND, 1, 9)?;
     let picked = picked.as_slice();
     if has_bad_span(picked) {
@@ -76,7 +76,7 @@ fn has_bad_end(spec: &Spec) -> bool
 }
 
 /// Whether the two documents share `ab` at their starts.
-fn relates<W: Finds>(alloc: Global, world: &W) -> Result<bool, Memory> {
+fn relates<W: Find>(alloc: Global, world: &W) -> Result<bool, Memory> {
     let (left, right) = (specs(alloc, &FIRST, 1, 9)?, specs(alloc, &SECOND, 1, 9)?);
     let (Some(left), Some(right)) = (left.get(0), right.get(0)) else {
         return Ok(false);
@@ -96,7 +96,7 @@ fn relates<W: Finds>(alloc: Global, world: &W) -> Result<bool, Memory> {
 }
 
 /// Whether both documents show `a`, the first before the second.
-fn finds_documents<W: Finds>(alloc: Global, world: &W) -> Result<bool, Memory> {
+fn finds_documents<W: Find>(alloc: Global, world: &W) -> Result<bool, Memory> {
     let picked = specs(alloc, &SECOND, 1, 1)?;
     let found = world.documents_found(alloc, picked.as_slice())?;
     let wanted = [address(alloc, &FIRST)?, address(alloc, &SECOND)?];
@@ -114,7 +114,7 @@ fn wanted(alloc: Global) -> Result<Want, Memory> {
 }
 
 /// The runs that its specs pick, where they are few enough.
-fn wanted_runs<W: Finds>(
+fn wanted_runs<W: Find>(
     alloc: Global,
     world: &W,
     want: &Want,
@@ -137,7 +137,7 @@ fn is_the_link(alloc: Global, ids: &[Tumbler]) -> Result<bool, Memory> {
 }
 
 /// Whether the one link is found, and none behind it.
-fn finds_links<W: Finds>(alloc: Global, world: &W) -> Result<bool, Memory> {
+fn finds_links<W: Find>(alloc: Global, world: &W) -> Result<bool, Memory> {
     let want = wanted(alloc)?;
     let Some(runs) = wanted_runs(alloc, world, &want)? else {
         return Ok(false);
@@ -163,7 +163,7 @@ fn is_place(alloc: Global, specs: &[Spec], position: u32) -> Result<bool, Memory
 }
 
 /// Whether the link is there, with its second end at `b`, and its third where `c` is picked.
-fn has_its_ends<W: Finds>(alloc: Global, world: &W) -> Result<bool, Memory> {
+fn has_its_ends<W: Find>(alloc: Global, world: &W) -> Result<bool, Memory> {
     let id = address(alloc, &LINK)?;
     let end = world.end_now(alloc, &id, End::To)?;
     let picked = specs(alloc, &FIRST, 1, 9)?;
@@ -177,7 +177,7 @@ fn has_its_ends<W: Finds>(alloc: Global, world: &W) -> Result<bool, Memory> {
 }
 
 /// Asks for content and links, each call once or more.
-pub(crate) fn check_finds<W: Finds>(rt: &impl Abort, alloc: Global, world: &W) -> Result<(), Fail> {
+pub(crate) fn check_finds<W: Find>(rt: &impl Abort, alloc: Global, world: &W) -> Result<(), Fail> {
     assert!(rt; shows_a_run(alloc, world)?);
     assert!(rt; gives_its_text(alloc, world)?);
     assert!(rt; relates(alloc, world)?);

@@ -4,6 +4,8 @@
 #[cfg(test)]
 mod fitting;
 #[cfg(test)]
+mod flat;
+#[cfg(test)]
 mod found;
 #[cfg(test)]
 mod histories;

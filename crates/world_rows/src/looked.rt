@@ -5,16 +5,16 @@ use febe_data::{Memory, Mode};
 use std::alloc::Global;
 use std::process::Abort;
 use std::test::Fail;
-use world_rules::Lookups;
+use world_rules::LookUp;
 
 /// Whether the session is told its account, which no other session is.
-fn has_account<W: Lookups>(alloc: Global, world: &W) -> Result<bool, Memory> {
+fn has_account<W: LookUp>(alloc: Global, world: &W) -> Result<bool, Memory> {
     let account = address(alloc, &ACCOUNT)?;
     Ok(world.account_of_session(1) == Some(account) && world.account_of_session(2).is_none())
 }
 
 /// Whether there are the two documents, and not the next one.
-fn has_documents<W: Lookups>(alloc: Global, world: &W) -> Result<bool, Memory> {
+fn has_documents<W: LookUp>(alloc: Global, world: &W) -> Result<bool, Memory> {
     let next = address(alloc, &[1, 1, 0, 1, 0, 3])?;
     Ok(
         world.has_document(&address(alloc, &FIRST)?)
@@ -24,7 +24,7 @@ fn has_documents<W: Lookups>(alloc: Global, world: &W) -> Result<bool, Memory> {
 }
 
 /// Whether the next document and the first version have their addresses.
-fn numbers_documents<W: Lookups>(alloc: Global, world: &W) -> Result<bool, Memory> {
+fn numbers_documents<W: LookUp>(alloc: Global, world: &W) -> Result<bool, Memory> {
     let next = address(alloc, &[1, 1, 0, 1, 0, 3])?;
     let version = address(alloc, &[1, 1, 0, 1, 0, 1, 1])?;
     Ok(
@@ -34,13 +34,13 @@ fn numbers_documents<W: Lookups>(alloc: Global, world: &W) -> Result<bool, Memor
 }
 
 /// Whether the next byte and the next link of the first document have their numbers.
-fn numbers_contents<W: Lookups>(alloc: Global, world: &W) -> Result<bool, Memory> {
+fn numbers_contents<W: LookUp>(alloc: Global, world: &W) -> Result<bool, Memory> {
     let first = address(alloc, &FIRST)?;
     Ok(world.next_content(&first)? == 4 && world.next_link(&first)? == 2)
 }
 
 /// Checks who has what open.
-fn check_open<W: Lookups>(rt: &impl Abort, alloc: Global, world: &W) -> Result<(), Fail> {
+fn check_open<W: LookUp>(rt: &impl Abort, alloc: Global, world: &W) -> Result<(), Fail> {
     let (first, second) = (address(alloc, &FIRST)?, address(alloc, &SECOND)?);
     assert_eq!(rt; world.mode_of(1, &first), Some(Mode::Write));
     assert_eq!(rt; world.mode_of(1, &second), None);
@@ -50,7 +50,7 @@ fn check_open<W: Lookups>(rt: &impl Abort, alloc: Global, world: &W) -> Result<(
 }
 
 /// Checks how much there is.
-fn check_lengths<W: Lookups>(rt: &impl Abort, alloc: Global, world: &W) -> Result<(), Fail> {
+fn check_lengths<W: LookUp>(rt: &impl Abort, alloc: Global, world: &W) -> Result<(), Fail> {
     let (first, second) = (address(alloc, &FIRST)?, address(alloc, &SECOND)?);
     assert_eq!(rt;
         (world.text_length(&first), world.text_length(&second)),
@@ -68,7 +68,7 @@ fn check_lengths<W: Lookups>(rt: &impl Abort, alloc: Global, world: &W) -> Resul
 }
 
 /// Asks each look-up once or more.
-pub(crate) fn check_lookups<W: Lookups>(
+pub(crate) fn check_lookups<W: LookUp>(
     rt: &impl Abort,
     alloc: Global,
     world: &W,

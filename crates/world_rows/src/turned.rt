@@ -3,7 +3,7 @@ ghost use Rattle.world_rows.specs.Turned.{IsTurnedOf};
 
 use febe_data::{Diagonal, Entry, Item, List, Memory, Mode, Run, Spec, Tumbler, Want};
 use std::alloc::Global;
-use world_rules::{Applies, End, Finds, Lookups, Size, WantedRuns, WorldError};
+use world_rules::{Apply, End, Find, LookUp, Size, WantedRuns, WorldError};
 
 /// A world that answers as another does, and stands for more: where that one stands for a view, it stands for each view
 /// that differs by the order of documents and links alone.
@@ -12,7 +12,7 @@ pub(crate) struct TurnedWorld<W> {
     pub(crate) held: W,
 }
 
-impl<W: Lookups> Lookups for TurnedWorld<W> {
+impl<W: LookUp> LookUp for TurnedWorld<W> {
     ghost stands = { λ it view. IsTurnedOf (W.stands it.held) view };
 
     fn counted(&self) -> u64 {
@@ -72,7 +72,7 @@ impl<W: Lookups> Lookups for TurnedWorld<W> {
     }
 }
 
-impl<W: Finds> Finds for TurnedWorld<W> {
+impl<W: Find> Find for TurnedWorld<W> {
     fn picked_length(&self, alloc: Global, specs: &[Spec]) -> Result<usize, WorldError> {
         self.held.picked_length(alloc, specs)
     }
@@ -144,7 +144,7 @@ impl<W: Finds> Finds for TurnedWorld<W> {
     }
 }
 
-impl<W: Applies> Applies for TurnedWorld<W> {
+impl<W: Apply> Apply for TurnedWorld<W> {
     fn apply(&mut self, alloc: Global, entry: &Entry) -> Result<(), Memory> {
         self.held.apply(alloc, entry)
     }

@@ -9,21 +9,17 @@ use flat_world::FlatWorld;
 use std::alloc::Global;
 use std::process::Abort;
 use std::test::Fail;
-use world_rules::{Applies, Finds};
+use world_rules::{Apply, Find};
 
 /// Applies one entry after the other.
-fn apply_all<W: Applies>(
-    alloc: Global,
-    world: &mut W,
-    history: &List<Entry>,
-) -> Result<(), Memory> {
+fn apply_all<W: Apply>(alloc: Global, world: &mut W, history: &List<Entry>) -> Result<(), Memory> {
     for entry in history.as_slice() {
         world.apply(alloc, entry)?;
     }
     Ok(())
 }
 
-fn check_all<W: Finds>(rt: &impl Abort, alloc: Global, world: &W) -> Result<(), Fail> {
+fn check_all<W: Find>(rt: &impl Abort, alloc: Global, world: &W) -> Result<(), Fail> {
     check_lookups(rt, alloc, world)?;
     check_finds(rt, alloc, world)
 }

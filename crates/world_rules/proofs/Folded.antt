@@ -8,7 +8,7 @@ use Rattle.febe_data.specs.Plain.{PlainEntry, plain_history}
 use Rattle.febe_data.specs.declared.entry.Entry.{Entry}
 use Rattle.world_rules.specs.declared.rows.SessionRow.{SessionRow}
 use Rattle.world_rules.specs.Apply.{apply}
-use Rattle.world_rules.specs.History.{is_counted, kept, entries_of}
+use Rattle.world_rules.specs.History.{is_durable, durable_entries, entries_of}
 use Rattle.world_rules.specs.FlatView.{FlatView, nothing_yet, after_entry, view_of, with_entry, entries_in}
 use Rattle.world_rules.specs.FoldLaws.{FoldsToWorld, CountsKept, CountsEntries}
 
@@ -23,15 +23,15 @@ folds_to_world history = world_along nothing_yet history
 
 -- ---- the number of kept entries
 
-counted_step : (view : FlatView) (entry : PlainEntry) (history : List PlainEntry) (counts : Bool) → is_counted entry.change ≡ counts
-    → (fold after_entry (after_entry view entry) history).counted ≡ (after_entry view entry).counted + length (kept history)
-    → (fold after_entry (after_entry view entry) history).counted ≡ view.counted + length (kept (entry ∷ history))
+counted_step : (view : FlatView) (entry : PlainEntry) (history : List PlainEntry) (counts : Bool) → is_durable entry.change ≡ counts
+    → (fold after_entry (after_entry view entry) history).counted ≡ (after_entry view entry).counted + length (durable_entries history)
+    → (fold after_entry (after_entry view entry) history).counted ≡ view.counted + length (durable_entries (entry ∷ history))
 counted_step view entry history true e rest = rest ∙ rw e (omega arith)
 counted_step view entry history false e rest = rest ∙ rw e refl
 
-counted_along : (view : FlatView) (history : List PlainEntry) → (fold after_entry view history).counted ≡ view.counted + length (kept history)
+counted_along : (view : FlatView) (history : List PlainEntry) → (fold after_entry view history).counted ≡ view.counted + length (durable_entries history)
 counted_along view [] = omega arith
-counted_along view (entry ∷ history) = counted_step view entry history (is_counted entry.change) refl (counted_along (after_entry view entry) history)
+counted_along view (entry ∷ history) = counted_step view entry history (is_durable entry.change) refl (counted_along (after_entry view entry) history)
 
 pub counts_kept : CountsKept
 counts_kept history = counted_along nothing_yet history ∙ omega arith

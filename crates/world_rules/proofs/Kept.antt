@@ -9,7 +9,7 @@ use Rattle.world_rules.specs.World.{World, empty_world}
 use Rattle.world_rules.specs.Picking.{picked_addresses}
 use Rattle.world_rules.specs.Edits.{Cuts, cuts_of, rows_with, content_addresses, new_bytes, rows_without, rows_swapped, rows_as}
 use Rattle.world_rules.specs.Apply.{apply, change_world, link_between, link_row}
-use Rattle.world_rules.specs.History.{kept, is_counted, restart_entry}
+use Rattle.world_rules.specs.History.{durable_entries, is_durable, restart_entry}
 use Rattle.world_rules.specs.Laws.{HasContentsOf, KeepsContents, KeptAgain}
 
 -- the blocks change places in both worlds alike
@@ -20,7 +20,7 @@ swapped_alike one other session document cuts (Some bounds) e same =
 swapped_alike one other session document cuts None e same = rw e same
 
 -- a counted change changes the contents of two worlds alike
-pub counted_alike : (one other : World) (session : ℕ) (change : PlainChange) → is_counted change ≡ true → HasContentsOf one other → HasContentsOf (change_world one session change) (change_world other session change)
+pub counted_alike : (one other : World) (session : ℕ) (change : PlainChange) → is_durable change ≡ true → HasContentsOf one other → HasContentsOf (change_world one session change) (change_world other session change)
 counted_alike one other session restarted counted same = absurd (true≢false (sym counted))
 counted_alike one other session began counted same = absurd (true≢false (sym counted))
 counted_alike one other session ended counted same = absurd (true≢false (sym counted))
@@ -44,7 +44,7 @@ counted_alike one other session (link_made home number place from to three) coun
     record { documents = same.documents; rows = ap (λ rows. rows ++ link_row home number place ∷ []) same.rows; bytes = same.bytes; links = λ i. same.links i ++ link_between (record one { rows = same.rows i }) home number from to three ∷ [] }
 
 -- any other changes no contents
-pub others_leave : (one other : World) (session : ℕ) (change : PlainChange) → is_counted change ≡ false → HasContentsOf one other → HasContentsOf one (change_world other session change)
+pub others_leave : (one other : World) (session : ℕ) (change : PlainChange) → is_durable change ≡ false → HasContentsOf one other → HasContentsOf one (change_world other session change)
 others_leave one other session restarted counted same = record { documents = same.documents; rows = same.rows; bytes = same.bytes; links = same.links }
 others_leave one other session began counted same = same
 others_leave one other session ended counted same = record { documents = same.documents; rows = same.rows; bytes = same.bytes; links = same.links }
@@ -53,15 +53,15 @@ others_leave one other session (document_opened document mode) counted same = re
 others_leave one other session (document_closed document) counted same = record { documents = same.documents; rows = same.rows; bytes = same.bytes; links = same.links }
 others_leave one other session change counted same = absurd (true≢false counted)
 
-contents_step : (one other : World) (entry : PlainEntry) (history : List PlainEntry) (counted : Bool) → is_counted entry.change ≡ counted → HasContentsOf one other
-    → ((one other : World) → HasContentsOf one other → HasContentsOf (fold apply one (kept history)) (fold apply other history))
-    → HasContentsOf (fold apply one (kept (entry ∷ history))) (fold apply other (entry ∷ history))
+contents_step : (one other : World) (entry : PlainEntry) (history : List PlainEntry) (counted : Bool) → is_durable entry.change ≡ counted → HasContentsOf one other
+    → ((one other : World) → HasContentsOf one other → HasContentsOf (fold apply one (durable_entries history)) (fold apply other history))
+    → HasContentsOf (fold apply one (durable_entries (entry ∷ history))) (fold apply other (entry ∷ history))
 contents_step one other entry history true e same rest = rw e (rest (apply one entry) (apply other entry) (counted_alike one other entry.session entry.change e same))
 contents_step one other entry history false e same rest = rw e (rest one (apply other entry) (others_leave one other entry.session entry.change e same))
 
-contents_along : (history : List PlainEntry) (one other : World) → HasContentsOf one other → HasContentsOf (fold apply one (kept history)) (fold apply other history)
+contents_along : (history : List PlainEntry) (one other : World) → HasContentsOf one other → HasContentsOf (fold apply one (durable_entries history)) (fold apply other history)
 contents_along [] one other same = same
-contents_along (entry ∷ history) one other same = contents_step one other entry history (is_counted entry.change) refl same (contents_along history)
+contents_along (entry ∷ history) one other same = contents_step one other entry history (is_durable entry.change) refl same (contents_along history)
 
 pub keeps_contents : KeepsContents
 keeps_contents history = contents_along history empty_world empty_world (record { documents = refl; rows = refl; bytes = refl; links = refl })
@@ -77,5 +77,5 @@ filter_again p (x ∷ xs) = filter_again_step p x xs (p x) refl (filter_again p 
 
 pub kept_again : KeptAgain
 kept_again history =
-    let p : PlainEntry → Bool = λ e. is_counted e.change in
-    filter-append p (kept history) (restart_entry ∷ []) ∙ append-nil (filter p (kept history)) ∙ filter_again p history
+    let p : PlainEntry → Bool = λ e. is_durable e.change in
+    filter-append p (durable_entries history) (restart_entry ∷ []) ∙ append-nil (filter p (durable_entries history)) ∙ filter_again p history

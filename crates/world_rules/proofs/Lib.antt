@@ -29,9 +29,12 @@ pub mod Folded
 pub mod Checks
 pub mod Valid
 pub mod Fronts
+pub mod SharedBytes
+pub mod CountSteps
 pub mod Spelled
 pub mod ByPlace
 pub mod Accounts
 pub mod Serials
 pub mod DocumentAddresses
 pub mod ThreeRuns
+pub mod ListTests

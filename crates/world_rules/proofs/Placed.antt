@@ -28,7 +28,7 @@ none_holds_step : (holds : Bool) (refusal : Refusal) (others : Option Refusal) �
 none_holds_step true refusal others e = cc
 none_holds_step false refusal others e = (refl, e)
 
-none_holds : (tests : List Check) (k : ℕ) (d : Check) → k < length tests → first_holding tests ≡ None → (get_or tests k d).0 ≡ false
+pub none_holds : (tests : List Check) (k : ℕ) (d : Check) → k < length tests → first_holding tests ≡ None → (get_or tests k d).0 ≡ false
 none_holds [] k d lt none = absurd (omega arith)
 none_holds (test ∷ tests) zero d lt none = (none_holds_step test.0 test.1 (first_holding tests) none).0
 none_holds (test ∷ tests) (suc k) d lt none = none_holds tests k d (omega arith) (none_holds_step test.0 test.1 (first_holding tests) none).1

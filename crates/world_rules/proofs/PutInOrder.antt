@@ -1,5 +1,5 @@
 -- Addresses that come in one after the other stand in ascending order.
-use Rattle.std.proofs.Common.{◌≡◌, ℕ, ◌∙◌, ◌||◌, Bool, true, false, List, [], ◌∷◌, ap, sym, refl, All}
+use Rattle.std.proofs.Common.{◌≡◌, ℕ, ◌∙◌, ◌||◌, Bool, List, [], ◌∷◌, ap, sym, refl, All}
 use Rattle.std.specs.List.{fold, list_any, AllPairs}
 use Rattle.std.specs.declared.cmp.Ordering.{Ordering}
 use Rattle.std.specs.declared.cmp.Ordering.TheVariants.{Less, Equal, Greater}
@@ -9,6 +9,7 @@ use Rattle.std.specs.BTreeSet.{insert_key}
 use Rattle.std.proofs.lemmas.List.Elements.{All-nil, All-cons, All-weaker}
 use Rattle.std.proofs.lemmas.List.Kept.{AllPairs-cons}
 use Rattle.std.proofs.lemmas.Map.Views.{All-insert_key}
+use Rattle.tumbler.proofs.OrLaws.{or_again, or_across, or_aside, or_none}
 use Rattle.world_rules.specs.World.{is_same}
 use Rattle.world_rules.specs.Laws.{PutsInOrder}
 use Rattle.world_rules.proofs.Later.{none_later, after_first, without_first}
@@ -43,24 +44,6 @@ fold_ascends (address ∷ addresses) all each = fold_ascends addresses (insert_k
 
 abbrev is_among : List (List ℕ) → List ℕ → Bool
 is_among addresses address = list_any (is_same address) addresses
-
-or_again : (a b : Bool) → (a || b) ≡ (a || (a || b))
-or_again true b = refl
-or_again false b = refl
-
-or_across : (a b c : Bool) → (a || (b || c)) ≡ (b || (a || c))
-or_across true true c = refl
-or_across true false c = refl
-or_across false b c = refl
-
-or_aside : (a b c : Bool) → ((a || b) || c) ≡ (b || (a || c))
-or_aside true true c = refl
-or_aside true false c = refl
-or_aside false b c = refl
-
-or_none : (a : Bool) → a ≡ (a || false)
-or_none true = refl
-or_none false = refl
 
 inserted_among : (all : List (List ℕ)) (address other : List ℕ) → is_among (insert_key (slice_cmp nat_cmp) all address) other ≡ (is_same other address || is_among all other)
 inserted_among [] address other = refl

@@ -7,7 +7,7 @@ use Rattle.world_rules.specs.declared.rows.Row.{Row}
 use Rattle.world_rules.specs.declared.rows.ByteRow.{ByteRow}
 use Rattle.world_rules.specs.World.{World, LinkRow, empty_world, content_length_of, text_length, link_length, links_made_in, has_document, next_below}
 use Rattle.world_rules.specs.Apply.{apply}
-use Rattle.world_rules.specs.History.{kept, is_counted, restart_entry}
+use Rattle.world_rules.specs.History.{durable_entries, is_durable, restart_entry}
 use Rattle.world_rules.specs.Placed.{IsAccountFront, IsSource, IsNext, IsPlaced, AllPlaced}
 use Rattle.world_rules.specs.Laws.{HasContentsOf, RecoveredIsPlaced}
 use Rattle.world_rules.proofs.Accounts.{HasAccount, AllAccounts, change_accounts, known_account}
@@ -63,16 +63,16 @@ module _ (one other : World) (same : HasContentsOf one other) (accounts : AllAcc
 
 -- ---- along a history
 
-kept_step : (one other : World) (entry : PlainEntry) (history : List PlainEntry) (counted : Bool) → is_counted entry.change ≡ counted → HasContentsOf one other → AllAccounts other → IsPlaced other entry.change
-    → ((one : World) → HasContentsOf one (apply other entry) → AllPlaced one (kept history)) → AllPlaced one (kept (entry ∷ history))
+kept_step : (one other : World) (entry : PlainEntry) (history : List PlainEntry) (counted : Bool) → is_durable entry.change ≡ counted → HasContentsOf one other → AllAccounts other → IsPlaced other entry.change
+    → ((one : World) → HasContentsOf one (apply other entry) → AllPlaced one (durable_entries history)) → AllPlaced one (durable_entries (entry ∷ history))
 kept_step one other entry history true e same accounts placed rest =
     rw e (placed_too one other same accounts entry.change placed, rest (apply one entry) (counted_alike one other entry.session entry.change e same))
 kept_step one other entry history false e same accounts placed rest = rw e (rest one (others_leave one other entry.session entry.change e same))
 
-kept_placed : (history : List PlainEntry) (one other : World) → HasContentsOf one other → AllAccounts other → AllPlaced other history → AllPlaced one (kept history)
+kept_placed : (history : List PlainEntry) (one other : World) → HasContentsOf one other → AllAccounts other → AllPlaced other history → AllPlaced one (durable_entries history)
 kept_placed [] one other same accounts placed = tt
 kept_placed (entry ∷ history) one other same accounts placed =
-    kept_step one other entry history (is_counted entry.change) refl same accounts placed.0
+    kept_step one other entry history (is_durable entry.change) refl same accounts placed.0
     (λ next alike. kept_placed history next (apply other entry) alike (change_accounts other entry.session entry.change placed.0 accounts) placed.1)
 
 placed_push : (history : List PlainEntry) (world : World) (entry : PlainEntry) → AllPlaced world history → IsPlaced (fold apply world history) entry.change → AllPlaced world (history ++ entry ∷ [])
@@ -81,4 +81,4 @@ placed_push (first ∷ history) world entry placed last = (placed.0, placed_push
 
 pub recovered_is_placed : RecoveredIsPlaced
 recovered_is_placed history placed =
-    placed_push (kept history) empty_world restart_entry (kept_placed history empty_world empty_world (record { documents = refl; rows = refl; bytes = refl; links = refl }) (All-nil HasAccount) placed) tt
+    placed_push (durable_entries history) empty_world restart_entry (kept_placed history empty_world empty_world (record { documents = refl; rows = refl; bytes = refl; links = refl }) (All-nil HasAccount) placed) tt

@@ -1,5 +1,5 @@
 -- The order of pairs and of diagonals.
-use Rattle.std.proofs.Common.{◌≡◌, ℕ, suc, ◌<◌, ◌&&◌, ◌∷◌, [], Bool, List, false, true, ap, sym, refl, subst, cond, arith, All, get_or, inl, inr}
+use Rattle.std.proofs.Common.{ℕ, suc, ◌<◌, ◌∷◌, [], Bool, List, sym, refl, subst, arith, All, get_or, inl, inr}
 use Rattle.std.specs.Prelude.{filter}
 use Rattle.std.specs.List.{AllPairs, flat_map, list_any}
 use Rattle.std.proofs.lemmas.List.Elements.{All-nil, All-append, All-map}
@@ -13,6 +13,7 @@ use Rattle.world_rules.specs.Picking.{picks, picked_once}
 use Rattle.world_rules.specs.Relation.{is_start, diagonal_from, pairs_of_row, pairs_of}
 use Rattle.world_rules.specs.RelationLaws.{IsPairBefore, IsDiagonalBefore, TextAscends, PairsInOrder, DiagonalsInOrder}
 use Rattle.world_rules.proofs.Later.{none_later, after_first, without_first, pairs_append, pairs_map}
+use Rattle.world_rules.proofs.ListTests.{filter_both}
 
 -- ---- flattened lists
 
@@ -24,14 +25,6 @@ all_flat P f (x ∷ xs) each = All-append P (f x) (flat_map f xs) (each 0 x (ome
 
 abbrev pub IsRowBefore : Row → Row → Type 0
 IsRowBefore row later = row.n < later.n
-
-filter_both : {X : Type 0} (p q : X → Bool) (xs : List X) → filter (λ x. p x && q x) xs ≡ filter q (filter p xs)
-filter_both p q [] = refl
-filter_both {X = X} p q (x ∷ xs) = step (p x) (filter_both p q xs)
-  where
-    step : (b : Bool) → filter (λ x. p x && q x) xs ≡ filter q (filter p xs) → cond (b && q x) (x ∷ filter (λ x. p x && q x) xs) (filter (λ x. p x && q x) xs) ≡ filter q (cond b (x ∷ filter p xs) (filter p xs))
-    step true rest = ap (λ (ys : List X). cond (q x) (x ∷ ys) ys) rest
-    step false rest = rest
 
 picked_ascend : (world : World) (spec : PlainSpec) → TextAscends world spec.document → AllPairs IsRowBefore (picked_once world spec)
 picked_ascend world spec ascends =

@@ -10,7 +10,7 @@ use Rattle.febe_data.specs.declared.refusal.Refusal.{Refusal}
 use Rattle.febe_data.specs.Plain.{PlainRequest, insert, copy, rearrange, create, delete, version, quit, create_link, set_account, opens, closes, PlainReply, PlainChange, PlainEntry, restarted, began}
 use Rattle.world_rules.specs.World.{World}
 use Rattle.world_rules.specs.Apply.{world_of}
-use Rattle.world_rules.specs.History.{kept, entries_of, restart_entry}
+use Rattle.world_rules.specs.History.{durable_entries, entries_of, restart_entry}
 use Rattle.world_rules.specs.Refusals.{opens_version}
 use Rattle.world_rules.specs.Effects.{Effect, effect, opening}
 use Rattle.world_rules.specs.Legal.{IsServed, IsRefused, IsQueryAnswered, IsDone, IsDiskFault, wanted_after, entry_after}
@@ -73,7 +73,7 @@ serials_go_on h e next count session begun =
     (counted_before h e session next count (begun_step session (has_begun h session) e.session e.serial e.change next.no_restart after))
 
 pub recovered_counts : RecoveredCounts
-recovered_counts history session begun = absurd (true≢false (sym begun ∙ begun_push (kept history) restart_entry session))
+recovered_counts history session begun = absurd (true≢false (sym begun ∙ begun_push (durable_entries history) restart_entry session))
 
 -- ---- legal steps
 

@@ -13,9 +13,9 @@ use Rattle.world_rules.specs.Ends.{NamesSpans, end_set}
 use Rattle.world_rules.specs.Refusals.{is_too_long}
 
 -- one more in a list that has room for it
-pub list_push : {X : Type 0} (IsRight : X → Type 0) (xs more : List X) (x : X) → more ≡ xs ++ x ∷ [] → IsRight x → IsList IsRight xs → length xs + 1 ≤ 65536 → IsList IsRight more
-list_push IsRight xs more x e right before room =
-    rw e (record { few = rw length-append (omega (arith, room)); each = All-push IsRight xs x before.each right })
+pub list_push : {X : Type 0} (IsWellFormed : X → Type 0) (xs more : List X) (x : X) → more ≡ xs ++ x ∷ [] → IsWellFormed x → IsList IsWellFormed xs → length xs + 1 ≤ 65536 → IsList IsWellFormed more
+list_push IsWellFormed xs more x e right before room =
+    rw e (record { few = rw length-append (omega (arith, room)); each = All-push IsWellFormed xs x before.each right })
 
 -- specs that are no more than a list may have, and no more of whose spans
 pub are_specs : (specs : List PlainSpec) → All NamesSpans specs → length specs ≤ 65536 → spans_in_all specs ≤ 65536 → IsSpecSet specs

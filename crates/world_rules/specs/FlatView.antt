@@ -6,7 +6,7 @@ use Rattle.febe_data.specs.Plain.{PlainRequest, PlainEntry}
 use Rattle.world_rules.specs.declared.rows.SessionRow.{SessionRow}
 use Rattle.world_rules.specs.World.{World, empty_world}
 use Rattle.world_rules.specs.Apply.{apply}
-use Rattle.world_rules.specs.History.{is_counted}
+use Rattle.world_rules.specs.History.{is_durable}
 use Rattle.world_rules.specs.Effects.{Effect, effect}
 
 -- a world, how many counted entries made it, and how many entries each session has
@@ -27,7 +27,7 @@ with_entry session (row ∷ rows) = if row.session == session then record row { 
 -- one entry more
 abbrev pub after_entry : FlatView → PlainEntry → FlatView
 after_entry view entry =
-    record { world = apply view.world entry; counted = if is_counted entry.change then view.counted + 1 else view.counted; sessions = with_entry entry.session view.sessions }
+    record { world = apply view.world entry; counted = if is_durable entry.change then view.counted + 1 else view.counted; sessions = with_entry entry.session view.sessions }
 
 -- after all entries of a history
 abbrev pub view_of : List PlainEntry → FlatView

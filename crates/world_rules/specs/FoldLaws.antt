@@ -2,7 +2,7 @@
 use Rattle.std.specs.Prelude.{◌≡◌, ℕ, List, length}
 use Rattle.febe_data.specs.Plain.{PlainEntry}
 use Rattle.world_rules.specs.Apply.{world_of}
-use Rattle.world_rules.specs.History.{kept, entries_of}
+use Rattle.world_rules.specs.History.{durable_entries, entries_of}
 use Rattle.world_rules.specs.FlatView.{view_of, entries_in}
 
 -- its world is the one that the history has built
@@ -11,7 +11,7 @@ FoldsToWorld = (history : List PlainEntry) → (view_of history).world ≡ world
 
 -- its number is that of the kept entries
 abbrev pub CountsKept : Type 0
-CountsKept = (history : List PlainEntry) → (view_of history).counted ≡ length (kept history)
+CountsKept = (history : List PlainEntry) → (view_of history).counted ≡ length (durable_entries history)
 
 -- each session has as many entries as the history has of it
 abbrev pub CountsEntries : Type 0

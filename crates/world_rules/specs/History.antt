@@ -4,25 +4,25 @@ use Rattle.std.specs.List.{fold}
 use Rattle.febe_data.specs.Plain.{PlainChange, PlainEntry, restarted, began, ended, account_changed, document_opened, document_closed, document_created, version_made, copy_opened, text_inserted, span_deleted, blocks_swapped, specs_copied, link_made}
 
 -- the changes that the limits count, and that are kept over a restart: those of documents, content and links
-abbrev pub is_counted : PlainChange → Bool
-is_counted restarted = false
-is_counted began = false
-is_counted ended = false
-is_counted (account_changed account) = false
-is_counted (document_opened document mode) = false
-is_counted (document_closed document) = false
-is_counted (document_created document) = true
-is_counted (version_made source document) = true
-is_counted (copy_opened source document) = true
-is_counted (text_inserted document at first text) = true
-is_counted (span_deleted document span) = true
-is_counted (blocks_swapped document cuts) = true
-is_counted (specs_copied document at specs) = true
-is_counted (link_made home number place from to three) = true
+abbrev pub is_durable : PlainChange → Bool
+is_durable restarted = false
+is_durable began = false
+is_durable ended = false
+is_durable (account_changed account) = false
+is_durable (document_opened document mode) = false
+is_durable (document_closed document) = false
+is_durable (document_created document) = true
+is_durable (version_made source document) = true
+is_durable (copy_opened source document) = true
+is_durable (text_inserted document at first text) = true
+is_durable (span_deleted document span) = true
+is_durable (blocks_swapped document cuts) = true
+is_durable (specs_copied document at specs) = true
+is_durable (link_made home number place from to three) = true
 
 -- the counted entries, in their order
-abbrev pub kept : List PlainEntry → List PlainEntry
-kept history = filter (λ e. is_counted e.change) history
+abbrev pub durable_entries : List PlainEntry → List PlainEntry
+durable_entries history = filter (λ e. is_durable e.change) history
 
 -- the entry of a restart, which is of no session
 abbrev pub restart_entry : PlainEntry
@@ -30,7 +30,7 @@ restart_entry = record { session = 0; serial = 0; change = restarted }
 
 -- what a back end has of its history when it begins again: the kept entries, then a restart
 abbrev pub recovered : List PlainEntry → List PlainEntry
-recovered history = kept history ++ restart_entry ∷ []
+recovered history = durable_entries history ++ restart_entry ∷ []
 
 -- a session is live from its Begin on, until its End or a Restart
 abbrev pub live_after : ℕ → Bool → PlainEntry → Bool

@@ -12,7 +12,7 @@ use Rattle.world_rules.specs.World.{World, LinkRow, empty_world, is_same, ascend
 use Rattle.world_rules.specs.Picking.{picks, addresses_of, picked_addresses, places_of}
 use Rattle.world_rules.specs.Edits.{Cuts, cuts_of, up_by, moved_to, new_rows, content_addresses, new_bytes}
 use Rattle.world_rules.specs.Apply.{change_world, world_of}
-use Rattle.world_rules.specs.History.{kept, recovered}
+use Rattle.world_rules.specs.History.{durable_entries, recovered}
 use Rattle.world_rules.specs.Finding.{links_found, ids_found}
 use Rattle.world_rules.specs.Refusals.{wanted}
 use Rattle.world_rules.specs.Effects.{Effect, effect}
@@ -67,11 +67,11 @@ pub record HasContentsOf (one other : World) : Type 0 where
 
 -- the kept entries alone build the contents that the whole history builds
 abbrev pub KeepsContents : Type 0
-KeepsContents = (history : List PlainEntry) → HasContentsOf (world_of (kept history)) (world_of history)
+KeepsContents = (history : List PlainEntry) → HasContentsOf (world_of (durable_entries history)) (world_of history)
 
 -- what is kept once is kept at each later restart, and a restart adds nothing to keep
 abbrev pub KeptAgain : Type 0
-KeptAgain = (history : List PlainEntry) → kept (recovered history) ≡ kept history
+KeptAgain = (history : List PlainEntry) → durable_entries (recovered history) ≡ durable_entries history
 
 -- ---- insert
 

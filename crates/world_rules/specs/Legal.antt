@@ -5,14 +5,14 @@ use Rattle.febe_data.specs.declared.refusal.Refusal.TheVariants.{Memory, Disk}
 use Rattle.febe_data.specs.LimitsView.{LimitsView}
 use Rattle.febe_data.specs.Plain.{PlainRequest, quit, PlainReply, refused, PlainEntry}
 use Rattle.world_rules.specs.Apply.{world_of}
-use Rattle.world_rules.specs.History.{kept, is_live, is_counted, next_serial}
+use Rattle.world_rules.specs.History.{durable_entries, is_live, is_durable, next_serial}
 use Rattle.world_rules.specs.Refusals.{wanted}
 use Rattle.world_rules.specs.Effects.{Effect, effect}
 use Rattle.world_rules.specs.Answers.{answer}
 
 -- the refusal that the history gives to a session's request
 abbrev pub wanted_after : LimitsView → List PlainEntry → ℕ → PlainRequest → Option Refusal
-wanted_after limits before session request = wanted limits (length (kept before)) (world_of before) session request
+wanted_after limits before session request = wanted limits (length (durable_entries before)) (world_of before) session request
 
 -- the entry that a change makes, after this history
 abbrev pub entry_after : List PlainEntry → ℕ → Effect → PlainEntry
@@ -31,7 +31,7 @@ pub record IsRefused (refusal : Refusal) (reply : PlainReply) (added : List Plai
 
 -- the disk failed in this step, where the request makes a counted change; nothing is added
 pub record IsDiskFault (made : Effect) (reply : PlainReply) (added : List PlainEntry) (rose : Bool) : Type 0 where
-  pub counted : IsTrue (is_counted made.change)
+  pub counted : IsTrue (is_durable made.change)
   pub failed : IsTrue rose
   pub reply_is : reply ≡ refused Disk
   pub nothing : added ≡ []

@@ -13,6 +13,8 @@ pub mod Apply
 pub mod History
 pub mod Relation
 pub mod Finding
+pub mod Meeting
+pub mod Counting
 pub mod Ends
 pub mod Answers
 pub mod Refusals

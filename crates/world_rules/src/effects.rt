@@ -11,7 +11,7 @@ ghost use Rattle.world_rules.specs.PlainEffect.{plain_effect};
 
 use crate::copies::clone_specs;
 use crate::errors::WorldError;
-use crate::lookups::Lookups;
+use crate::lookups::LookUp;
 use crate::opening::opens_version;
 use febe_data::bounds::MOST_DOCUMENT_PLACES;
 use febe_data::{Change, List, Memory, Mode, Reply, Rule, Span, Spec, Tumbler};
@@ -68,7 +68,7 @@ pub fn extended(address: &Tumbler, tail: &[u32]) -> Result<Tumbler, WorldError>
 
 /// Whether the document is one of the account's.
 #[tactic(auto, using(crate::proofs::Fronts::accounts))]
-pub(crate) fn is_of_account(account: &Tumbler, document: &Tumbler) -> bool
+pub fn is_of_account(account: &Tumbler, document: &Tumbler) -> bool
     ensures { result ≡ is_of_account account.now document.now }
 {
     let account = account.places();
@@ -81,7 +81,7 @@ pub(crate) fn is_of_account(account: &Tumbler, document: &Tumbler) -> bool
 }
 
 /// What an insert does.
-pub(crate) fn insert_effect<W: Lookups>(
+pub(crate) fn insert_effect<W: LookUp>(
     world: &W,
     alloc: Global,
     document: &Tumbler,
@@ -159,7 +159,7 @@ pub(crate) fn delete_effect(document: &Tumbler, span: &Span) -> Effect
 }
 
 /// The document that a create of the session makes.
-fn document_to_come<W: Lookups>(world: &W, session: u64) -> Result<Tumbler, WorldError>
+fn document_to_come<W: LookUp>(world: &W, session: u64) -> Result<Tumbler, WorldError>
     ensures value { (view : FlatView) → W.stands world.now view → IfOk result (λ document. document ≡ document_to_come view.world session) }
     ensures valid { IfOk result IsTumbler }
 {
@@ -170,7 +170,7 @@ fn document_to_come<W: Lookups>(world: &W, session: u64) -> Result<Tumbler, Worl
 }
 
 /// What a create does.
-pub(crate) fn create_effect<W: Lookups>(world: &W, session: u64) -> Result<Effect, WorldError>
+pub(crate) fn create_effect<W: LookUp>(world: &W, session: u64) -> Result<Effect, WorldError>
     ensures made { (view : FlatView) → W.stands world.now view → IfOk result (λ made. effect view.world session create ≡ Some (plain_effect made)) }
     ensures valid { IfOk result (λ made. IsReply (plain_reply made.reply)) }
 {
@@ -182,7 +182,7 @@ pub(crate) fn create_effect<W: Lookups>(world: &W, session: u64) -> Result<Effec
 }
 
 /// The version of the source that a maker of the account makes.
-fn version_for<W: Lookups>(
+fn version_for<W: LookUp>(
     world: &W,
     source: &Tumbler,
     account: &Tumbler,
@@ -197,7 +197,7 @@ fn version_for<W: Lookups>(
 }
 
 /// The version of the document that the session makes.
-fn version_to_come<W: Lookups>(
+fn version_to_come<W: LookUp>(
     world: &W,
     session: u64,
     source: &Tumbler,
@@ -212,7 +212,7 @@ fn version_to_come<W: Lookups>(
 }
 
 /// What a version does.
-pub(crate) fn version_effect<W: Lookups>(
+pub(crate) fn version_effect<W: LookUp>(
     world: &W,
     session: u64,
     source: &Tumbler,
@@ -231,7 +231,7 @@ pub(crate) fn version_effect<W: Lookups>(
 }
 
 /// What opening a version of the document does.
-fn version_opened<W: Lookups>(
+fn version_opened<W: LookUp>(
     world: &W,
     session: u64,
     source: &Tumbler,
@@ -265,7 +265,7 @@ fn document_opened(document: &Tumbler, mode: Mode) -> Effect
 }
 
 /// What opening does.
-pub(crate) fn open_effect<W: Lookups>(
+pub(crate) fn open_effect<W: LookUp>(
     world: &W,
     session: u64,
     document: &Tumbler,
@@ -308,7 +308,7 @@ pub(crate) fn account_effect(account: &Tumbler) -> Effect
 }
 
 /// What the making of a link does.
-pub(crate) fn link_effect<W: Lookups>(
+pub(crate) fn link_effect<W: LookUp>(
     world: &W,
     alloc: Global,
     home: &Tumbler,

@@ -10,7 +10,7 @@ ghost use Rattle.world_rules.specs.Wanted.{AreWantedRuns};
 ghost use Rattle.world_rules.specs.inside.WantRefusal.{AreRunsOrRefusal};
 
 use crate::errors::WorldError;
-use crate::lookups::{Finds, Lookups, WantedRuns};
+use crate::lookups::{Find, LookUp, WantedRuns};
 use crate::refusals::{has_bad_end, has_bad_span, is_too_long, lacks_document, lacks_opening};
 use crate::requests::Served;
 use crate::three_sets::three_runs;
@@ -28,7 +28,7 @@ fn has_bad_span_in(want: &Want) -> bool
 }
 
 /// Whether a spec of the want names a document that there is not.
-fn lacks_document_of<W: Lookups>(world: &W, want: &Want) -> bool
+fn lacks_document_of<W: LookUp>(world: &W, want: &Want) -> bool
     ensures { (view : FlatView) → W.stands world.now view → result ≡ lacks_document_of view.world (plain_want want.now) }
 {
     lacks_document(world, want.from.as_slice())
@@ -37,7 +37,7 @@ fn lacks_document_of<W: Lookups>(world: &W, want: &Want) -> bool
 }
 
 /// Whether a spec of the want names a document that the session has not open.
-fn lacks_opening_of<W: Lookups>(world: &W, session: u64, want: &Want) -> bool
+fn lacks_opening_of<W: LookUp>(world: &W, session: u64, want: &Want) -> bool
     ensures { (view : FlatView) → W.stands world.now view → result ≡ lacks_opening_of view.world session (plain_want want.now) }
 {
     lacks_opening(world, session, want.from.as_slice())
@@ -46,7 +46,7 @@ fn lacks_opening_of<W: Lookups>(world: &W, session: u64, want: &Want) -> bool
 }
 
 /// The runs that links are looked for by, or what the want is refused for.
-fn runs_or_refusal<W: Finds>(
+fn runs_or_refusal<W: Find>(
     world: &W,
     alloc: Global,
     session: u64,
@@ -79,7 +79,7 @@ fn runs_or_refusal<W: Finds>(
 
 /// How many links are wanted.
 #[tactic(auto, using(crate::proofs::Checks::served))]
-pub(crate) fn serve_count_links<W: Finds>(
+pub(crate) fn serve_count_links<W: Find>(
     world: &W,
     alloc: Global,
     session: u64,
@@ -98,7 +98,7 @@ pub(crate) fn serve_count_links<W: Finds>(
 
 /// The ids of the links that are wanted.
 #[tactic(auto, using(crate::proofs::Checks::served))]
-pub(crate) fn serve_find_links<W: Finds>(
+pub(crate) fn serve_find_links<W: Find>(
     world: &W,
     alloc: Global,
     session: u64,
@@ -120,7 +120,7 @@ pub(crate) fn serve_find_links<W: Finds>(
 
 /// The first so many ids of the links that are wanted, above a tumbler.
 #[tactic(auto, using(crate::proofs::Checks::served))]
-pub(crate) fn serve_next_links<W: Finds>(
+pub(crate) fn serve_next_links<W: Find>(
     world: &W,
     alloc: Global,
     session: u64,

@@ -3,7 +3,9 @@
 #![tactic(auto)]
 
 mod copies;
+mod counts;
 mod cuts;
+mod durable;
 mod effects;
 mod ends;
 mod errors;
@@ -21,11 +23,13 @@ mod three_sets;
 mod writing;
 
 pub use copies::clone_specs;
+pub use counts::{count_down, count_of, count_up};
 pub use cuts::{Cuts, cuts_of};
-pub use effects::{Effect, extended, one_more_than};
+pub use durable::is_durable;
+pub use effects::{Effect, extended, is_of_account, one_more_than};
 pub use ends::End;
 pub use errors::WorldError;
-pub use lookups::{Applies, Finds, Lookups, Size, WantedRuns};
+pub use lookups::{Apply, Find, LookUp, Size, WantedRuns};
 pub use pairs::Pair;
 pub use refusals::has_bad_span;
 pub use requests::{Served, answer, entry, serve};

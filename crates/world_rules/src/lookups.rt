@@ -39,7 +39,7 @@ pub struct WantedRuns {
 }
 
 /// What is asked of documents, sessions and numbers.
-pub trait Lookups {
+pub trait LookUp {
     /// The value answers as the definitions do for this view. A value may stand for many: for lists in other orders, say.
     ghost stands: { Self → FlatView → Type 0 };
 
@@ -106,7 +106,7 @@ pub trait Lookups {
 }
 
 /// What is asked of content and links.
-pub trait Finds: Lookups {
+pub trait Find: LookUp {
     /// How many addresses the specs pick, with repeats.
     fn picked_length(&self, alloc: Global, specs: &[Spec]) -> Result<usize, WorldError>
         ensures { (view : FlatView) → Self.stands self.now view → IfOk result (λ picked. picked ≡ length (picked_addresses view.world (map plain_spec specs.now))) };
@@ -198,7 +198,7 @@ pub trait Finds: Lookups {
 }
 
 /// A world that entries change.
-pub trait Applies: Finds {
+pub trait Apply: Find {
     /// Changes the world as the entry says, and counts it. A restart, a begin and an end take no memory, where the session
     /// has an entry and one more can be counted.
     fn apply(&mut self, alloc: Global, entry: &Entry) -> Result<(), Memory>

@@ -8,7 +8,7 @@ ghost use Rattle.world_rules.specs.Served.{IsServedAs, IsValidServed};
 
 use crate::effects::{create_effect, link_effect, version_effect};
 use crate::errors::WorldError;
-use crate::lookups::{Finds, Lookups};
+use crate::lookups::{Find, LookUp};
 use crate::refusals::{has_bad_span, history_full, lacks_document, lacks_opening, reading_refusal};
 use crate::requests::Served;
 use crate::three_sets::three_runs;
@@ -16,7 +16,7 @@ use febe_data::{Limits, Mode, Refusal, Spec, Tumbler};
 use std::alloc::Global;
 
 /// Serves a create.
-pub(crate) fn serve_create<W: Lookups>(
+pub(crate) fn serve_create<W: LookUp>(
     world: &W,
     session: u64,
     limits: &Limits,
@@ -34,7 +34,7 @@ pub(crate) fn serve_create<W: Lookups>(
 }
 
 /// What a version is refused for.
-fn version_refusal<W: Lookups>(
+fn version_refusal<W: LookUp>(
     world: &W,
     session: u64,
     document: &Tumbler,
@@ -55,7 +55,7 @@ fn version_refusal<W: Lookups>(
 }
 
 /// Serves the making of a version.
-pub(crate) fn serve_version<W: Lookups>(
+pub(crate) fn serve_version<W: LookUp>(
     world: &W,
     session: u64,
     source: &Tumbler,
@@ -72,7 +72,7 @@ pub(crate) fn serve_version<W: Lookups>(
 
 /// Whether the home, or a document that the specs name, is not there.
 #[tactic(auto, using(crate::proofs::Checks::three_sets))]
-fn lacks_any_document<W: Lookups>(
+fn lacks_any_document<W: LookUp>(
     world: &W,
     home: &Tumbler,
     from: &[Spec],
@@ -95,7 +95,7 @@ fn lacks_any_document<W: Lookups>(
 
 /// Whether the session has the home, or a document that the specs name, not open.
 #[tactic(auto, using(crate::proofs::Checks::three_sets))]
-fn lacks_any_opening<W: Lookups>(
+fn lacks_any_opening<W: LookUp>(
     world: &W,
     session: u64,
     home: &Tumbler,
@@ -133,7 +133,7 @@ fn have_bad_span(from: &[Spec], to: &[Spec], three: &[Spec]) -> bool
 
 /// What the making of a link is refused for.
 #[tactic(auto, using(crate::proofs::Checks::three_sets))]
-fn link_refusal<W: Finds>(
+fn link_refusal<W: Find>(
     world: &W,
     alloc: Global,
     session: u64,
@@ -167,7 +167,7 @@ fn link_refusal<W: Finds>(
 }
 
 /// Serves the making of a link.
-pub(crate) fn serve_create_link<W: Finds>(
+pub(crate) fn serve_create_link<W: Find>(
     world: &W,
     alloc: Global,
     session: u64,

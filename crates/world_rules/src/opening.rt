@@ -10,7 +10,7 @@ ghost use Rattle.world_rules.specs.Served.{IsServedAs, IsValidServed};
 
 use crate::effects::{account_effect, close_effect, is_of_account, open_effect};
 use crate::errors::WorldError;
-use crate::lookups::Lookups;
+use crate::lookups::LookUp;
 use crate::refusals::{history_full, reading_refusal};
 use crate::requests::Served;
 use febe_data::{Limits, Mode, Refusal, Rule, Tumbler};
@@ -52,7 +52,7 @@ fn is_strict(mode: Mode, rule: Rule) -> bool
 }
 
 /// Whether the document is of the session's account.
-fn owns<W: Lookups>(world: &W, session: u64, document: &Tumbler) -> bool
+fn owns<W: LookUp>(world: &W, session: u64, document: &Tumbler) -> bool
     ensures { (view : FlatView) → W.stands world.now view → result ≡ owns view.world session document.now }
 {
     let Some(account) = world.account_of_session(session) else {
@@ -62,14 +62,14 @@ fn owns<W: Lookups>(world: &W, session: u64, document: &Tumbler) -> bool
 }
 
 /// Whether the session may open the document for writing.
-fn may_write<W: Lookups>(world: &W, session: u64, document: &Tumbler) -> bool
+fn may_write<W: LookUp>(world: &W, session: u64, document: &Tumbler) -> bool
     ensures { (view : FlatView) → W.stands world.now view → result ≡ may_write view.world session document.now }
 {
     owns(world, session, document) && !world.is_held_against(session, document)
 }
 
 /// Whether opening so makes a version.
-pub(crate) fn opens_version<W: Lookups>(
+pub(crate) fn opens_version<W: LookUp>(
     world: &W,
     session: u64,
     document: &Tumbler,
@@ -89,7 +89,7 @@ pub(crate) fn opens_version<W: Lookups>(
 }
 
 /// What opening the document is refused for.
-fn open_refusal<W: Lookups>(
+fn open_refusal<W: LookUp>(
     world: &W,
     session: u64,
     document: &Tumbler,
@@ -121,7 +121,7 @@ fn open_refusal<W: Lookups>(
 }
 
 /// Serves the opening of a document.
-pub(crate) fn serve_open<W: Lookups>(
+pub(crate) fn serve_open<W: LookUp>(
     world: &W,
     session: u64,
     document: &Tumbler,
@@ -140,7 +140,7 @@ pub(crate) fn serve_open<W: Lookups>(
 }
 
 /// Serves the closing of a document.
-pub(crate) fn serve_close<W: Lookups>(world: &W, session: u64, document: &Tumbler) -> Served
+pub(crate) fn serve_close<W: LookUp>(world: &W, session: u64, document: &Tumbler) -> Served
     ensures served { (view : FlatView) (limits : LimitsView) → W.stands world.now view → IsServedAs limits view session (closes document.now) result }
     ensures valid { IsValidServed result }
 {

@@ -11,7 +11,7 @@ ghost use Rattle.world_rules.specs.Served.{IsServedAs, IsValidServed};
 
 use crate::ends::End;
 use crate::errors::WorldError;
-use crate::lookups::{Finds, Lookups};
+use crate::lookups::{Find, LookUp};
 use crate::refusals::{
     has_bad_end, has_too_many_spans, is_too_long, picking_refusal, reading_refusal,
 };
@@ -22,7 +22,7 @@ use febe_data::{List, Refusal, Reply, Spec, Tumbler};
 use std::alloc::Global;
 
 /// The spans of the document's parts.
-fn span_set<W: Lookups>(world: &W, alloc: Global, document: &Tumbler) -> Result<Reply, WorldError>
+fn span_set<W: LookUp>(world: &W, alloc: Global, document: &Tumbler) -> Result<Reply, WorldError>
     ensures answer { (view : FlatView) → W.stands world.now view → IfOk result (λ reply. plain_reply reply ≡ answer view.world (span_set document.now)) }
     ensures valid { IfOk result (λ reply. IsReply (plain_reply reply)) }
 {
@@ -33,7 +33,7 @@ fn span_set<W: Lookups>(world: &W, alloc: Global, document: &Tumbler) -> Result<
 }
 
 /// The one span over all of the document.
-fn whole_span<W: Lookups>(world: &W, alloc: Global, document: &Tumbler) -> Result<Reply, WorldError>
+fn whole_span<W: LookUp>(world: &W, alloc: Global, document: &Tumbler) -> Result<Reply, WorldError>
     ensures answer { (view : FlatView) → W.stands world.now view → IfOk result (λ reply. plain_reply reply ≡ answer view.world (whole_span document.now)) }
     ensures valid { IfOk result (λ reply. IsReply (plain_reply reply)) }
 {
@@ -43,7 +43,7 @@ fn whole_span<W: Lookups>(world: &W, alloc: Global, document: &Tumbler) -> Resul
 }
 
 /// What comes of a request for the spans of a document.
-pub(crate) fn serve_span_set<W: Lookups>(
+pub(crate) fn serve_span_set<W: LookUp>(
     world: &W,
     alloc: Global,
     session: u64,
@@ -59,7 +59,7 @@ pub(crate) fn serve_span_set<W: Lookups>(
 }
 
 /// What comes of a request for the one span over all of a document.
-pub(crate) fn serve_whole_span<W: Lookups>(
+pub(crate) fn serve_whole_span<W: LookUp>(
     world: &W,
     alloc: Global,
     session: u64,
@@ -76,7 +76,7 @@ pub(crate) fn serve_whole_span<W: Lookups>(
 
 /// What comes of a retrieve.
 #[tactic(auto, using(crate::proofs::Checks::refusals))]
-pub(crate) fn serve_retrieve<W: Finds>(
+pub(crate) fn serve_retrieve<W: Find>(
     world: &W,
     alloc: Global,
     session: u64,
@@ -97,7 +97,7 @@ pub(crate) fn serve_retrieve<W: Finds>(
 }
 
 /// What the two specs are refused for. It takes no memory.
-fn relate_refusal<W: Lookups>(world: &W, session: u64, left: &Spec, right: &Spec) -> Option<Refusal>
+fn relate_refusal<W: LookUp>(world: &W, session: u64, left: &Spec, right: &Spec) -> Option<Refusal>
     ensures refusal { (view : FlatView) → W.stands world.now view → result ≡ first_holding (picking view.world session (plain_spec left.now ∷ plain_spec right.now ∷ [])) }
     ensures left { result ≡ None → list_any is_bad_span (plain_spec left.now).spans ≡ false }
     ensures right { result ≡ None → list_any is_bad_span (plain_spec right.now).spans ≡ false }
@@ -118,7 +118,7 @@ fn relate_refusal<W: Lookups>(world: &W, session: u64, left: &Spec, right: &Spec
 
 /// What comes of a request for the relation of two specs.
 #[tactic(auto, using(crate::proofs::Checks::relate_steps))]
-pub(crate) fn serve_relate<W: Finds>(
+pub(crate) fn serve_relate<W: Find>(
     world: &W,
     alloc: Global,
     session: u64,
@@ -139,7 +139,7 @@ pub(crate) fn serve_relate<W: Finds>(
 
 /// What comes of a request for the documents that have content which the specs pick.
 #[tactic(auto, using(crate::proofs::Checks::served))]
-pub(crate) fn serve_find_documents<W: Finds>(
+pub(crate) fn serve_find_documents<W: Find>(
     world: &W,
     alloc: Global,
     session: u64,
@@ -162,7 +162,7 @@ pub(crate) fn serve_find_documents<W: Finds>(
 }
 
 /// What comes of a request for where an end of a link is.
-pub(crate) fn serve_follow<W: Finds>(
+pub(crate) fn serve_follow<W: Find>(
     world: &W,
     alloc: Global,
     link: &Tumbler,
@@ -188,7 +188,7 @@ pub(crate) fn serve_follow<W: Finds>(
 }
 
 /// What comes of a request for which of some text is in ends of links.
-pub(crate) fn serve_end_sets<W: Finds>(
+pub(crate) fn serve_end_sets<W: Find>(
     world: &W,
     alloc: Global,
     session: u64,

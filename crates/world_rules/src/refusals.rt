@@ -6,7 +6,7 @@ ghost use Rattle.febe_data.specs.Validity.{spans_in_all};
 ghost use Rattle.world_rules.specs.FlatView.{FlatView};
 ghost use Rattle.world_rules.specs.Refusals.{is_place, is_bad_span, has_bad_span, has_bad_cut, history_full, is_too_long, lacks_document, lacks_opening, first_holding, reading, writing, picking};
 
-use crate::lookups::Lookups;
+use crate::lookups::LookUp;
 use febe_data::bounds::MOST_ITEMS;
 use febe_data::{Limits, Mode, Refusal, Span, Spec, Tumbler};
 
@@ -85,7 +85,7 @@ pub fn has_bad_span(specs: &[Spec]) -> bool
 }
 
 /// Whether a spec names a document that there is not.
-pub(crate) fn lacks_document<W: Lookups>(world: &W, specs: &[Spec]) -> bool
+pub(crate) fn lacks_document<W: LookUp>(world: &W, specs: &[Spec]) -> bool
     ensures { (view : FlatView) → W.stands world.now view → result ≡ lacks_document view.world (map plain_spec specs.now) }
 {
     for spec in specs {
@@ -97,7 +97,7 @@ pub(crate) fn lacks_document<W: Lookups>(world: &W, specs: &[Spec]) -> bool
 }
 
 /// Whether a spec names a document that the session has not open.
-pub(crate) fn lacks_opening<W: Lookups>(world: &W, session: u64, specs: &[Spec]) -> bool
+pub(crate) fn lacks_opening<W: LookUp>(world: &W, session: u64, specs: &[Spec]) -> bool
     ensures { (view : FlatView) → W.stands world.now view → result ≡ lacks_opening view.world session (map plain_spec specs.now) }
 {
     for spec in specs {
@@ -109,7 +109,7 @@ pub(crate) fn lacks_opening<W: Lookups>(world: &W, session: u64, specs: &[Spec])
 }
 
 /// What a document that is read is refused for.
-pub(crate) fn reading_refusal<W: Lookups>(
+pub(crate) fn reading_refusal<W: LookUp>(
     world: &W,
     session: u64,
     document: &Tumbler,
@@ -126,7 +126,7 @@ pub(crate) fn reading_refusal<W: Lookups>(
 }
 
 /// What a document that changes is refused for.
-pub(crate) fn writing_refusal<W: Lookups>(
+pub(crate) fn writing_refusal<W: LookUp>(
     world: &W,
     session: u64,
     document: &Tumbler,
@@ -146,11 +146,7 @@ pub(crate) fn writing_refusal<W: Lookups>(
 }
 
 /// What the specs of a query are refused for.
-pub(crate) fn picking_refusal<W: Lookups>(
-    world: &W,
-    session: u64,
-    specs: &[Spec],
-) -> Option<Refusal>
+pub(crate) fn picking_refusal<W: LookUp>(world: &W, session: u64, specs: &[Spec]) -> Option<Refusal>
     ensures refusal { (view : FlatView) → W.stands world.now view → result ≡ first_holding (picking view.world session (map plain_spec specs.now)) }
     ensures fits { result ≡ None → has_bad_span (map plain_spec specs.now) ≡ false }
 {

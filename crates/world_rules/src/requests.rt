@@ -16,7 +16,7 @@ use crate::effects::{
 };
 use crate::errors::WorldError;
 use crate::finding::{serve_count_links, serve_find_links, serve_next_links};
-use crate::lookups::Finds;
+use crate::lookups::Find;
 use crate::making::{serve_create, serve_create_link, serve_version};
 use crate::opening::{serve_account, serve_close, serve_open};
 use crate::reading::{
@@ -39,7 +39,7 @@ pub enum Served {
 }
 
 /// What comes of a request of the session. The world stays as it is. A quit takes no memory.
-pub fn serve<W: Finds>(
+pub fn serve<W: Find>(
     world: &W,
     alloc: Global,
     session: u64,
@@ -54,7 +54,7 @@ pub fn serve<W: Finds>(
 }
 
 /// The same, with what stood in the way.
-fn serve_request<W: Finds>(
+fn serve_request<W: Find>(
     world: &W,
     alloc: Global,
     session: u64,
@@ -115,7 +115,7 @@ fn serve_request<W: Finds>(
 }
 
 /// What comes of a request that changes nothing.
-fn serve_query<W: Finds>(
+fn serve_query<W: Find>(
     world: &W,
     alloc: Global,
     session: u64,
@@ -145,7 +145,7 @@ fn serve_query<W: Finds>(
 }
 
 /// What a request is told: its refusal, the reply to its change, or its answer. The world stays as it is.
-pub fn answer<W: Finds>(
+pub fn answer<W: Find>(
     world: &W,
     alloc: Global,
     session: u64,
@@ -166,7 +166,7 @@ pub fn answer<W: Finds>(
 }
 
 /// What a request changes, and how it is answered then; none where it is a query.
-fn request_effect<W: Finds>(
+fn request_effect<W: Find>(
     world: &W,
     alloc: Global,
     session: u64,
@@ -215,7 +215,7 @@ fn request_effect<W: Finds>(
 
 /// The entry that a request of the session makes where nothing refuses it; none where it is a query. A change that is
 /// refused may have an entry here too, which no history gets, or there is no memory for it.
-pub fn entry<W: Finds>(
+pub fn entry<W: Find>(
     world: &W,
     alloc: Global,
     session: u64,

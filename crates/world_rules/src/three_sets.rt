@@ -6,7 +6,7 @@ ghost use Rattle.world_rules.specs.Picking.{runs_of};
 ghost use Rattle.world_rules.specs.Refusals.{is_too_long, runs_in_all};
 
 use crate::errors::WorldError;
-use crate::lookups::{Finds, WantedRuns};
+use crate::lookups::{Find, WantedRuns};
 use febe_data::Spec;
 use febe_data::bounds::MOST_ITEMS;
 use std::alloc::Global;
@@ -14,7 +14,7 @@ use std::alloc::Global;
 /// The runs that three spec sets pick, where they are together as many as a request may work on. It stops where they are
 /// more.
 #[tactic(auto, using(crate::proofs::ThreeRuns::counted))]
-pub fn three_runs<W: Finds>(
+pub fn three_runs<W: Find>(
     world: &W,
     alloc: Global,
     from: &[Spec],

@@ -9,7 +9,7 @@ ghost use Rattle.world_rules.specs.Served.{IsServedAs, IsValidServed};
 use crate::cuts::cuts_of;
 use crate::effects::{copy_effect, delete_effect, insert_effect, positions_of, rearrange_effect};
 use crate::errors::WorldError;
-use crate::lookups::{Finds, Lookups};
+use crate::lookups::{Find, LookUp};
 use crate::refusals::{
     has_bad_cut, has_bad_span, history_full, is_place, lacks_document, lacks_opening,
     writing_refusal,
@@ -20,7 +20,7 @@ use febe_data::{Limits, Mode, Refusal, Span, Spec, Tumbler};
 use std::alloc::Global;
 
 /// What an insert is refused for.
-fn insert_refusal<W: Lookups>(
+fn insert_refusal<W: LookUp>(
     world: &W,
     session: u64,
     document: &Tumbler,
@@ -50,7 +50,7 @@ fn insert_refusal<W: Lookups>(
 }
 
 /// Serves an insert.
-pub(crate) fn serve_insert<W: Lookups>(
+pub(crate) fn serve_insert<W: LookUp>(
     world: &W,
     alloc: Global,
     session: u64,
@@ -70,7 +70,7 @@ pub(crate) fn serve_insert<W: Lookups>(
 }
 
 /// What deleting is refused for.
-fn delete_refusal<W: Lookups>(
+fn delete_refusal<W: LookUp>(
     world: &W,
     session: u64,
     document: &Tumbler,
@@ -92,7 +92,7 @@ fn delete_refusal<W: Lookups>(
 }
 
 /// Serves a delete.
-pub(crate) fn serve_delete<W: Lookups>(
+pub(crate) fn serve_delete<W: LookUp>(
     world: &W,
     session: u64,
     document: &Tumbler,
@@ -109,7 +109,7 @@ pub(crate) fn serve_delete<W: Lookups>(
 }
 
 /// Whether the document, or one that the specs name, is not there.
-fn lacks_document_or<W: Lookups>(world: &W, document: &Tumbler, specs: &[Spec]) -> bool
+fn lacks_document_or<W: LookUp>(world: &W, document: &Tumbler, specs: &[Spec]) -> bool
     ensures { (view : FlatView) → W.stands world.now view → result ≡ (not (has_document view.world document.now) || lacks_document view.world (map plain_spec specs.now)) }
 {
     if !world.has_document(document) {
@@ -119,7 +119,7 @@ fn lacks_document_or<W: Lookups>(world: &W, document: &Tumbler, specs: &[Spec]) 
 }
 
 /// Whether the session has the document, or one that the specs name, not open.
-fn lacks_opening_or<W: Lookups>(world: &W, session: u64, document: &Tumbler, specs: &[Spec]) -> bool
+fn lacks_opening_or<W: LookUp>(world: &W, session: u64, document: &Tumbler, specs: &[Spec]) -> bool
     ensures { (view : FlatView) → W.stands world.now view → result ≡ (is_none (mode_of view.world session document.now) || lacks_opening view.world session (map plain_spec specs.now)) }
 {
     if world.mode_of(session, document).is_none() {
@@ -129,7 +129,7 @@ fn lacks_opening_or<W: Lookups>(world: &W, session: u64, document: &Tumbler, spe
 }
 
 /// What a document that changes, and specs beside it, are refused for.
-fn writing_from_refusal<W: Lookups>(
+fn writing_from_refusal<W: LookUp>(
     world: &W,
     session: u64,
     document: &Tumbler,
@@ -150,7 +150,7 @@ fn writing_from_refusal<W: Lookups>(
 }
 
 /// What copying is refused for.
-fn copy_refusal<W: Finds>(
+fn copy_refusal<W: Find>(
     world: &W,
     alloc: Global,
     session: u64,
@@ -185,7 +185,7 @@ fn copy_refusal<W: Finds>(
 }
 
 /// Serves a copy.
-pub(crate) fn serve_copy<W: Finds>(
+pub(crate) fn serve_copy<W: Find>(
     world: &W,
     alloc: Global,
     session: u64,
@@ -206,7 +206,7 @@ pub(crate) fn serve_copy<W: Finds>(
 }
 
 /// What rearranging is refused for.
-fn rearrange_refusal<W: Lookups>(
+fn rearrange_refusal<W: LookUp>(
     world: &W,
     alloc: Global,
     session: u64,
@@ -233,7 +233,7 @@ fn rearrange_refusal<W: Lookups>(
 }
 
 /// Serves a rearrange.
-pub(crate) fn serve_rearrange<W: Lookups>(
+pub(crate) fn serve_rearrange<W: LookUp>(
     world: &W,
     alloc: Global,
     session: u64,

@@ -1,16 +1,15 @@
 -- The rows that are kept, and how many documents there are of each front.
-use Rattle.std.specs.Prelude.{◌≡◌, ℕ, ◌<◌, Bool, true, cond, slice_index_or, List, [], ◌∷◌, map, length, count_by}
-use Rattle.std.specs.Option.{unwrap_or}
+use Rattle.std.specs.Prelude.{◌≡◌, ℕ, ◌<◌, Bool, true, slice_index_or, List, [], ◌∷◌, map, length, count_by}
 use Rattle.std.specs.Ordering.{nat_cmp}
 use Rattle.std.specs.Cmp.Lexicographic.{slice_cmp}
 use Rattle.std.specs.List.{prefix_len}
 use Rattle.tumbler.specs.Places.{comes_before}
 use Rattle.std.specs.List.Sorted.{IsStrictlySortedBy}
-use Rattle.std.specs.BTreeMap as tree
 use Rattle.std.specs.BTreeMap.{BTreeMap}
 use Rattle.std.specs.declared.boxed.Box.{Box}
 use Rattle.doc_table.specs.declared.rows.DocumentRow.{DocumentRow}
 use Rattle.world_rules.specs.World.{is_same}
+use Rattle.world_rules.specs.Counting.{count_in}
 
 abbrev pub unboxed : {R A : Type 0} → List (Box (DocumentRow R) A) → List (DocumentRow R)
 unboxed boxes = map (λ b. b.value) boxes
@@ -18,10 +17,6 @@ unboxed boxes = map (λ b. b.value) boxes
 -- the documents ascend, each once
 abbrev pub IsAscending : List (List ℕ) → Type 0
 IsAscending documents = IsStrictlySortedBy (slice_cmp nat_cmp) documents
-
--- the number that a map has at a key, or 0
-abbrev pub count_in : BTreeMap (List ℕ) ℕ → List ℕ → ℕ
-count_in counts key = unwrap_or (tree.get (slice_cmp nat_cmp) counts key) 0
 
 -- the address with 1 as its last place, and zero for zero
 abbrev pub first_sibling : List ℕ → List ℕ
@@ -42,7 +37,3 @@ pub record IsAt {R A : Type 0} (document : List ℕ) (rows : List (Box (Document
   pub place : at ≡ prefix_len (is_before document) rows
   pub within : at < length rows
   pub own : (d : Box (DocumentRow R) A) → is_same (slice_index_or rows at d).value.document document ≡ true
-
--- the count at this key becomes this one, and the others stay
-abbrev pub CountsAs : List ℕ → ℕ → BTreeMap (List ℕ) ℕ → BTreeMap (List ℕ) ℕ → Type 0
-CountsAs first count old new = (key : List ℕ) → count_in new key ≡ cond (is_same first key) count (count_in old key)

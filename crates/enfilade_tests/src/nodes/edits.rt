@@ -33,8 +33,8 @@ fn alone<P: Plane>(rt: &impl Abort, alloc: Global, row: &Row<P::Leaf>) -> List<R
 }
 
 fn add<P: Plane>(rt: &impl Abort, arena: &mut Arena<P>, children: Children<P::Leaf>) -> Node {
-    let is_right = arena.is_right(&children);
-    assert!(rt; is_right);
+    let is_well_formed = arena.is_well_formed(&children);
+    assert!(rt; is_well_formed);
     arena.add_node(children).expect(rt, "memory")
 }
 
@@ -109,8 +109,10 @@ fn is_told<P: Plane>(rt: &impl Abort, arena: &Arena<P>, root: Node) {
     let is_inner = matches!(arena.node(root), Children::Inner(_));
     assert!(rt; is_inner);
     let end = at(rt, arena.allocator(), &[2, 1]);
-    let found = arena.row_before(root, &end).expect(rt, "a row");
     let before = at(rt, arena.allocator(), &[1, 7]);
+    let Some(found) = arena.row_before(root, &end) else {
+        panic!(rt; "a row");
+    };
     assert!(rt; found.first == before);
 }
 

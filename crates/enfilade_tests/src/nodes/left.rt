@@ -1,8 +1,8 @@
-//! Edits that are asked after first: the rows that one would leave have to be right.
+//! Edits that are asked after first: the rows that one would leave have to be well formed.
 ghost use Rattle.std.specs.Prelude.{◌≡◌, ◌<◌, ◌++◌, ◌∷◌, [], map, length, false};
 ghost use Rattle.tumbler.specs.Places.{IsUpTo, comes_before};
 ghost use Rattle.enfilade_core.specs.Rows.{rows_of};
-ghost use Rattle.enfilade_core.specs.Axes.{IsRightRows};
+ghost use Rattle.enfilade_core.specs.Axes.{IsWellFormedRows};
 ghost use Rattle.enfilade_core.specs.Plain.{plain_row};
 ghost use Rattle.enfilade_core.specs.Edits.{shift_row, shifted};
 ghost use Rattle.enfilade_core.specs.Exchange.{exchanged, rows_before, rows_past};
@@ -142,15 +142,15 @@ fn ask_up_to(rt: &impl Abort, from: &Tumbler, to: &Tumbler)
 }
 
 #[tactic(auto, using(enfilade_core::proofs::AskedEdits::asked))]
-fn ask_right<P: Plane>(rt: &impl Abort, arena: &Arena<P>, rows: List<Row<P::Leaf>>)
-    ensures { IsRightRows P.widths (map (plain_row P.plain) rows.items) }
+fn ask_well_formed<P: Plane>(rt: &impl Abort, arena: &Arena<P>, rows: List<Row<P::Leaf>>)
+    ensures { IsWellFormedRows P.widths (map (plain_row P.plain) rows.items) }
 {
     let children = Children::Bottom(rows);
-    let is_right = arena.is_right(&children);
-    assert!(rt; is_right);
+    let is_well_formed = arena.is_well_formed(&children);
+    assert!(rt; is_well_formed);
 }
 
-/// Asks whether the gap is one, and whether what an exchange would leave is right.
+/// Asks whether the gap is one, and whether what an exchange would leave is well formed.
 fn ask<P: Plane>(
     rt: &impl Abort,
     arena: &Arena<P>,
@@ -160,13 +160,13 @@ fn ask<P: Plane>(
 )
     requires { root.0 < length arena.now }
     ensures up_to { IsUpTo gap.now.from gap.now.to }
-    ensures right { IsRightRows P.widths (exchanged gap.now (map (plain_row P.plain) rows.now.items) (rows_of arena.now root.0)) }
+    ensures well_formed { IsWellFormedRows P.widths (exchanged gap.now (map (plain_row P.plain) rows.now.items) (rows_of arena.now root.0)) }
 {
     ask_up_to(rt, &gap.from, &gap.to);
     let alloc = arena.allocator();
     let old = arena.rows(root).expect(rt, "memory");
     let left = left::<P>(rt, alloc, old.as_slice(), gap, rows.as_slice());
-    ask_right(rt, arena, left);
+    ask_well_formed(rt, arena, left);
 }
 
 pub(crate) fn exchange<P: Plane>(

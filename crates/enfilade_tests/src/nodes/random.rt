@@ -85,8 +85,8 @@ struct Grown {
 }
 
 fn add(rt: &impl Abort, arena: &mut Arena<TextPlane>, children: Children<u32>) -> Node {
-    let is_right = arena.is_right(&children);
-    assert!(rt; is_right);
+    let is_well_formed = arena.is_well_formed(&children);
+    assert!(rt; is_well_formed);
     arena.add_node(children).expect(rt, "memory")
 }
 

@@ -8,10 +8,10 @@ use Rattle.febe_data.specs.Validity.{IsReply}
 use Rattle.febe_reply.specs.ReplyGrammar.{spell_reply}
 use Rattle.green_io.specs.Outside.{HasRisen}
 use Rattle.world_rules.specs.Legal.{Exchange}
+use Rattle.session_generator.specs.Generated.{generated_requests}
 use Rattle.green_top.specs.declared.session_end.SessionEnd.{SessionEnd}
 use Rattle.green_top.specs.declared.session_end.SessionEnd.TheVariants as ends
 use Rattle.green_top.specs.Ends.{AllNumbersTaken}
-use Rattle.green_top.specs.Generated.{generated_requests}
 use Rattle.green_top.specs.GeneratedRun.{IsSummedSession}
 use Rattle.green_top.specs.Outcome.{NoSession, IsOver}
 use Rattle.green_top.specs.Transcript.{IsProperPrefixOf}

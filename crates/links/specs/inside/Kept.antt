@@ -1,11 +1,9 @@
 -- The links that are kept, and how many there are of each home.
-use Rattle.std.specs.Prelude.{◌≡◌, ℕ, ◌<◌, Bool, true, cond, slice_index_or, List, [], ◌∷◌, ◌++◌, ◌&&◌, if◌then◌else◌, map, filter, length, Option, Some, None}
-use Rattle.std.specs.Option.{unwrap_or}
+use Rattle.std.specs.Prelude.{◌≡◌, ℕ, ◌<◌, Bool, true, slice_index_or, List, [], ◌∷◌, ◌++◌, ◌&&◌, if◌then◌else◌, map, filter, length, Option, Some, None}
 use Rattle.std.specs.Ordering.{nat_cmp}
 use Rattle.std.specs.Cmp.Lexicographic.{slice_cmp}
 use Rattle.std.specs.List.{prefix_len}
 use Rattle.std.specs.List.Sorted.{IsStrictlySortedBy, IsPermutation}
-use Rattle.std.specs.BTreeMap as tree
 use Rattle.std.specs.BTreeMap.{BTreeMap}
 use Rattle.std.specs.declared.boxed.Box.{Box}
 use Rattle.tumbler.specs.Places.{comes_before}
@@ -13,6 +11,7 @@ use Rattle.tumbler.specs.declared.span.Span.{Span}
 use Rattle.enfilade_core.specs.declared.tree.Row.{Row}
 use Rattle.spanfilade.specs.Index.{IndexTree, rows_in_index}
 use Rattle.world_rules.specs.World.{LinkRow, is_same}
+use Rattle.world_rules.specs.Counting.{count_in}
 use Rattle.links.specs.declared.row.LinkRow as kept
 use Rattle.links.specs.declared.row.WantedEnds.{WantedEnds}
 use Rattle.links.specs.LinkLists.{plain_link, ids_in, link_in, count_of_home_in}
@@ -29,10 +28,6 @@ unboxed boxes = map shown boxes
 abbrev pub IsAscending : List (List ℕ) → Type 0
 IsAscending ids = IsStrictlySortedBy (slice_cmp nat_cmp) ids
 
--- the number that a map has at a key, or 0
-abbrev pub count_in : BTreeMap (List ℕ) ℕ → List ℕ → ℕ
-count_in counts key = unwrap_or (tree.get (slice_cmp nat_cmp) counts key) 0
-
 -- at each home is kept how many links have it
 abbrev pub HoldsCounts : List LinkRow → BTreeMap (List ℕ) ℕ → Type 0
 HoldsCounts links counts = (home : List ℕ) → count_in counts home ≡ count_of_home_in links home
@@ -46,10 +41,6 @@ pub record IsAt {A : Type 0} (id : List ℕ) (boxes : List (Box kept.LinkRow A))
   pub place : at ≡ prefix_len (is_before id) boxes
   pub within : at < length boxes
   pub own : (d : Box kept.LinkRow A) → is_same (slice_index_or boxes at d).value.id id ≡ true
-
--- the count at this key becomes this one, and the others stay
-abbrev pub CountsAs : List ℕ → ℕ → BTreeMap (List ℕ) ℕ → BTreeMap (List ℕ) ℕ → Type 0
-CountsAs first count old new = (key : List ℕ) → count_in new key ≡ cond (is_same first key) count (count_in old key)
 
 -- ---- an index that changes
 

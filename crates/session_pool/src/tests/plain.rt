@@ -1,7 +1,7 @@
 //! A value with no entries behind the lock, jobs that are numbers, and a tally that counts them.
 ghost use Rattle.std.specs.Prelude.{◌≡◌, ◌≤◌, ◌^◌, ◌-◌, [], refl};
 
-use crate::{Accept, Passes, Serve};
+use crate::{Accept, IssuePasses, Serve};
 use history_lock::{HistoryLock, Kept, Played};
 use std::alloc::Global;
 use std::sync::Wait;
@@ -101,7 +101,7 @@ impl Serve<HistoryLock<Plain>, u64> for Players {
         rt: &R,
         alloc: Global,
         lock: &HistoryLock<Plain>,
-        pass: &mut <HistoryLock<Plain> as Passes>::Pass,
+        pass: &mut <HistoryLock<Plain> as IssuePasses>::Pass,
         job: u64,
         tally: &mut u64,
     ) {

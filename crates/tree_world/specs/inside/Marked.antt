@@ -3,7 +3,7 @@ use Rattle.std.specs.Prelude.{◌≡◌, ℕ, ◌+◌, true, false, List, Some, 
 use Rattle.std.specs.List.{list_any}
 use Rattle.enfilade_core.specs.declared.tree.Node.{Node}
 use Rattle.enfilade_core.specs.Rows.{Shape}
-use Rattle.enfilade_core.specs.Standing.{tree_allows}
+use Rattle.enfilade_core.specs.BalanceState.{tree_allows}
 use Rattle.doc_table.specs.declared.rows.DocumentRow.{DocumentRow}
 use Rattle.doc_table.specs.DocumentRows.{root_in}
 use Rattle.tree_world.specs.Trees.{document_allows, is_marked}

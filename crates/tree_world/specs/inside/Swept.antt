@@ -3,7 +3,7 @@ use Rattle.std.specs.Prelude.{◌≡◌, ℕ, List, [], ◌∷◌, length, map, 
 use Rattle.enfilade_core.specs.declared.tree.Node.{Node}
 use Rattle.enfilade_core.specs.Rows.{Shape, rows_of}
 use Rattle.enfilade_core.specs.Planes.{content_widths, text_widths, key_widths}
-use Rattle.enfilade_core.specs.Standing.{tree_debt, tree_allows}
+use Rattle.enfilade_core.specs.BalanceState.{tree_debt, tree_allows}
 use Rattle.enfilade_core.specs.Summary.{depth_of}
 use Rattle.enfilade_sweep.specs.Sweep.{numbers, reached_count, unreached_count}
 use Rattle.granfilade.specs.Content.{ContentTree, tree_rows}

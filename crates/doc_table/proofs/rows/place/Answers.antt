@@ -1,7 +1,8 @@
 use Rattle.std.proofs.Common.{rules}
 use Rattle.std.proofs.lemmas.List.Sorted.{IsPartitionPoint-from_clause}
 use Rattle.doc_table.specs.inside.Kept.{is_before}
-use Rattle.doc_table.proofs.Ordered.{place_is, parted}
+use Rattle.tumbler.proofs.RowsInOrder.{place_is}
+use Rattle.doc_table.proofs.Ordered.{parted}
 use Rattle.doc_table.proofs.rows.place.Goals as goal
 
 pub returns : goal.returns

@@ -1,6 +1,18 @@
-use Rattle.enfilade_core.specs.Rows.{Branches}
-use Rattle.enfilade_balance.proofs.Rooting.{halves-right}
+use Rattle.std.proofs.Common.{◌≡◌}
+use Rattle.std.proofs.lemmas.Result.{IfOk-weaker}
+use Rattle.enfilade_core.specs.Rows.{Branches, node_at}
+use Rattle.enfilade_balance.specs.OneStep.{SplitsRoot}
+use Rattle.enfilade_balance.proofs.Rooting.{halves-well_formed, halves-root}
 use Rattle.enfilade_balance.proofs.roots.root_of_branches.Goals as goal
 
 pub root_over-requires : goal.root_over-requires
-root_over-requires g c = halves-right g.P.Plane.widths c.args.arena.now c.branches_halved.new.arena (Branches c.args.branches.now) c.in_ok-halves.halves.items c.requires.right c.in_ok-halves.ensures.halved
+root_over-requires g c = halves-well_formed g.P.Plane.widths c.args.arena.now c.branches_halved.new.arena (Branches c.args.branches.now) c.in_ok-halves.halves.items c.requires.well_formed c.in_ok-halves.ensures.halved
+
+pub returns-clause-splits : goal.returns-clause-splits
+returns-clause-splits g c =
+    let w = g.P.Plane.widths in
+    let new = c.root_over.new.arena in
+    let node = Branches c.args.branches.now in
+    let halves = c.in_ok-halves.halves.items in
+    IfOk-weaker c.root_over.result (λ root. node_at new root.0 ≡ Branches halves) (λ root. SplitsRoot w new node root.0)
+    (λ root is. halves-root w c.branches_halved.new.arena new node halves root.0 c.in_ok-halves.ensures.halved.split c.root_over.ensures.grows is) c.root_over.ensures.is

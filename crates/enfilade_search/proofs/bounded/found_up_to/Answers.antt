@@ -4,7 +4,7 @@ use Rattle.enfilade_search.proofs.UpToLimit.{tree_if_few, tree_if_many}
 use Rattle.enfilade_search.proofs.bounded.found_up_to.Goals as goal
 
 pub gather_up_to-requires : goal.gather_up_to-requires
-gather_up_to-requires g c = root_fits g.P.Plane.widths c.args.arena.now c.args.root.0 c.zero-zero.result c.allocator-alloc.ensures.right c.requires c.zero-zero.ensures
+gather_up_to-requires g c = root_fits g.P.Plane.widths c.args.arena.now c.args.root.0 c.zero-zero.result c.allocator-alloc.ensures.well_formed c.requires c.zero-zero.ensures
 
 pub returns-then-len-limit-clause-more : goal.returns-then-len-limit-clause-more
 returns-then-len-limit-clause-more g c =

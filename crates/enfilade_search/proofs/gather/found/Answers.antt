@@ -5,7 +5,7 @@ use Rattle.enfilade_search.proofs.Children.{root_fits, found_from_root}
 use Rattle.enfilade_search.proofs.gather.found.Goals as goal
 
 pub gather-requires : goal.gather-requires
-gather-requires g c = root_fits g.P.Plane.widths c.args.arena.now c.args.root.0 c.zero-zero.result c.allocator-alloc.ensures.right c.requires c.zero-zero.ensures
+gather-requires g c = root_fits g.P.Plane.widths c.args.arena.now c.args.root.0 c.zero-zero.result c.allocator-alloc.ensures.well_formed c.requires c.zero-zero.ensures
 
 pub returns : goal.returns
 returns g c =

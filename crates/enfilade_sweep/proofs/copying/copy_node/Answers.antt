@@ -2,31 +2,31 @@ use Rattle.std.proofs.Common.{◌∙◌, ◌<◌, ℕ, length, get_or, ap, sym, 
 use Rattle.std.specs.Prelude.{All}
 use Rattle.enfilade_core.specs.declared.tree.Branch.{Branch}
 use Rattle.enfilade_core.specs.Rows.{Shape, node_at, branches_under}
-use Rattle.enfilade_core.specs.Right.{IsRight}
+use Rattle.enfilade_core.specs.WellFormed.{IsWellFormed}
 use Rattle.enfilade_sweep.specs.Sweep.{renamed}
-use Rattle.enfilade_sweep.proofs.Copies.{places_there, right_there, named_alike, copied_next}
+use Rattle.enfilade_sweep.proofs.Copies.{places_there, well_formed_there, named_alike, copied_next}
 use Rattle.enfilade_sweep.proofs.copying.copy_node.Goals as goal
 
 pub add_renamed-requires-clause-there : goal.add_renamed-requires-clause-there
 add_renamed-requires-clause-there g c =
     subst (λ (node : Shape _). All (λ (branch : Branch). get_or c.args.ranks.now branch.node.0 0 < length c.args.new.now) (branches_under node)) (sym (ap (node_at c.args.old.now) c.in-Some.ensures.found.0))
-    (places_there g.P.Plane.widths c.args.marks.now c.args.old.now c.args.new.now c.args.number c.nodes_are_right.ensures c.nodes_are_right-2.ensures c.requires.closed c.requires.copied c.requires.there c.if-not-marks-number.false
+    (places_there g.P.Plane.widths c.args.marks.now c.args.old.now c.args.new.now c.args.number c.nodes_are_well_formed.ensures c.nodes_are_well_formed-2.ensures c.requires.closed c.requires.copied c.requires.there c.if-not-marks-number.false
     c.args.ranks.now c.requires.ranks c.requires.long)
 
-pub add_renamed-requires-clause-right : goal.add_renamed-requires-clause-right
-add_renamed-requires-clause-right g c =
+pub add_renamed-requires-clause-well_formed : goal.add_renamed-requires-clause-well_formed
+add_renamed-requires-clause-well_formed g c =
     let place : ℕ → ℕ = λ k. get_or c.args.ranks.now k 0 in
-    subst (IsRight g.P.Plane.widths c.args.new.now)
+    subst (IsWellFormed g.P.Plane.widths c.args.new.now)
     (sym (ap (λ (k : ℕ). renamed place (node_at c.args.old.now k)) c.in-Some.ensures.found.0
-    ∙ named_alike g.P.Plane.widths c.args.marks.now c.args.old.now c.args.new.now c.args.number c.nodes_are_right.ensures c.nodes_are_right-2.ensures c.requires.closed c.requires.copied c.requires.there c.if-not-marks-number.false
+    ∙ named_alike g.P.Plane.widths c.args.marks.now c.args.old.now c.args.new.now c.args.number c.nodes_are_well_formed.ensures c.nodes_are_well_formed-2.ensures c.requires.closed c.requires.copied c.requires.there c.if-not-marks-number.false
     c.args.ranks.now c.requires.ranks c.requires.long))
-    (right_there g.P.Plane.widths c.args.marks.now c.args.old.now c.args.new.now c.args.number c.nodes_are_right.ensures c.nodes_are_right-2.ensures c.requires.closed c.requires.copied c.requires.there c.if-not-marks-number.false)
+    (well_formed_there g.P.Plane.widths c.args.marks.now c.args.old.now c.args.new.now c.args.number c.nodes_are_well_formed.ensures c.nodes_are_well_formed-2.ensures c.requires.closed c.requires.copied c.requires.there c.if-not-marks-number.false)
 
 pub returns : goal.returns
 returns g c =
     let place : ℕ → ℕ = λ k. get_or c.args.ranks.now k 0 in
-    copied_next g.P.Plane.widths c.args.marks.now c.args.old.now c.args.new.now c.args.number c.nodes_are_right.ensures c.nodes_are_right-2.ensures c.requires.closed c.requires.copied c.requires.there c.if-not-marks-number.false _
+    copied_next g.P.Plane.widths c.args.marks.now c.args.old.now c.args.new.now c.args.number c.nodes_are_well_formed.ensures c.nodes_are_well_formed-2.ensures c.requires.closed c.requires.copied c.requires.there c.if-not-marks-number.false _
     c.add_renamed.new.new c.in_ok-add_renamed.ensures
     (ap (λ (k : ℕ). renamed place (node_at c.args.old.now k)) c.in-Some.ensures.found.0
-    ∙ named_alike g.P.Plane.widths c.args.marks.now c.args.old.now c.args.new.now c.args.number c.nodes_are_right.ensures c.nodes_are_right-2.ensures c.requires.closed c.requires.copied c.requires.there c.if-not-marks-number.false
+    ∙ named_alike g.P.Plane.widths c.args.marks.now c.args.old.now c.args.new.now c.args.number c.nodes_are_well_formed.ensures c.nodes_are_well_formed-2.ensures c.requires.closed c.requires.copied c.requires.there c.if-not-marks-number.false
     c.args.ranks.now c.requires.ranks c.requires.long)

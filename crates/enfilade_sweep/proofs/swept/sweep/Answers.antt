@@ -16,7 +16,7 @@ renamed_roots-requires-clause-there g c =
     let copied = subst (λ (ms : List Bool). AreCopied ms old c.in_ok-new.new (length old)) c.as_slice-3.ensures.value c.in_ok-new.ensures in
     subst (λ (rs : List ℕ). All (λ (root : Node). get_or rs root.0 0 < length c.in_ok-new.new) c.as_slice-6.result.now) (sym c.as_slice-5.ensures.value)
     (roots_there c.as_slice-6.result.now c.in_ok-marks.marks.items c.in_ok-ranks.ranks.items (length c.in_ok-new.new) marked.rooted
-    (root_there g.P.Plane.widths old c.in_ok-new.new (numbers c.as_slice-6.result.now) c.in_ok-marks.marks.items c.in_ok-ranks.ranks.items c.nodes_are_right.ensures c.nodes_are_right-2.ensures marked exact copied))
+    (root_there g.P.Plane.widths old c.in_ok-new.new (numbers c.as_slice-6.result.now) c.in_ok-marks.marks.items c.in_ok-ranks.ranks.items c.nodes_are_well_formed.ensures c.nodes_are_well_formed-2.ensures marked exact copied))
 
 pub returns-clause-swept : goal.returns-clause-swept
 returns-clause-swept g c =
@@ -24,7 +24,7 @@ returns-clause-swept g c =
     let marked = subst (λ (rs : List Node). AreMarked old (numbers rs) c.in_ok-marks.marks.items 0) c.as_slice.ensures c.in_ok-marks.ensures in
     let exact = subst (λ (ms : List Bool). AreRanks ms c.in_ok-ranks.ranks.items) c.as_slice-2.ensures.value c.in_ok-ranks.ensures in
     let copied = subst (λ (ms : List Bool). AreCopied ms old c.in_ok-new.new (length old)) c.as_slice-3.ensures.value c.in_ok-new.ensures in
-    is_swept g.P.Plane.widths old c.in_ok-new.new (numbers c.args.roots.now.items) c.in_ok-marks.marks.items c.in_ok-ranks.ranks.items c.nodes_are_right.ensures c.nodes_are_right-2.ensures marked exact copied (numbers c.in_ok-roots.roots.items)
+    is_swept g.P.Plane.widths old c.in_ok-new.new (numbers c.args.roots.now.items) c.in_ok-marks.marks.items c.in_ok-ranks.ranks.items c.nodes_are_well_formed.ensures c.nodes_are_well_formed-2.ensures marked exact copied (numbers c.in_ok-roots.roots.items)
     (c.in_ok-roots.ensures ∙ ap (λ (rs : List ℕ). map (λ k. get_or rs k 0) (numbers c.as_slice-6.result.now)) c.as_slice-5.ensures.value ∙ ap (λ (rs : List Node). map (λ k. get_or c.in_ok-ranks.ranks.items k 0) (numbers rs)) c.as_slice-6.ensures)
 
 pub returns-clause-rows : goal.returns-clause-rows
@@ -33,7 +33,7 @@ returns-clause-rows g c =
     let marked = subst (λ (rs : List Node). AreMarked old (numbers rs) c.in_ok-marks.marks.items 0) c.as_slice.ensures c.in_ok-marks.ensures in
     let exact = subst (λ (ms : List Bool). AreRanks ms c.in_ok-ranks.ranks.items) c.as_slice-2.ensures.value c.in_ok-ranks.ensures in
     let copied = subst (λ (ms : List Bool). AreCopied ms old c.in_ok-new.new (length old)) c.as_slice-3.ensures.value c.in_ok-new.ensures in
-    same_rows g.P.Plane.widths old c.in_ok-new.new (numbers c.args.roots.now.items) c.in_ok-marks.marks.items c.in_ok-ranks.ranks.items c.nodes_are_right.ensures c.nodes_are_right-2.ensures marked exact copied (numbers c.in_ok-roots.roots.items)
+    same_rows g.P.Plane.widths old c.in_ok-new.new (numbers c.args.roots.now.items) c.in_ok-marks.marks.items c.in_ok-ranks.ranks.items c.nodes_are_well_formed.ensures c.nodes_are_well_formed-2.ensures marked exact copied (numbers c.in_ok-roots.roots.items)
     (c.in_ok-roots.ensures ∙ ap (λ (rs : List ℕ). map (λ k. get_or rs k 0) (numbers c.as_slice-6.result.now)) c.as_slice-5.ensures.value ∙ ap (λ (rs : List Node). map (λ k. get_or c.in_ok-ranks.ranks.items k 0) (numbers rs)) c.as_slice-6.ensures)
 
 pub returns-clause-debts : goal.returns-clause-debts
@@ -42,7 +42,7 @@ returns-clause-debts g c =
     let marked = subst (λ (rs : List Node). AreMarked old (numbers rs) c.in_ok-marks.marks.items 0) c.as_slice.ensures c.in_ok-marks.ensures in
     let exact = subst (λ (ms : List Bool). AreRanks ms c.in_ok-ranks.ranks.items) c.as_slice-2.ensures.value c.in_ok-ranks.ensures in
     let copied = subst (λ (ms : List Bool). AreCopied ms old c.in_ok-new.new (length old)) c.as_slice-3.ensures.value c.in_ok-new.ensures in
-    same_debts g.P.Plane.widths old c.in_ok-new.new (numbers c.args.roots.now.items) c.in_ok-marks.marks.items c.in_ok-ranks.ranks.items c.nodes_are_right.ensures c.nodes_are_right-2.ensures marked exact copied (numbers c.in_ok-roots.roots.items)
+    same_debts g.P.Plane.widths old c.in_ok-new.new (numbers c.args.roots.now.items) c.in_ok-marks.marks.items c.in_ok-ranks.ranks.items c.nodes_are_well_formed.ensures c.nodes_are_well_formed-2.ensures marked exact copied (numbers c.in_ok-roots.roots.items)
     (c.in_ok-roots.ensures ∙ ap (λ (rs : List ℕ). map (λ k. get_or rs k 0) (numbers c.as_slice-6.result.now)) c.as_slice-5.ensures.value ∙ ap (λ (rs : List Node). map (λ k. get_or c.in_ok-ranks.ranks.items k 0) (numbers rs)) c.as_slice-6.ensures)
 
 pub returns-clause-allowed : goal.returns-clause-allowed
@@ -51,7 +51,7 @@ returns-clause-allowed g c =
     let marked = subst (λ (rs : List Node). AreMarked old (numbers rs) c.in_ok-marks.marks.items 0) c.as_slice.ensures c.in_ok-marks.ensures in
     let exact = subst (λ (ms : List Bool). AreRanks ms c.in_ok-ranks.ranks.items) c.as_slice-2.ensures.value c.in_ok-ranks.ensures in
     let copied = subst (λ (ms : List Bool). AreCopied ms old c.in_ok-new.new (length old)) c.as_slice-3.ensures.value c.in_ok-new.ensures in
-    same_allowed g.P.Plane.widths old c.in_ok-new.new (numbers c.args.roots.now.items) c.in_ok-marks.marks.items c.in_ok-ranks.ranks.items c.nodes_are_right.ensures c.nodes_are_right-2.ensures marked exact copied (numbers c.in_ok-roots.roots.items)
+    same_allowed g.P.Plane.widths old c.in_ok-new.new (numbers c.args.roots.now.items) c.in_ok-marks.marks.items c.in_ok-ranks.ranks.items c.nodes_are_well_formed.ensures c.nodes_are_well_formed-2.ensures marked exact copied (numbers c.in_ok-roots.roots.items)
     (c.in_ok-roots.ensures ∙ ap (λ (rs : List ℕ). map (λ k. get_or rs k 0) (numbers c.as_slice-6.result.now)) c.as_slice-5.ensures.value ∙ ap (λ (rs : List Node). map (λ k. get_or c.in_ok-ranks.ranks.items k 0) (numbers rs)) c.as_slice-6.ensures)
 
 pub returns-clause-depths : goal.returns-clause-depths
@@ -60,7 +60,7 @@ returns-clause-depths g c =
     let marked = subst (λ (rs : List Node). AreMarked old (numbers rs) c.in_ok-marks.marks.items 0) c.as_slice.ensures c.in_ok-marks.ensures in
     let exact = subst (λ (ms : List Bool). AreRanks ms c.in_ok-ranks.ranks.items) c.as_slice-2.ensures.value c.in_ok-ranks.ensures in
     let copied = subst (λ (ms : List Bool). AreCopied ms old c.in_ok-new.new (length old)) c.as_slice-3.ensures.value c.in_ok-new.ensures in
-    same_depths g.P.Plane.widths old c.in_ok-new.new (numbers c.args.roots.now.items) c.in_ok-marks.marks.items c.in_ok-ranks.ranks.items c.nodes_are_right.ensures c.nodes_are_right-2.ensures marked exact copied (numbers c.in_ok-roots.roots.items)
+    same_depths g.P.Plane.widths old c.in_ok-new.new (numbers c.args.roots.now.items) c.in_ok-marks.marks.items c.in_ok-ranks.ranks.items c.nodes_are_well_formed.ensures c.nodes_are_well_formed-2.ensures marked exact copied (numbers c.in_ok-roots.roots.items)
     (c.in_ok-roots.ensures ∙ ap (λ (rs : List ℕ). map (λ k. get_or rs k 0) (numbers c.as_slice-6.result.now)) c.as_slice-5.ensures.value ∙ ap (λ (rs : List Node). map (λ k. get_or c.in_ok-ranks.ranks.items k 0) (numbers rs)) c.as_slice-6.ensures)
 
 pub returns-clause-reached : goal.returns-clause-reached
@@ -71,8 +71,8 @@ returns-clause-count g c =
     let old = c.args.old.now in
     let marked = subst (λ (rs : List Node). AreMarked old (numbers rs) c.in_ok-marks.marks.items 0) c.as_slice.ensures c.in_ok-marks.ensures in
     let copied = subst (λ (ms : List Bool). AreCopied ms old c.in_ok-new.new (length old)) c.as_slice-3.ensures.value c.in_ok-new.ensures in
-    copied.long ∙ marked_count old (numbers c.args.roots.now.items) (hangs_before g.P.Plane.widths old c.nodes_are_right.ensures) c.in_ok-marks.marks.items marked.long marked.sound (reached_marked old (numbers c.args.roots.now.items) c.in_ok-marks.marks.items marked)
+    copied.long ∙ marked_count old (numbers c.args.roots.now.items) (hangs_before g.P.Plane.widths old c.nodes_are_well_formed.ensures) c.in_ok-marks.marks.items marked.long marked.sound (reached_marked old (numbers c.args.roots.now.items) c.in_ok-marks.marks.items marked)
 
 pub returns-clause-none_left : goal.returns-clause-none_left
 returns-clause-none_left g c =
-    none_unreached c.in_ok-new.new (numbers c.in_ok-roots.roots.items) (hangs_before g.P.Plane.widths c.in_ok-new.new c.nodes_are_right-2.ensures) (returns-clause-reached g c)
+    none_unreached c.in_ok-new.new (numbers c.in_ok-roots.roots.items) (hangs_before g.P.Plane.widths c.in_ok-new.new c.nodes_are_well_formed-2.ensures) (returns-clause-reached g c)

@@ -5,4 +5,4 @@ use Rattle.entry_fits.specs.Fits.{SpecFits}
 use Rattle.entry_fits.proofs.picking.specs_fit.Given as goal
 
 abbrev pub invariant-loop-spec : goal.invariant-loop-spec
-invariant-loop-spec g l = (view : FlatView) → g.W.Lookups.stands l.world view → All (SpecFits view.world) (map plain_spec (take l.spec-index l.specs))
+invariant-loop-spec g l = (view : FlatView) → g.W.LookUp.stands l.world view → All (SpecFits view.world) (map plain_spec (take l.spec-index l.specs))

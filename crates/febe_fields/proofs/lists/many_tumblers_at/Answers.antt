@@ -10,7 +10,7 @@ returns-in_default c =
 
 pub loop-preserved : goal.loop-preserved
 loop-preserved c = record {
-  so_far = rw c.push_reserved.ensures.items (one_more tumbler_at c.loop.tumblers.items c.args.count c.loop.counter c.loop.rest.now c.in-Some.tumbler c.in-Some.behind.now _ c.loop-test.true c.in-Some.ensures c.loop.invariant.so_far);
+  so_far = rw c.push_reserved.ensures.items (one_more tumbler_at c.loop.tumblers.items c.args.count c.loop.counter c.loop.rest.now _ _ _ c.loop-test.true c.in-Some.ensures c.loop.invariant.so_far);
   room = grind (arith, common_steps);
 }
 

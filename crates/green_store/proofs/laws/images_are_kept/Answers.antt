@@ -2,7 +2,7 @@ use Rattle.std.proofs.Common.{inl, inr, refl, subst, List, Option, None, Some}
 use Rattle.febe_data.specs.Plain.{PlainEntry, plain_history}
 use Rattle.green_io.specs.Areas.{Areas}
 use Rattle.green_io.specs.Disk.{DiskState, images_now}
-use Rattle.world_rules.specs.History.{kept}
+use Rattle.world_rules.specs.History.{durable_entries}
 use Rattle.edit_log.specs.Images.{IsOpen, IsPending, IsMendable, HoldsEither}
 use Rattle.edit_log.specs.Log.{IsWhole}
 use Rattle.edit_log.specs.LogView.{LogView}
@@ -23,8 +23,8 @@ holds disk log entries image opened pends (Some entry) has = either entries entr
 pub returns : goal.returns
 returns g c =
     let disk = g.D.Disk.state c.args.disk.now in
-    let entries = kept (plain_history c.store.inside.history.items) in
-    subst (λ (v : StoreView). (pending : Option PlainEntry) → Keeps disk v pending → (image : Areas) → images_now disk image → HoldsWith (kept v.history) (IsThat pending) image)
+    let entries = durable_entries (plain_history c.store.inside.history.items) in
+    subst (λ (v : StoreView). (pending : Option PlainEntry) → Keeps disk v pending → (image : Areas) → images_now disk image → HoldsWith (durable_entries v.history) (IsThat pending) image)
     c.store.view_is
     (λ pending has image is.
     holds disk c.store.inside.log entries image (λ opened. c.open_is_whole.ensures entries c.store.invariant.entries opened image is)

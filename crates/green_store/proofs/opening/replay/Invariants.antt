@@ -8,7 +8,7 @@ use Rattle.green_store.proofs.opening.replay.Given as goal
 
 abbrev pub invariant-loop-count : goal.invariant-loop-count
 invariant-loop-count g l = record {
-  stood : g.W.Lookups.stands l.world (view_of (plain_history (take l.count l.entries)));
+  stood : g.W.LookUp.stands l.world (view_of (plain_history (take l.count l.entries)));
   serials : AreSerialsOf (plain_history (take l.count l.entries)) l.serials;
   fit : AllFit [] (plain_history (take l.count l.entries));
 }

@@ -14,7 +14,7 @@ returns-in-WriteFault-clause-round g c =
       handled.0,
       (
         (plain_request c.in-Ok-Some.request, asked _ _ _ handled.0 _ _ _ c.in-WriteFault.is _ _ _ _ _ _ _ _ _ _ _ refl refl (rw c.in-Ok-Some.field-0-is at c.in-Ok-Some.ensures.next) handled.1),
-        live_still (g.P.Plays.seen c.answer_one-put.new.first c.answer_one-put.new.second) (g.P.Plays.seen c.answer_one-put.new.first c.answer_one-put.new.second) _ _ _ refl (sym one.number) one.live,
+        live_still (g.P.PlaySession.seen c.answer_one-put.new.first c.answer_one-put.new.second) (g.P.PlaySession.seen c.answer_one-put.new.first c.answer_one-put.new.second) _ _ _ refl (sym one.number) one.live,
       ),
       handled.2,
     )
@@ -26,7 +26,7 @@ returns-in-Memory-clause-round g c =
       handled.0,
       (
         inr (plain_request c.in-Ok-Some.request, asked _ _ _ handled.0 _ _ _ c.in-Memory.is _ _ _ _ _ _ _ _ _ _ _ refl refl (rw c.in-Ok-Some.field-0-is at c.in-Ok-Some.ensures.next) handled.1),
-        live_still (g.P.Plays.seen c.answer_one-put.new.first c.answer_one-put.new.second) (g.P.Plays.seen c.answer_one-put.new.first c.answer_one-put.new.second) _ _ _ refl (sym one.number) one.live,
+        live_still (g.P.PlaySession.seen c.answer_one-put.new.first c.answer_one-put.new.second) (g.P.PlaySession.seen c.answer_one-put.new.first c.answer_one-put.new.second) _ _ _ refl (sym one.number) one.live,
       ),
       handled.2,
     )

@@ -1,7 +1,7 @@
 use Rattle.std.proofs.Common.{[], refl, sym, subst, inl, Result}
 use Rattle.febe_wire.specs.Sessions.{IsInputOf}
+use Rattle.session_generator.specs.Generated.{generated_requests}
 use Rattle.green_top.specs.declared.session_end.SessionEnd.{SessionEnd}
-use Rattle.green_top.specs.Generated.{generated_requests}
 use Rattle.green_top.specs.inside.Summing.{IsInnerRun}
 use Rattle.green_top.proofs.Endurings.{endures_nothing}
 use Rattle.green_top.proofs.Generateds.{can_end, inner_run}

@@ -8,7 +8,7 @@ pub returns-in-WriteFault-clause-conversed : goal.returns-in-WriteFault-clause-c
 returns-in-WriteFault-clause-conversed g c = ([], greeting_fails _ _ _ _ _ _ _ _ _ _ _ _ _ c.requires.begun c.in-WriteFault.ensures.put, chain_nothing _ _ _ _)
 
 pub returns-in-WriteFault-clause-live : goal.returns-in-WriteFault-clause-live
-returns-in-WriteFault-clause-live g c = still_live (g.P.Plays.limits c.args.first.now) _ _ _ _ _ _ _ (g.K.Sink.taken c.args.sink.now) (g.K.Sink.taken c.args.sink.now) _ (g.K.Sink.fault_count c.args.sink.now) _ c.requires.begun
+returns-in-WriteFault-clause-live g c = still_live (g.P.PlaySession.limits c.args.first.now) _ _ _ _ _ _ _ (g.K.Sink.taken c.args.sink.now) (g.K.Sink.taken c.args.sink.now) _ (g.K.Sink.fault_count c.args.sink.now) _ c.requires.begun
 
 pub loop-closing-init : goal.loop-closing-init
 loop-closing-init g c = record {
@@ -45,5 +45,5 @@ returns-in-Some g c =
       limits = next.limits ∙ now.limits;
       number = next.number ∙ now.number;
       conversed = (so_far.0 ++ next.round.0, comes_to_under _ _ now.limits _ _ now.number _ _ _ _ _ so_far.1 c.in-Some.closing.end next.round.1.0, chain_both _ _ _ _ _ _ _ so_far.2 _ _ _ next.round.2);
-      live = live_still (g.P.Plays.seen c.answer_next-closing.new.first c.answer_next-closing.new.second) (g.P.Plays.seen c.answer_next-closing.new.first c.answer_next-closing.new.second) _ _ _ refl next.number next.round.1.1;
+      live = live_still (g.P.PlaySession.seen c.answer_next-closing.new.first c.answer_next-closing.new.second) (g.P.PlaySession.seen c.answer_next-closing.new.first c.answer_next-closing.new.second) _ _ _ refl next.number next.round.1.1;
     }

@@ -7,14 +7,14 @@ use Rattle.green_top.proofs.session.converse.Given as goal
 
 abbrev pub invariant-loop-closing : goal.invariant-loop-closing
 invariant-loop-closing g l = record {
-  ready : g.P.Plays.ready l.player l.first l.second;
-  limits : g.P.Plays.limits l.first ≡ g.P.Plays.limits l.fn.first;
-  number : g.P.Plays.number l.first ≡ g.P.Plays.number l.fn.first;
+  ready : g.P.PlaySession.ready l.player l.first l.second;
+  limits : g.P.PlaySession.limits l.first ≡ g.P.PlaySession.limits l.fn.first;
+  number : g.P.PlaySession.number l.first ≡ g.P.PlaySession.number l.fn.first;
   so_far : (exchanges : List Exchange)
-      × IsConversing (g.P.Plays.limits l.fn.first) (g.P.Plays.number l.fn.first)
-      (state_by g.P.Plays.seen g.P.Plays.faults g.S.Source.left g.S.Source.fault_count g.K.Sink.taken g.K.Sink.fault_count l.fn.first l.fn.second l.fn.source l.fn.sink l.fn.talk)
-      (state_by g.P.Plays.seen g.P.Plays.faults g.S.Source.left g.S.Source.fault_count g.K.Sink.taken g.K.Sink.fault_count l.first l.second l.source l.sink l.talk) exchanges
-      × Chain g.P.Plays.tells g.P.Plays.tended l.fn.first l.fn.second exchanges l.first l.second;
+      × IsConversing (g.P.PlaySession.limits l.fn.first) (g.P.PlaySession.number l.fn.first)
+      (state_by g.P.PlaySession.seen g.P.PlaySession.faults g.S.Source.left g.S.Source.fault_count g.K.Sink.taken g.K.Sink.fault_count l.fn.first l.fn.second l.fn.source l.fn.sink l.fn.talk)
+      (state_by g.P.PlaySession.seen g.P.PlaySession.faults g.S.Source.left g.S.Source.fault_count g.K.Sink.taken g.K.Sink.fault_count l.first l.second l.source l.sink l.talk) exchanges
+      × Chain g.P.PlaySession.tells g.P.PlaySession.tended l.fn.first l.fn.second exchanges l.first l.second;
 }
 
 abbrev pub decreases-loop-closing : goal.decreases-loop-closing

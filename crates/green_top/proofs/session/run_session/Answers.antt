@@ -12,7 +12,7 @@ converse-end-requires-clause-begun g c =
     let begun = c.in-Begun.ensures.begins in
     record {
       greeted = record { greeted = c.requires.greeted.greeted; place = c.requires.greeted.place; turns_are = c.requires.greeted.turns_are; within = c.requires.greeted.within };
-      opened = g.P.Plays.seen c.args.first.now c.args.second.now ++ begun.past;
+      opened = g.P.PlaySession.seen c.args.first.now c.args.second.now ++ begun.past;
       begins = begins_at _ _ _ begun;
       no_points = c.requires.no_points;
     }
@@ -38,12 +38,12 @@ returns-then-over-clause-session g c =
     let begun = c.in-Begun.ensures in
     let conv = c.converse-end.ensures in
     let dead : c.converse-end.result.live ≡ false = c.if-over.true in
-    let h = g.P.Plays.seen c.converse-end.new.first c.converse-end.new.second in (
+    let h = g.P.PlaySession.seen c.converse-end.new.first c.converse-end.new.second in (
       conv.conversed.0,
       ends_over_under _ _ begun.limits _ _ conv.number
-          (state_by g.P.Plays.seen g.P.Plays.faults g.S.Source.left g.S.Source.fault_count g.K.Sink.taken g.K.Sink.fault_count c.args.first.now c.args.second.now c.args.source.now c.args.sink.now c.args.talk.now)
-          (state_by g.P.Plays.seen g.P.Plays.faults g.S.Source.left g.S.Source.fault_count g.K.Sink.taken g.K.Sink.fault_count c.converse-end.new.first c.converse-end.new.second c.converse-end.new.source c.converse-end.new.sink c.converse-end.new.talk)
-          (g.P.Plays.seen c.begin.new.first c.begin.new.second) (g.P.Plays.faults c.begin.new.first c.begin.new.second) (g.P.Plays.faults c.converse-end.new.first c.converse-end.new.second) begun.never_falls (le_refl _) begun.begins _ conv.conversed.0 conv.conversed.1
+          (state_by g.P.PlaySession.seen g.P.PlaySession.faults g.S.Source.left g.S.Source.fault_count g.K.Sink.taken g.K.Sink.fault_count c.args.first.now c.args.second.now c.args.source.now c.args.sink.now c.args.talk.now)
+          (state_by g.P.PlaySession.seen g.P.PlaySession.faults g.S.Source.left g.S.Source.fault_count g.K.Sink.taken g.K.Sink.fault_count c.converse-end.new.first c.converse-end.new.second c.converse-end.new.source c.converse-end.new.sink c.converse-end.new.talk)
+          (g.P.PlaySession.seen c.begin.new.first c.begin.new.second) (g.P.PlaySession.faults c.begin.new.first c.begin.new.second) (g.P.PlaySession.faults c.converse-end.new.first c.converse-end.new.second) begun.never_falls (le_refl _) begun.begins _ conv.conversed.0 conv.conversed.1
           (live_still h h _ _ _ refl (sym conv.number) (conv.live ∙ dead)),
       inr (record {
         begun = c.begin.new.first;
@@ -62,13 +62,13 @@ returns-clause-session g c =
     let begun = c.in-Begun.ensures in
     let conv = c.converse-end.ensures in
     let alive : c.converse-end.result.live ≡ true = c.if-over.false in
-    let h = g.P.Plays.seen c.converse-end.new.first c.converse-end.new.second in
-    let after = g.P.Plays.seen c.end.new.first c.end.new.second in (
+    let h = g.P.PlaySession.seen c.converse-end.new.first c.converse-end.new.second in
+    let after = g.P.PlaySession.seen c.end.new.first c.end.new.second in (
       conv.conversed.0,
       ends_live_under _ _ begun.limits _ _ (c.end.ensures.number ∙ conv.number)
-          (state_by g.P.Plays.seen g.P.Plays.faults g.S.Source.left g.S.Source.fault_count g.K.Sink.taken g.K.Sink.fault_count c.args.first.now c.args.second.now c.args.source.now c.args.sink.now c.args.talk.now)
-          (state_by g.P.Plays.seen g.P.Plays.faults g.S.Source.left g.S.Source.fault_count g.K.Sink.taken g.K.Sink.fault_count c.converse-end.new.first c.converse-end.new.second c.converse-end.new.source c.converse-end.new.sink c.converse-end.new.talk)
-          (g.P.Plays.seen c.begin.new.first c.begin.new.second) (g.P.Plays.faults c.begin.new.first c.begin.new.second) (g.P.Plays.faults c.end.new.first c.end.new.second) begun.never_falls c.end.ensures.never_falls begun.begins _ conv.conversed.0 conv.conversed.1 after
+          (state_by g.P.PlaySession.seen g.P.PlaySession.faults g.S.Source.left g.S.Source.fault_count g.K.Sink.taken g.K.Sink.fault_count c.args.first.now c.args.second.now c.args.source.now c.args.sink.now c.args.talk.now)
+          (state_by g.P.PlaySession.seen g.P.PlaySession.faults g.S.Source.left g.S.Source.fault_count g.K.Sink.taken g.K.Sink.fault_count c.converse-end.new.first c.converse-end.new.second c.converse-end.new.source c.converse-end.new.sink c.converse-end.new.talk)
+          (g.P.PlaySession.seen c.begin.new.first c.begin.new.second) (g.P.PlaySession.faults c.begin.new.first c.begin.new.second) (g.P.PlaySession.faults c.end.new.first c.end.new.second) begun.never_falls c.end.ensures.never_falls begun.begins _ conv.conversed.0 conv.conversed.1 after
           (live_still h h _ _ _ refl (sym conv.number) (conv.live ∙ alive)) (subst (λ (n : ℕ). EndsAt n h after) conv.number c.end.ensures.ends),
       inr (record {
         begun = c.begin.new.first;

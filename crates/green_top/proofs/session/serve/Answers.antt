@@ -15,4 +15,4 @@ returns-clause-run g c =
 
 pub run_session-end-requires-clause-greeted : goal.run_session-end-requires-clause-greeted
 run_session-end-requires-clause-greeted g c =
-    greets (g.P.Plays.limits c.args.first.now) (g.P.Plays.number c.args.first.now) c.requires.unnumbered _ _ _ _ _ _ _ _ _ _ _ c.new-feed.ensures c.new-turns.ensures _ _ (rw c.in-Ok-None.field-0-is at c.in-Ok-None.ensures.next)
+    greets (g.P.PlaySession.limits c.args.first.now) (g.P.PlaySession.number c.args.first.now) c.requires.unnumbered _ _ _ _ _ _ _ _ _ _ _ c.new-feed.ensures c.new-turns.ensures _ _ (rw c.in-Ok-None.field-0-is at c.in-Ok-None.ensures.next)

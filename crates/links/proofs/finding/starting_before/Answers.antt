@@ -2,7 +2,7 @@ use Rattle.std.proofs.Common.{rules}
 use Rattle.std.proofs.lemmas.List.Sorted.{IsPartitionPoint-from_clause}
 use Rattle.tumbler.specs.Places.{comes_before}
 use Rattle.tumbler.specs.declared.span.Span.{Span}
-use Rattle.links.proofs.Ordered.{place_is}
+use Rattle.tumbler.proofs.RowsInOrder.{place_is}
 use Rattle.links.proofs.LastMet.{starts_parted}
 use Rattle.links.proofs.finding.starting_before.Goals as goal
 

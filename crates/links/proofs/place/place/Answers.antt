@@ -1,7 +1,8 @@
 use Rattle.std.proofs.Common.{rules}
 use Rattle.std.proofs.lemmas.List.Sorted.{IsPartitionPoint-from_clause}
 use Rattle.links.specs.inside.Kept.{is_before}
-use Rattle.links.proofs.Ordered.{place_is, parted}
+use Rattle.tumbler.proofs.RowsInOrder.{place_is}
+use Rattle.links.proofs.Ordered.{parted}
 use Rattle.links.proofs.place.place.Goals as goal
 
 pub returns : goal.returns

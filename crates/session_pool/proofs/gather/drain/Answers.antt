@@ -8,8 +8,8 @@ loop-preserved g c =
       c.serve_one.ensures.same_lock,
       c.in-Some-left_over.ensures.channel,
       ap (λ h. h.parts) taken ∙ c.loop.invariant.2,
-      λ given v s. stands_taken g.L.Passes.owner v _ _ one.0 given _ _ _ _ (c.loop.invariant.3 given v s) taken one.1 c.serve_one.ensures.counted,
+      λ given v s. stands_taken g.L.IssuePasses.owner v _ _ one.0 given _ _ _ _ (c.loop.invariant.3 given v s) taken one.1 c.serve_one.ensures.counted,
     )
 
 pub returns-in-None-left_over-clause-all : goal.returns-in-None-left_over-clause-all
-returns-in-None-left_over-clause-all g c given v s = stands_hand g.L.Passes.owner v _ given _ _ _ c.in-None-left_over.ensures.taken.0 (c.loop.invariant.3 given v s)
+returns-in-None-left_over-clause-all g c given v s = stands_hand g.L.IssuePasses.owner v _ given _ _ _ c.in-None-left_over.ensures.taken.0 (c.loop.invariant.3 given v s)

@@ -6,7 +6,7 @@ use Rattle.session_pool.specs.inside.Work.{GoesOn}
 use Rattle.session_pool.proofs.gather.drain.Given as goal
 
 abbrev pub invariant-loop : goal.invariant-loop
-invariant-loop g l = let L = g.L.Passes in let W = g.W.Serve in
+invariant-loop g l = let L = g.L.IssuePasses in let W = g.W.Serve in
     L.is_of l.fn.lock l.pass
     × IsSeatAt (receives_on l.fn.from) l.seat
     × ((view l.seat).parts ≡ all_parts)

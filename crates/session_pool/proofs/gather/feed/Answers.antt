@@ -8,4 +8,4 @@ loop-preserved g c =
     (own.placed, own.parts ∙ c.loop.invariant.1, λ v s. own.one _ _ c.in-Some-next_given.ensures.given.0 v (c.loop.invariant.2 v s))
 
 pub returns-in-None-next_given-clause-all : goal.returns-in-None-next_given-clause-all
-returns-in-None-next_given-clause-all g c v s = stands_same g.L.Passes.owner v _ _ _ _ _ c.in-None-next_given.ensures.given (c.loop.invariant.2 v s)
+returns-in-None-next_given-clause-all g c v s = stands_same g.L.IssuePasses.owner v _ _ _ _ _ c.in-None-next_given.ensures.given (c.loop.invariant.2 v s)

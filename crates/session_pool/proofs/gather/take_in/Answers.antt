@@ -11,4 +11,4 @@ pub returns-clause-parts : goal.returns-clause-parts
 returns-clause-parts g c = ap (λ h. h.parts) c.absorb.ensures.rule ∙ ap (λ n. (view c.args.own.seat).parts + n) c.requires.worked.parts
 
 pub returns-clause-all : goal.returns-clause-all
-returns-clause-all g c given v s = stands_both g.L.Passes.owner v _ _ _ given _ _ _ _ _ _ s c.requires.worked c.end.ensures.taken_in c.add.ensures c.absorb.ensures.rule
+returns-clause-all g c given v s = stands_both g.L.IssuePasses.owner v _ _ _ given _ _ _ _ _ _ s c.requires.worked c.end.ensures.taken_in c.add.ensures c.absorb.ensures.rule

@@ -10,8 +10,8 @@ drain-requires-clause-placed g c =
 
 pub returns-clause-pooled : goal.returns-clause-pooled
 returns-clause-pooled g c =
-    let begun = stands_begun g.L.Passes.owner (g.L.Passes.knows c.args.own.pass) (g.L.Passes.knows c.args.own.pass) _ _ _ refl c.requires.given c.requires.count c.requires.seat in
+    let begun = stands_begun g.L.IssuePasses.owner (g.L.IssuePasses.knows c.args.own.pass) (g.L.IssuePasses.knows c.args.own.pass) _ _ _ refl c.requires.given c.requires.count c.requires.seat in
     let gone = c.run_workers-accept.ensures.all _ begun in
     let drained = c.drain.ensures.all _ _ gone in
-    let pooled = stands_pooled g.L.Passes.owner _ _ _ _ _ drained c.drain.ensures.even in
-    pooled_same g.L.Passes.owner _ _ _ _ _ (search rules) pooled
+    let pooled = stands_pooled g.L.IssuePasses.owner _ _ _ _ _ drained c.drain.ensures.even in
+    pooled_same g.L.IssuePasses.owner _ _ _ _ _ (search rules) pooled

@@ -7,7 +7,7 @@ pub take_in-requires-clause-other : goal.take_in-requires-clause-other
 take_in-requires-clause-other g c =
     let joined = c.join.ensures.0 in
     record {
-      lock = subst (λ k. g.L.Passes.is_of k c.join.result.pass) c.requires.handle.0 joined.lock;
+      lock = subst (λ k. g.L.IssuePasses.is_of k c.join.result.pass) c.requires.handle.0 joined.lock;
       channel = subst (λ k. IsSeatAt k c.join.result.seat) (ap receives_on c.requires.handle.1 ∙ c.requires.ends) joined.channel;
     }
 

@@ -11,7 +11,7 @@ loop-span-preserved c = (
   c.in_ok-root.ensures.below,
   grows_again c.args.arena.now c.loop-span.arena c.take_span.new.arena c.loop-span.invariant.1 c.take_span.ensures.grows,
   keeps_again c.args.arena.now c.loop-span.arena c.take_span.new.arena c.loop-span.invariant.1 c.loop-span.invariant.2 c.take_span.ensures.kept,
-  c.in_ok-root.ensures.right,
+  c.in_ok-root.ensures.well_formed,
   c.in_ok-root.ensures.fits,
   rows_more c.args.spans.now c.args.key.now c.loop-span.span-index c.span-item.result (rows_of c.args.arena.now c.args.root.0) (c.loop-span.group.items ++ rows_of c.loop-span.arena c.loop-span.root.0) (c.take_span.new.group.items ++ rows_of c.take_span.new.arena c.in_ok-root.root.0)
       c.loop-span-test.true c.span-item.is c.loop-span.invariant.5 c.in_ok-root.ensures.rows,
@@ -23,4 +23,4 @@ returns-clause-rows c =
     c.in_ok-made.ensures.rows
 
 pub returns-clause-ordered : goal.returns-clause-ordered
-returns-clause-ordered c = rows-ordered key_widths c.put_group.new.arena c.in_ok-made.made.0 c.allocator-right.ensures.right c.in_ok-made.ensures.below
+returns-clause-ordered c = rows-ordered key_widths c.put_group.new.arena c.in_ok-made.made.0 c.allocator-well_formed.ensures.well_formed c.in_ok-made.ensures.below

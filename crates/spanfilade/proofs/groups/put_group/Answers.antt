@@ -1,21 +1,21 @@
 use Rattle.std.proofs.Common.{◌∙◌, sym, subst}
 use Rattle.std.specs.List.{All}
 use Rattle.enfilade_core.specs.Rows.{rows_of}
-use Rattle.enfilade_core.specs.Axes.{IsRightRow, InOrder}
+use Rattle.enfilade_core.specs.Axes.{IsWellFormedRow, InOrder}
 use Rattle.enfilade_core.specs.Planes.{key_widths}
 use Rattle.enfilade_core.proofs.Parts.{rows-ordered}
 use Rattle.spanfilade.proofs.Rows.{plain_rows}
 use Rattle.spanfilade.proofs.GroupRows.{held_at, with_group-ordered}
 use Rattle.spanfilade.proofs.groups.put_group.Goals as goal
 
-pub splice-requires-clause-right : goal.splice-requires-clause-right
-splice-requires-clause-right c = subst (All (IsRightRow key_widths)) (sym (plain_rows c.args.group.now.items)) c.requires.right
+pub splice-requires-clause-well_formed : goal.splice-requires-clause-well_formed
+splice-requires-clause-well_formed c = subst (All (IsWellFormedRow key_widths)) (sym (plain_rows c.args.group.now.items)) c.requires.well_formed
 
 pub splice-requires-clause-ordered : goal.splice-requires-clause-ordered
 splice-requires-clause-ordered c =
     let rows = rows_of c.args.arena.now c.args.root.0 in
     subst InOrder (sym (held_at c.as_slice.result.now c.args.group.now.items rows c.index-as_slice-0.result c.copy-at.result c.as_slice.ensures c.copy-at.ensures (sym c.is_empty.ensures ∙ c.if-is_empty.false)))
-    (with_group-ordered c.args.group.now.items rows c.requires.fits (rows-ordered key_widths c.args.arena.now c.args.root.0 c.allocator-right.ensures.right c.requires.below))
+    (with_group-ordered c.args.group.now.items rows c.requires.fits (rows-ordered key_widths c.args.arena.now c.args.root.0 c.allocator-well_formed.ensures.well_formed c.requires.below))
 
 pub returns-clause-rows : goal.returns-clause-rows
 returns-clause-rows c =

@@ -3,7 +3,7 @@ use Rattle.std.specs.List.{All}
 use Rattle.std.proofs.lemmas.List.Elements.{All-nil, All-cons, All-append}
 use Rattle.enfilade_core.specs.declared.tree.Row.{Row}
 use Rattle.enfilade_core.specs.Rows.{rows_of}
-use Rattle.enfilade_core.specs.Axes.{IsRightRow}
+use Rattle.enfilade_core.specs.Axes.{IsWellFormedRow}
 use Rattle.enfilade_core.specs.Planes.{key_widths}
 use Rattle.spanfilade.specs.Index.{row_of}
 use Rattle.tumbler.specs.Places.{IsUpTo}
@@ -11,11 +11,11 @@ use Rattle.spanfilade.specs.Groups.{FitsAsGroup, LeavesRoom}
 use Rattle.spanfilade.proofs.GroupRows.{group_more, one_as_group, moves_more, moves_anew}
 use Rattle.spanfilade.proofs.groups.take_span.Goals as goal
 
-pub returns-then-goes_on-clause-right : goal.returns-then-goes_on-clause-right
-returns-then-goes_on-clause-right c =
+pub returns-then-goes_on-clause-well_formed : goal.returns-then-goes_on-clause-well_formed
+returns-then-goes_on-clause-well_formed c =
     let row = row_of c.args.span.now c.args.key.now in
-    subst (All (IsRightRow key_widths)) (sym (c.in_ok-push.ensures.ok ∙ ap (λ (r : Row (List ℕ)). c.args.group.now.items ++ r ∷ []) c.row_of.ensures.value))
-    (All-append (IsRightRow key_widths) c.args.group.now.items (row ∷ []) c.requires.right (All-cons (IsRightRow key_widths) row [] c.row_of.ensures.right (All-nil (IsRightRow key_widths))))
+    subst (All (IsWellFormedRow key_widths)) (sym (c.in_ok-push.ensures.ok ∙ ap (λ (r : Row (List ℕ)). c.args.group.now.items ++ r ∷ []) c.row_of.ensures.value))
+    (All-append (IsWellFormedRow key_widths) c.args.group.now.items (row ∷ []) c.requires.well_formed (All-cons (IsWellFormedRow key_widths) row [] c.row_of.ensures.well_formed (All-nil (IsWellFormedRow key_widths))))
 
 pub returns-then-goes_on-clause-fits : goal.returns-then-goes_on-clause-fits
 returns-then-goes_on-clause-fits c =

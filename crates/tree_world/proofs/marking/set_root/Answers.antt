@@ -1,6 +1,6 @@
 use Rattle.std.proofs.Common.{◌∙◌, List, ap, sym}
 use Rattle.enfilade_core.specs.Rows.{Shape}
-use Rattle.enfilade_core.specs.Standing.{tree_allows}
+use Rattle.enfilade_core.specs.BalanceState.{tree_allows}
 use Rattle.tree_world.proofs.Tables.{has_some}
 use Rattle.tree_world.proofs.Marked.{stay_self, marked_before, due_rooted}
 use Rattle.tree_world.proofs.marking.set_root.Goals as goal

@@ -1,6 +1,6 @@
 use Rattle.std.proofs.Common.{◌<◌, min, ap, sym, subst, ◌∙◌}
 use Rattle.enfilade_core.specs.Summary.{most_count}
-use Rattle.enfilade_core.specs.Standing.{tree_debt}
+use Rattle.enfilade_core.specs.BalanceState.{tree_debt}
 use Rattle.tree_world.proofs.Measured.{debt_more}
 use Rattle.tree_world.proofs.measures.documents_debt.Goals as goal
 

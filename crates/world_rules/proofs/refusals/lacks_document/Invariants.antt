@@ -6,4 +6,4 @@ use Rattle.world_rules.proofs.refusals.lacks_document.Given as goal
 
 abbrev pub invariant-loop-spec : goal.invariant-loop-spec
 invariant-loop-spec g l =
-    (view : FlatView) → g.W.Lookups.stands l.world view → lacks_document view.world (map plain_spec (drop l.spec-index l.specs)) ≡ lacks_document view.world (map plain_spec l.specs)
+    (view : FlatView) → g.W.LookUp.stands l.world view → lacks_document view.world (map plain_spec (drop l.spec-index l.specs)) ≡ lacks_document view.world (map plain_spec l.specs)

@@ -6,4 +6,4 @@ use Rattle.world_rules.proofs.refusals.lacks_opening.Given as goal
 
 abbrev pub invariant-loop-spec : goal.invariant-loop-spec
 invariant-loop-spec g l =
-    (view : FlatView) → g.W.Lookups.stands l.world view → lacks_opening view.world l.session (map plain_spec (drop l.spec-index l.specs)) ≡ lacks_opening view.world l.session (map plain_spec l.specs)
+    (view : FlatView) → g.W.LookUp.stands l.world view → lacks_opening view.world l.session (map plain_spec (drop l.spec-index l.specs)) ≡ lacks_opening view.world l.session (map plain_spec l.specs)

@@ -1,23 +1,24 @@
 use Rattle.std.proofs.Common.{◌≡◌, ◌<◌, ◌++◌, ◌∙◌, List, map, IfOk, OnOk, arith, ap, sym, subst}
 use Rattle.std.proofs.lemmas.Result.{IfOk-weaker}
-use Rattle.enfilade_core.specs.Rows.{Shape, Branches, branch_rows, rows_table, node_at, branches_under}
+use Rattle.enfilade_core.specs.Rows.{Shape, Branches, moved, rows_of, branch_rows, rows_table, node_at, branches_under}
 use Rattle.enfilade_core.specs.Touched.{branches_at, with_middle, MayBePacked}
-use Rattle.enfilade_core.specs.Axes.{IsRightRows}
+use Rattle.enfilade_core.specs.Axes.{IsWellFormedRows}
 use Rattle.enfilade_core.specs.Summary.{height_of}
 use Rattle.enfilade_core.specs.Plain.{plain_row}
 use Rattle.enfilade_core.specs.Edits.{taken_out}
 use Rattle.enfilade_core.specs.Exchange.{exchanged, MayHaveRows, IsWhole}
 use Rattle.enfilade_core.proofs.OpenedAt.{at-of_part}
-use Rattle.enfilade_core.proofs.GoneThrough.{item-right}
+use Rattle.enfilade_core.proofs.GoneThrough.{item-well_formed}
 use Rattle.enfilade_core.proofs.ExchangeGrown.{grows-same, grows-more, part-grown}
-use Rattle.enfilade_core.proofs.ExchangeBranches.{RestAt, rest-start, rest-part, rest-right, rest-more, rest-all, BranchesAt, chosen-part, chosen-right, chosen-rest, branches-made, branches-taken}
+use Rattle.enfilade_core.proofs.ExchangeBranches.{RestAt, rest-start, rest-part, rest-well_formed, rest-more, rest-all, BranchesAt, chosen-part, chosen-well_formed, chosen-rest, branches-made, branches-taken}
+use Rattle.enfilade_core.proofs.RestBehind.{moved-well_formed}
 use Rattle.enfilade_core.proofs.ExchangeNodes.{mapped-none}
 use Rattle.enfilade_core.proofs.ExchangeMiddle.{node-ready, node-rows, node-taken, may-packed}
 use Rattle.enfilade_core.proofs.arena.Arena.+exchanging.Goals as goal
 
 pub branch_exchanged-parts_exchanged-requires : goal.branch_exchanged-parts_exchanged-requires
 branch_exchanged-parts_exchanged-requires g t c κs within =
-    (omega (arith, c.decreases), (within.0, (within.1, (c.requires.up_to, (c.requires.part, c.requires.right)))))
+    (omega (arith, c.decreases), (within.0, (within.1, (c.requires.up_to, (c.requires.part, c.requires.well_formed)))))
 
 pub branch_exchanged-returns-then-not-is_empty-clause-grows : goal.branch_exchanged-returns-then-not-is_empty-clause-grows
 branch_exchanged-returns-then-not-is_empty-clause-grows g t c =
@@ -39,9 +40,9 @@ pub branch_exchanged-whole_exchanged-requires-clause-part : goal.branch_exchange
 branch_exchanged-whole_exchanged-requires-clause-part g t c =
     c.requires.part
 
-pub branch_exchanged-whole_exchanged-requires-clause-right : goal.branch_exchanged-whole_exchanged-requires-clause-right
-branch_exchanged-whole_exchanged-requires-clause-right g t c =
-    subst (λ (r : List _). IsRightRows g.P.Plane.widths (exchanged c.args.gap.now r (branch_rows (rows_table c.args.self.now) c.args.branch.now))) (mapped-none (plain_row g.P.Plane.plain) c.args.rows.now c.is_empty.result c.is_empty.ensures c.if-not-is_empty.false) c.requires.right
+pub branch_exchanged-whole_exchanged-requires-clause-well_formed : goal.branch_exchanged-whole_exchanged-requires-clause-well_formed
+branch_exchanged-whole_exchanged-requires-clause-well_formed g t c =
+    subst (λ (r : List _). IsWellFormedRows g.P.Plane.widths (exchanged c.args.gap.now r (branch_rows (rows_table c.args.self.now) c.args.branch.now))) (mapped-none (plain_row g.P.Plane.plain) c.args.rows.now c.is_empty.result c.is_empty.ensures c.if-not-is_empty.false) c.requires.well_formed
 
 pub branch_exchanged-returns-in_err-whole-clause-grows : goal.branch_exchanged-returns-in_err-whole-clause-grows
 branch_exchanged-returns-in_err-whole-clause-grows g t c =
@@ -49,7 +50,7 @@ branch_exchanged-returns-in_err-whole-clause-grows g t c =
 
 pub branch_exchanged-parts_exchanged-requires-in-Parts : goal.branch_exchanged-parts_exchanged-requires-in-Parts
 branch_exchanged-parts_exchanged-requires-in-Parts g t c κs within =
-    (omega (arith, c.decreases), (within.0, (within.1, (c.requires.up_to, (c.requires.part, c.requires.right)))))
+    (omega (arith, c.decreases), (within.0, (within.1, (c.requires.up_to, (c.requires.part, c.requires.well_formed)))))
 
 pub branch_exchanged-returns-in-Left-clause-grows : goal.branch_exchanged-returns-in-Left-clause-grows
 branch_exchanged-returns-in-Left-clause-grows g t c =
@@ -89,9 +90,9 @@ branches_exchanged-returns-in_err-made-clause-grows g t c =
 
 pub branches_exchanged-branch_exchanged-requires : goal.branches_exchanged-branch_exchanged-requires
 branches_exchanged-branch_exchanged-requires g t c κs within =
-    let at : BranchesAt g.P.Plane.widths c.args.gap.now (map (plain_row g.P.Plane.plain) c.args.rows.now) c.args.self.now c.args.branches.now c.chosen-at.result c.index-branches-at.result = record { up_to = c.requires.up_to; node = c.requires.node; right = c.requires.right; chosen = c.chosen-at.ensures.is; is = c.index-branches-at.is } in
-    let lower = item-right (λ branch. branch.node.0 < c.args.below.0) c.args.branches.now c.chosen-at.result c.index-branches-at.result c.chosen-at.ensures.is.there c.index-branches-at.is c.requires.named in
-    (omega (arith, lower, c.decreases), (within.0, (within.1, (c.requires.up_to, (chosen-part g.P.Plane.widths c.args.gap.now (map (plain_row g.P.Plane.plain) c.args.rows.now) c.args.self.now c.args.branches.now c.chosen-at.result c.index-branches-at.result at, chosen-right g.P.Plane.widths c.args.gap.now (map (plain_row g.P.Plane.plain) c.args.rows.now) c.args.self.now c.args.branches.now c.chosen-at.result c.index-branches-at.result at)))))
+    let at : BranchesAt g.P.Plane.widths c.args.gap.now (map (plain_row g.P.Plane.plain) c.args.rows.now) c.args.self.now c.args.branches.now c.chosen-at.result c.index-branches-at.result = record { up_to = c.requires.up_to; node = c.requires.node; well_formed = c.requires.well_formed; chosen = c.chosen-at.ensures.is; is = c.index-branches-at.is } in
+    let lower = item-well_formed (λ branch. branch.node.0 < c.args.below.0) c.args.branches.now c.chosen-at.result c.index-branches-at.result c.chosen-at.ensures.is.there c.index-branches-at.is c.requires.named in
+    (omega (arith, lower, c.decreases), (within.0, (within.1, (c.requires.up_to, (chosen-part g.P.Plane.widths c.args.gap.now (map (plain_row g.P.Plane.plain) c.args.rows.now) c.args.self.now c.args.branches.now c.chosen-at.result c.index-branches-at.result at, chosen-well_formed g.P.Plane.widths c.args.gap.now (map (plain_row g.P.Plane.plain) c.args.rows.now) c.args.self.now c.args.branches.now c.chosen-at.result c.index-branches-at.result at)))))
 
 pub branches_exchanged-returns-in_err-branch-clause-grows : goal.branches_exchanged-returns-in_err-branch-clause-grows
 branches_exchanged-returns-in_err-branch-clause-grows g t c =
@@ -103,9 +104,9 @@ branches_exchanged-returns-in_err-append_branch-clause-grows g t c =
 
 pub branches_exchanged-rest_exchanged-requires : goal.branches_exchanged-rest_exchanged-requires
 branches_exchanged-rest_exchanged-requires g t c κs within =
-    let at : BranchesAt g.P.Plane.widths c.args.gap.now (map (plain_row g.P.Plane.plain) c.args.rows.now) c.args.self.now c.args.branches.now c.chosen-at.result c.index-branches-at.result = record { up_to = c.requires.up_to; node = c.requires.node; right = c.requires.right; chosen = c.chosen-at.ensures.is; is = c.index-branches-at.is } in
+    let at : BranchesAt g.P.Plane.widths c.args.gap.now (map (plain_row g.P.Plane.plain) c.args.rows.now) c.args.self.now c.args.branches.now c.chosen-at.result c.index-branches-at.result = record { up_to = c.requires.up_to; node = c.requires.node; well_formed = c.requires.well_formed; chosen = c.chosen-at.ensures.is; is = c.index-branches-at.is } in
     let ready = chosen-rest g.P.Plane.widths c.args.gap.now (map (plain_row g.P.Plane.plain) c.args.rows.now) c.args.self.now c.branch_exchanged.new.self c.args.below.0 c.args.branches.now c.chosen-at.result c.index-branches-at.result c.split_at-2.result.1.now at c.branch_exchanged.ensures.grows c.requires.named c.split_at-2.ensures.back in
-    (omega (arith, c.decreases), (within.0, (within.1, (c.requires.up_to, (ready.named, (ready.parts, (ready.past, ready.right)))))))
+    (omega (arith, c.decreases), (within.0, (within.1, (c.requires.up_to, (ready.named, (ready.parts, (ready.past, ready.well_formed)))))))
 
 pub branches_exchanged-returns-in_err-rest_exchanged-clause-grows : goal.branches_exchanged-returns-in_err-rest_exchanged-clause-grows
 branches_exchanged-returns-in_err-rest_exchanged-clause-grows g t c =
@@ -118,7 +119,7 @@ branches_exchanged-returns-clause-grows g t c =
 pub branches_exchanged-returns-clause-rows : goal.branches_exchanged-returns-clause-rows
 branches_exchanged-returns-clause-rows g t c =
     branches-made g.P.Plane.widths c.args.gap.now (map (plain_row g.P.Plane.plain) c.args.rows.now) c.args.self.now c.branch_exchanged.new.self c.rest_exchanged.new.self c.args.branches.now c.chosen-at.result c.index-branches-at.result c.split_at-2.result.1.now c.in_ok-made.made.items c.append_branch.new.into.items c.rest_exchanged.new.made.items c.in_ok-branch.branch
-    record { up_to = c.requires.up_to; node = c.requires.node; right = c.requires.right; chosen = c.chosen-at.ensures.is; is = c.index-branches-at.is } record {
+    record { up_to = c.requires.up_to; node = c.requires.node; well_formed = c.requires.well_formed; chosen = c.chosen-at.ensures.is; is = c.index-branches-at.is } record {
       grows = c.branch_exchanged.ensures.grows;
       later = c.rest_exchanged.ensures.grows;
       front_is = c.in_ok-made.ensures ∙ c.split_at.ensures.front;
@@ -131,7 +132,7 @@ branches_exchanged-returns-clause-rows g t c =
 pub branches_exchanged-returns-clause-out : goal.branches_exchanged-returns-clause-out
 branches_exchanged-returns-clause-out g t c =
     branches-taken g.P.Plane.widths c.args.gap.now (map (plain_row g.P.Plane.plain) c.args.rows.now) c.args.self.now c.branch_exchanged.new.self c.args.branches.now c.chosen-at.result c.index-branches-at.result c.split_at-2.result.1.now (map (plain_row g.P.Plane.plain) c.args.out.now.items) (map (plain_row g.P.Plane.plain) c.branch_exchanged.new.out.items) (map (plain_row g.P.Plane.plain) c.rest_exchanged.new.out.items)
-    record { up_to = c.requires.up_to; node = c.requires.node; right = c.requires.right; chosen = c.chosen-at.ensures.is; is = c.index-branches-at.is } c.branch_exchanged.ensures.grows c.split_at-2.ensures.back c.in_ok-branch.ensures.out c.in_ok-rest_exchanged.ensures.out
+    record { up_to = c.requires.up_to; node = c.requires.node; well_formed = c.requires.well_formed; chosen = c.chosen-at.ensures.is; is = c.index-branches-at.is } c.branch_exchanged.ensures.grows c.split_at-2.ensures.back c.in_ok-branch.ensures.out c.in_ok-rest_exchanged.ensures.out
 
 pub rest_exchanged-loop-branch-init : goal.rest_exchanged-loop-branch-init
 rest_exchanged-loop-branch-init g t c =
@@ -139,9 +140,9 @@ rest_exchanged-loop-branch-init g t c =
 
 pub rest_exchanged-branch_exchanged-requires : goal.rest_exchanged-branch_exchanged-requires
 rest_exchanged-branch_exchanged-requires g t c κs within =
-    let at : RestAt g.P.Plane.widths c.args.gap.now c.args.self.now c.loop-branch.self c.args.branches.now c.loop-branch.branch-index c.branch-item.result = record { grows = c.loop-branch.invariant.grows; lt = c.loop-branch-test.true; is = c.branch-item.is; parts = c.requires.parts; past = c.requires.past; right = c.requires.right } in
-    let lower = item-right (λ branch. branch.node.0 < c.args.below.0) c.args.branches.now c.loop-branch.branch-index c.branch-item.result c.loop-branch-test.true c.branch-item.is c.requires.named in
-    (omega (arith, lower, c.decreases), (within.0, (within.1, (c.requires.up_to, (rest-part g.P.Plane.widths c.args.gap.now c.args.self.now c.loop-branch.self c.args.branches.now c.loop-branch.branch-index c.branch-item.result at, rest-right g.P.Plane.widths c.args.gap.now c.args.self.now c.loop-branch.self c.args.branches.now c.loop-branch.branch-index c.branch-item.result (map (plain_row g.P.Plane.plain) c.as_slice.result.now) (ap (map (plain_row g.P.Plane.plain)) (c.as_slice.ensures ∙ c.new-none.ensures.items)) at)))))
+    let at : RestAt g.P.Plane.widths c.args.gap.now c.args.self.now c.loop-branch.self c.args.branches.now c.loop-branch.branch-index c.branch-item.result = record { grows = c.loop-branch.invariant.grows; lt = c.loop-branch-test.true; is = c.branch-item.is; parts = c.requires.parts; past = c.requires.past; well_formed = c.requires.well_formed } in
+    let lower = item-well_formed (λ branch. branch.node.0 < c.args.below.0) c.args.branches.now c.loop-branch.branch-index c.branch-item.result c.loop-branch-test.true c.branch-item.is c.requires.named in
+    (omega (arith, lower, c.decreases), (within.0, (within.1, (c.requires.up_to, (rest-part g.P.Plane.widths c.args.gap.now c.args.self.now c.loop-branch.self c.args.branches.now c.loop-branch.branch-index c.branch-item.result at, rest-well_formed g.P.Plane.widths c.args.gap.now c.args.self.now c.loop-branch.self c.args.branches.now c.loop-branch.branch-index c.branch-item.result (map (plain_row g.P.Plane.plain) c.as_slice.result.now) (ap (map (plain_row g.P.Plane.plain)) (c.as_slice.ensures ∙ c.new-none.ensures.items)) at)))))
 
 pub rest_exchanged-returns-in_err-branch-clause-grows : goal.rest_exchanged-returns-in_err-branch-clause-grows
 rest_exchanged-returns-in_err-branch-clause-grows g t c =
@@ -154,7 +155,7 @@ rest_exchanged-returns-in_err-append_branch-clause-grows g t c =
 pub rest_exchanged-loop-branch-preserved : goal.rest_exchanged-loop-branch-preserved
 rest_exchanged-loop-branch-preserved g t c =
     rest-more g.P.Plane.widths c.args.gap.now c.args.self.now c.loop-branch.self c.branch_exchanged.new.self c.args.branches.now c.loop-branch.branch-index c.branch-item.result c.args.made.now.items c.loop-branch.made.items c.append_branch.new.into.items (map (plain_row g.P.Plane.plain) c.as_slice.result.now) (map (plain_row g.P.Plane.plain) c.args.out.now.items) (map (plain_row g.P.Plane.plain) c.loop-branch.out.items) (map (plain_row g.P.Plane.plain) c.branch_exchanged.new.out.items) c.in_ok-branch.branch
-    (ap (map (plain_row g.P.Plane.plain)) (c.as_slice.ensures ∙ c.new-none.ensures.items)) record { grows = c.loop-branch.invariant.grows; lt = c.loop-branch-test.true; is = c.branch-item.is; parts = c.requires.parts; past = c.requires.past; right = c.requires.right } c.loop-branch.invariant c.branch_exchanged.ensures.grows c.in_ok-branch.ensures.rows c.in_ok-append_branch.ensures c.in_ok-branch.ensures.out
+    (ap (map (plain_row g.P.Plane.plain)) (c.as_slice.ensures ∙ c.new-none.ensures.items)) record { grows = c.loop-branch.invariant.grows; lt = c.loop-branch-test.true; is = c.branch-item.is; parts = c.requires.parts; past = c.requires.past; well_formed = c.requires.well_formed } c.loop-branch.invariant c.branch_exchanged.ensures.grows c.in_ok-branch.ensures.rows c.in_ok-append_branch.ensures c.in_ok-branch.ensures.out
 
 pub rest_exchanged-returns-clause-grows : goal.rest_exchanged-returns-clause-grows
 rest_exchanged-returns-clause-grows g t c =
@@ -170,29 +171,33 @@ rest_exchanged-returns-clause-out g t c =
 
 pub parts_exchanged-node_exchanged-requires : goal.parts_exchanged-node_exchanged-requires
 parts_exchanged-node_exchanged-requires g t c κs within =
-    (omega (arith, c.decreases), (within.0, (within.1, (c.requires.up_to, (at-of_part g.P.Plane.widths c.args.self.now c.args.branch.now c.requires.part, (c.is_bottom.ensures.inner c.if-is_bottom.false, c.requires.right))))))
+    (omega (arith, c.decreases), (within.0, (within.1, (c.requires.up_to, (at-of_part g.P.Plane.widths c.args.self.now c.args.branch.now c.requires.part, (c.is_bottom.ensures.inner c.if-is_bottom.false, c.requires.well_formed))))))
+
+pub node_exchanged-touched-requires-clause-rows : goal.node_exchanged-touched-requires-clause-rows
+node_exchanged-touched-requires-clause-rows g t c =
+    moved-well_formed g.P.Plane.widths c.args.gap.now (map (plain_row g.P.Plane.plain) c.args.rows.now) (map (moved c.args.first.now c.args.second.now) (rows_of c.args.self.now c.args.node.0)) c.requires.well_formed
 
 pub node_exchanged-branches_exchanged-requires : goal.node_exchanged-branches_exchanged-requires
 node_exchanged-branches_exchanged-requires g t c κs within =
     let ready = node-ready g.P.Plane.widths c.args.self.now c.args.gap.now (map (plain_row g.P.Plane.plain) c.args.rows.now) c.args.node.0 c.args.first.now c.args.second.now c.in_ok-touched.touched c.as_slice.result.now record {
-      nodes_right = c.allocator-right.ensures.right;
+      nodes_well_formed = c.allocator-well_formed.ensures.well_formed;
       up_to = c.requires.up_to;
       at = c.requires.at;
       inner = c.requires.inner;
-      right = c.requires.right;
+      well_formed = c.requires.well_formed;
       is = c.in_ok-touched.ensures;
       middle_is = c.as_slice.ensures;
     } in
-    (omega (arith, c.decreases), (within.0, (within.1, (c.requires.up_to, (ready.named, (ready.node, ready.right))))))
+    (omega (arith, c.decreases), (within.0, (within.1, (c.requires.up_to, (ready.named, (ready.node, ready.well_formed))))))
 
 pub node_exchanged-returns-clause-rows : goal.node_exchanged-returns-clause-rows
 node_exchanged-returns-clause-rows g t c =
     node-rows g.P.Plane.widths c.args.self.now c.branches_exchanged.new.self c.args.gap.now (map (plain_row g.P.Plane.plain) c.args.rows.now) c.args.node.0 c.args.first.now c.args.second.now c.in_ok-touched.touched c.as_slice.result.now c.in_ok-branches.branches record {
-      nodes_right = c.allocator-right.ensures.right;
+      nodes_well_formed = c.allocator-well_formed.ensures.well_formed;
       up_to = c.requires.up_to;
       at = c.requires.at;
       inner = c.requires.inner;
-      right = c.requires.right;
+      well_formed = c.requires.well_formed;
       is = c.in_ok-touched.ensures;
       middle_is = c.as_slice.ensures;
     } c.in_ok-branches.ensures.grows c.in_ok-branches.ensures.rows
@@ -200,11 +205,11 @@ node_exchanged-returns-clause-rows g t c =
 pub node_exchanged-returns-clause-out : goal.node_exchanged-returns-clause-out
 node_exchanged-returns-clause-out g t c =
     node-taken g.P.Plane.widths c.args.self.now c.args.gap.now (map (plain_row g.P.Plane.plain) c.args.rows.now) c.args.node.0 c.args.first.now c.args.second.now c.in_ok-touched.touched c.as_slice.result.now (map (plain_row g.P.Plane.plain) c.args.out.now.items) (map (plain_row g.P.Plane.plain) c.branches_exchanged.new.out.items) record {
-      nodes_right = c.allocator-right.ensures.right;
+      nodes_well_formed = c.allocator-well_formed.ensures.well_formed;
       up_to = c.requires.up_to;
       at = c.requires.at;
       inner = c.requires.inner;
-      right = c.requires.right;
+      well_formed = c.requires.well_formed;
       is = c.in_ok-touched.ensures;
       middle_is = c.as_slice.ensures;
     } c.in_ok-branches.ensures.out
@@ -219,6 +224,6 @@ parts_exchanged-returns-clause-rows g t c =
     let new = c.repacked.new.self in
     let rows = exchanged c.args.gap.now (map (plain_row g.P.Plane.plain) c.args.rows.now) (branch_rows (rows_table c.args.self.now) c.args.branch.now) in
     let height = height_of w c.args.self.now c.args.branch.now.node.0 in
-    let all = with_middle (branches_at c.args.branch.now.first c.args.branch.now.second (branches_under (node_at c.args.self.now c.args.branch.now.node.0))) c.in_ok-touched.touched in
+    let all = with_middle c.args.branch.now.first c.args.branch.now.second (branches_at c.args.branch.now.first c.args.branch.now.second (branches_under (node_at c.args.self.now c.args.branch.now.node.0))) c.in_ok-touched.touched in
     IfOk-weaker c.repacked.result (MayBePacked w mid new (Branches all)) (MayHaveRows w new height rows) (λ made packed. may-packed w mid new height rows all made c.in_ok-touched.ensures.rows packed)
-    (subst (λ (node : Shape _). IfOk c.repacked.result (MayBePacked w mid new (Branches (with_middle (branches_at c.args.branch.now.first c.args.branch.now.second (branches_under node)) c.in_ok-touched.touched)))) c.node_exchanged.ensures.same c.repacked.ensures.packed)
+    (subst (λ (node : Shape _). IfOk c.repacked.result (MayBePacked w mid new (Branches (with_middle c.args.branch.now.first c.args.branch.now.second (branches_at c.args.branch.now.first c.args.branch.now.second (branches_under node)) c.in_ok-touched.touched)))) c.node_exchanged.ensures.same c.repacked.ensures.packed)

@@ -1,31 +1,32 @@
-use Rattle.std.proofs.Common.{◌∙◌, ◌+◌, ◌-◌, ◌/◌, arith, sym}
-use Rattle.enfilade_core.specs.Right.{IsRightPart}
+use Rattle.std.proofs.Common.{◌∙◌, ◌-◌, arith, sym}
+use Rattle.enfilade_core.specs.WellFormed.{IsWellFormedPart}
 use Rattle.enfilade_core.proofs.Nodes.{node-parts}
-use Rattle.enfilade_core.proofs.GoneThrough.{item-right}
-use Rattle.enfilade_core.proofs.ExchangeChosen.{chosen-start, chosen-low, chosen-high, chosen-found}
+use Rattle.enfilade_core.proofs.GoneThrough.{item-well_formed}
+use Rattle.enfilade_core.proofs.ExchangeChosen.{chosen-none, chosen-low, chosen-high, chosen-found}
 use Rattle.enfilade_core.proofs.arena.Arena.chosen.Goals as goal
 
-pub loop-low-init : goal.loop-low-init
-loop-low-init g c = chosen-start g.P.Plane.widths c.args.self.now c.args.branches.now c.args.at.now c.requires.right
+pub returns-then-last-eq0-clause-is : goal.returns-then-last-eq0-clause-is
+returns-then-last-eq0-clause-is g c =
+    let none = chosen-none c.args.self.now c.args.branches.now c.args.at.now c.none_from-end.result c.none_from-end.ensures.some c.none_from-end.ensures.short c.none_from-end.ensures.back in
+    chosen-found c.args.self.now c.args.branches.now c.args.at.now 0 c.none_from-end.result none (omega (arith, c.if-last-eq0.true))
 
 pub starts_before-requires : goal.starts_before-requires
 starts_before-requires g c =
-    let middle = c.loop-low.low + (c.loop-low.high - c.loop-low.low) / 2 in
-    record { part = item-right (IsRightPart g.P.Plane.widths c.args.self.now) c.args.branches.now middle c.index-branches-middle.result (omega (arith, c.loop-low.invariant.some, c.loop-low.invariant.short)) c.index-branches-middle.is (node-parts g.P.Plane.widths c.args.self.now c.args.branches.now c.requires.right) }
+    let last = c.none_from-end.result - 1 in
+    record { part = item-well_formed (IsWellFormedPart g.P.Plane.widths c.args.self.now) c.args.branches.now last c.index-branches-last.result (omega (arith, c.none_from-end.ensures.some, c.none_from-end.ensures.short)) c.index-branches-last.is (node-parts g.P.Plane.widths c.args.self.now c.args.branches.now c.requires.well_formed) }
 
-pub loop-low-preserved-then-starts_before : goal.loop-low-preserved-then-starts_before
-loop-low-preserved-then-starts_before g c =
-    let so = c.loop-low.invariant in
-    let middle = c.loop-low.low + (c.loop-low.high - c.loop-low.low) / 2 in
-    chosen-low g.P.Plane.widths c.args.self.now c.args.branches.now c.args.at.now c.loop-low.low c.loop-low.high middle c.index-branches-middle.result so (omega (arith, so.some, c.loop-low-test.true))
-    record { right = c.requires.right; short = omega (arith, so.some, so.short); is = c.index-branches-middle.is; filled = c.starts_before.ensures.some } (sym c.starts_before.ensures.value ∙ c.if-starts_before.true)
+pub returns-then-starts_before : goal.returns-then-starts_before
+returns-then-starts_before g c =
+    let end = c.none_from-end.result in
+    let none = chosen-none c.args.self.now c.args.branches.now c.args.at.now end c.none_from-end.ensures.some c.none_from-end.ensures.short c.none_from-end.ensures.back in
+    let low = chosen-low g.P.Plane.widths c.args.self.now c.args.branches.now c.args.at.now 0 end (end - 1) c.index-branches-last.result none (omega (arith, none.some))
+    record { well_formed = c.requires.well_formed; short = omega (arith, none.some, none.short); is = c.index-branches-last.is; filled = c.starts_before.ensures.some } (sym c.starts_before.ensures.value ∙ c.if-starts_before.true) in
+    record { is = chosen-found c.args.self.now c.args.branches.now c.args.at.now (end - 1) end low (omega arith); here = low.here }
 
-pub loop-low-preserved : goal.loop-low-preserved
-loop-low-preserved g c =
-    let so = c.loop-low.invariant in
-    let middle = c.loop-low.low + (c.loop-low.high - c.loop-low.low) / 2 in
-    chosen-high g.P.Plane.widths c.args.self.now c.args.branches.now c.args.at.now c.loop-low.low c.loop-low.high middle c.index-branches-middle.result so (omega (arith, so.some, c.loop-low-test.true))
-    record { right = c.requires.right; short = omega (arith, so.some, so.short); is = c.index-branches-middle.is; filled = c.starts_before.ensures.some } (sym c.starts_before.ensures.value ∙ c.if-starts_before.false)
-
-pub returns-clause-is : goal.returns-clause-is
-returns-clause-is g c = chosen-found c.args.self.now c.args.branches.now c.args.at.now c.loop-low.low c.loop-low.high c.loop-low.invariant (omega (arith, c.loop-low-test.false))
+pub chosen_in_front-requires : goal.chosen_in_front-requires
+chosen_in_front-requires g c =
+    let end = c.none_from-end.result in
+    let none = chosen-none c.args.self.now c.args.branches.now c.args.at.now end c.none_from-end.ensures.some c.none_from-end.ensures.short c.none_from-end.ensures.back in
+    let high = chosen-high g.P.Plane.widths c.args.self.now c.args.branches.now c.args.at.now 0 end (end - 1) c.index-branches-last.result none (omega (arith, c.if-last-eq0.false))
+    record { well_formed = c.requires.well_formed; short = omega (arith, none.some, none.short); is = c.index-branches-last.is; filled = c.starts_before.ensures.some } (sym c.starts_before.ensures.value ∙ c.if-starts_before.false) in
+    record { well_formed = c.requires.well_formed; some = high.some; short = high.short; back = high.back }

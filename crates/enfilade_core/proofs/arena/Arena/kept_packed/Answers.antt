@@ -7,10 +7,11 @@ use Rattle.enfilade_core.proofs.arena.Arena.kept_packed.Goals as goal
 pub placed-requires : goal.placed-requires
 placed-requires g c =
     rw (c.copy.ensures, c.copy-2.ensures) (around-may_stand g.P.Plane.widths g.met.P.Plane.widths_stay c.args.self.now c.args.branch.now c.args.touched.now c.in_ok-children.children.items c.is_empty.result record {
-      nodes_right = c.allocator-right.ensures.right;
+      nodes_well_formed = c.allocator-well_formed.ensures.well_formed;
       part = c.requires.part;
       inner = c.requires.inner;
-      right = c.requires.right;
+      well_formed = c.requires.well_formed;
+      within = c.requires.within;
       first_up_to = c.requires.first_up_to;
       second_up_to = c.requires.second_up_to;
       is = c.in_ok-children.ensures;
@@ -19,10 +20,11 @@ placed-requires g c =
 pub returns-then-is_empty-clause-packed : goal.returns-then-is_empty-clause-packed
 returns-then-is_empty-clause-packed g c =
     around-none g.P.Plane.widths c.args.self.now c.args.branch.now c.args.touched.now c.in_ok-children.children.items c.is_empty.result record {
-      nodes_right = c.allocator-right.ensures.right;
+      nodes_well_formed = c.allocator-well_formed.ensures.well_formed;
       part = c.requires.part;
       inner = c.requires.inner;
-      right = c.requires.right;
+      well_formed = c.requires.well_formed;
+      within = c.requires.within;
       first_up_to = c.requires.first_up_to;
       second_up_to = c.requires.second_up_to;
       is = c.in_ok-children.ensures;
@@ -33,10 +35,11 @@ returns-clause-packed g c =
     let w = g.P.Plane.widths in
     let children = c.in_ok-children.children.items in
     around-packed w c.args.self.now c.placed.new.self c.args.branch.now c.args.touched.now children c.in_ok-made.made record {
-      nodes_right = c.allocator-right.ensures.right;
+      nodes_well_formed = c.allocator-well_formed.ensures.well_formed;
       part = c.requires.part;
       inner = c.requires.inner;
-      right = c.requires.right;
+      well_formed = c.requires.well_formed;
+      within = c.requires.within;
       first_up_to = c.requires.first_up_to;
       second_up_to = c.requires.second_up_to;
       is = c.in_ok-children.ensures;

@@ -12,5 +12,5 @@ returns g c =
     let to = c.args.gap.now.to in
     let onto = c.args.gap.now.onto in
     let le = up_to_if_false c.args.branch.now.first to (sym c.is_before.ensures.value ∙ c.if-is_before.false) in
-    rw (c.copy.ensures, c.copy-2.ensures, c.copy-3.ensures) (whole-moved g.P.Plane.widths g.met.P.Plane.widths_stay c.args.self.now c.summary-summary.ensures.right c.args.branch.now c.add-first.result to onto c.summary-summary.result.now
-    c.summary-summary.ensures.told c.requires.part le (c.add-first.ensures ∙ ap (sum onto) c.minus-ahead.ensures) c.places-first.ensures.tumbler (c.has_room.ensures.0 c.if-not-has_room.false))
+    whole-moved g.P.Plane.widths g.met.P.Plane.widths_stay c.args.self.now c.summary-summary.ensures.well_formed c.args.branch.now c.add-first.result to onto c.summary-summary.result.now
+    c.summary-summary.ensures.told c.requires.part le (c.add-first.ensures ∙ ap (sum onto) c.minus-ahead.ensures) c.is_covered.ensures.tumbler (c.is_covered.ensures.covered.0 c.if-not-is_covered.false) c.requires.rows

@@ -8,7 +8,7 @@ use Rattle.enfilade_core.proofs.WalkedDown.{some-in, none-in}
 use Rattle.enfilade_core.proofs.arena.Arena.row_before.Goals as goal
 
 pub row_below-requires : goal.row_below-requires
-row_below-requires g c = rw c.zero-zero.ensures (at-of_root g.P.Plane.widths c.args.self.now c.args.root.0 c.allocator.ensures.right c.requires)
+row_below-requires g c = rw c.zero-zero.ensures (at-of_root g.P.Plane.widths c.args.self.now c.args.root.0 c.allocator.ensures.well_formed c.requires)
 
 pub returns-clause-found : goal.returns-clause-found
 returns-clause-found g c =

@@ -4,14 +4,14 @@ use Rattle.enfilade_core.specs.Summary.{height_of}
 use Rattle.enfilade_core.specs.Plain.{plain_row}
 use Rattle.enfilade_core.proofs.OpenedAt.{at-of_part}
 use Rattle.enfilade_core.proofs.ExchangeLists.{taken-before, taken-past, taken-within}
-use Rattle.enfilade_core.proofs.ExchangeNodes.{whole-before, whole-within, whole-past, past-right, none-taken}
+use Rattle.enfilade_core.proofs.ExchangeNodes.{whole-before, whole-within, whole-past, past-well_formed, none-taken}
 use Rattle.enfilade_core.proofs.arena.Arena.whole_exchanged.Goals as goal
 
 pub append_rows-requires : goal.append_rows-requires
 append_rows-requires g c = at-of_part g.P.Plane.widths c.args.self.now c.args.branch.now c.requires.part
 
 pub moved_whole-requires-clause-rows : goal.moved_whole-requires-clause-rows
-moved_whole-requires-clause-rows g c = past-right g.P.Plane.widths c.args.gap.now [] (branch_rows (rows_table c.args.self.now) c.args.branch.now) refl c.requires.up_to c.in-Past.ensures c.requires.right
+moved_whole-requires-clause-rows g c = past-well_formed g.P.Plane.widths c.args.gap.now [] (branch_rows (rows_table c.args.self.now) c.args.branch.now) refl c.requires.up_to c.in-Past.ensures c.requires.well_formed
 
 pub returns-in-Before : goal.returns-in-Before
 returns-in-Before g c =

@@ -9,7 +9,7 @@ use Rattle.granfilade.specs.Content.{ContentTree, content, laid_out, bytes_in}
 use Rattle.granfilade.proofs.granfilade.Granfilade.bytes_of.Goals as goal
 
 pub append_node-requires-clause-fits : goal.append_node-requires-clause-fits
-append_node-requires-clause-fits c = root_fits content_widths c.self.inside.arena c.self.inside.root.0 c.zero-zero.result c.allocator-alloc.ensures.right c.self.invariant c.zero-zero.ensures
+append_node-requires-clause-fits c = root_fits content_widths c.self.inside.arena c.self.inside.root.0 c.zero-zero.result c.allocator-alloc.ensures.well_formed c.self.invariant c.zero-zero.ensures
 
 pub returns-clause-ok : goal.returns-clause-ok
 returns-clause-ok c =

@@ -3,7 +3,7 @@ use Rattle.febe_data.specs.Plain.{PlainEntry, plain_history, plain_change, plain
 use Rattle.febe_data.specs.declared.refusal.Refusal.TheVariants.{Disk}
 use Rattle.green_io.specs.Disk.{LeavesOnly}
 use Rattle.world_rules.specs.FlatView.{view_of}
-use Rattle.world_rules.specs.History.{is_live, kept}
+use Rattle.world_rules.specs.History.{is_live, durable_entries}
 use Rattle.world_rules.specs.Legal.{entry_after}
 use Rattle.world_rules.specs.PlainEffect.{plain_effect}
 use Rattle.edit_log.specs.Images.{IsAppendable}
@@ -28,18 +28,18 @@ serial_fits g c =
     omega (arith, has_serial items c.reserve.new.self.spare c.args.session enough (omega (arith, ap length c.reserve.ensures.items)), c.entries_of.ensures (view_of (plain_history items)) c.self.invariant.world_stands)
 
 ready : (g : given.Over) (c : After-keep g)
-    → IsAppendable (kept (plain_history c.self.inside.history.items)) (entry_after (plain_history c.self.inside.history.items) c.args.session (plain_effect c.args.made)) c.in_ok-record.record.items
+    → IsAppendable (durable_entries (plain_history c.self.inside.history.items)) (entry_after (plain_history c.self.inside.history.items) c.args.session (plain_effect c.args.made)) c.in_ok-record.record.items
 ready g c =
     let h = plain_history c.self.inside.history.items in
     appendable h c.args.session c.entries_of.result (plain_effect c.args.made) c.in_ok-record.record.items (may_here g c) c.self.invariant.entries (omega arith) (serial_fits g c)
     (c.entries_of.ensures (view_of h) c.self.invariant.world_stands) c.in_ok-record.ensures
 
 any_moment : (g : given.Over) (c : After-keep g) (pending : Option PlainEntry) → Keeps (g.D.Disk.state c.args.disk.now) c.args.self.now pending
-    → LeavesOnly (g.D.Disk.state c.args.disk.now) (g.D.Disk.state c.keep.new.disk) (HoldsWith (kept c.args.self.now.history) (λ other. IsThat pending other ⊎ (other ≡ entry_after c.args.self.now.history c.args.session (plain_effect c.args.made))))
+    → LeavesOnly (g.D.Disk.state c.args.disk.now) (g.D.Disk.state c.keep.new.disk) (HoldsWith (durable_entries c.args.self.now.history) (λ other. IsThat pending other ⊎ (other ≡ entry_after c.args.self.now.history c.args.session (plain_effect c.args.made))))
 any_moment g c =
     let h = plain_history c.self.inside.history.items in
-    subst (λ (v : StoreView). (pending : Option PlainEntry) → Keeps (g.D.Disk.state c.args.disk.now) v pending → LeavesOnly (g.D.Disk.state c.args.disk.now) (g.D.Disk.state c.keep.new.disk) (HoldsWith (kept v.history) (λ other. IsThat pending other ⊎ (other ≡ entry_after v.history c.args.session (plain_effect c.args.made)))))
-    c.self.view_is (λ pending has. c.keep.ensures.any_moment (kept h) pending (entry_after h c.args.session (plain_effect c.args.made)) (ready g c) has)
+    subst (λ (v : StoreView). (pending : Option PlainEntry) → Keeps (g.D.Disk.state c.args.disk.now) v pending → LeavesOnly (g.D.Disk.state c.args.disk.now) (g.D.Disk.state c.keep.new.disk) (HoldsWith (durable_entries v.history) (λ other. IsThat pending other ⊎ (other ≡ entry_after v.history c.args.session (plain_effect c.args.made)))))
+    c.self.view_is (λ pending has. c.keep.ensures.any_moment (durable_entries h) pending (entry_after h c.args.session (plain_effect c.args.made)) (ready g c) has)
 
 pub returns-in_default-clause-any_moment : goal.returns-in_default-clause-any_moment
 returns-in_default-clause-any_moment g c = any_moment g (goal.at.returns-in_default-clause-any_moment g c).After-keep
@@ -54,15 +54,15 @@ returns-in_default-clause-keeps g c =
     let d = g.D.Disk.state c.args.disk.now in
     let e = g.D.Disk.state c.keep.new.disk in
     let h = plain_history c.self.inside.history.items in
-    let after : StoreView = record { history = plain_history c.reserve.new.self.items; limits = c.self.inside.limits; log = c.keep.new.log; trees = g.W.Tends.condition c.undo.new.self; base = c.self.inside.base } in
+    let after : StoreView = record { history = plain_history c.reserve.new.self.items; limits = c.self.inside.limits; log = c.keep.new.log; trees = g.W.Rebalance.condition c.undo.new.self; base = c.self.inside.base } in
     subst (λ (v : StoreView). (pending : Option PlainEntry) → Keeps d v pending → KeepsEdit v pending (entry_after v.history c.args.session (plain_effect c.args.made)) after (refused Disk) e)
     c.self.view_is
-    (λ pending has. stays_pending (record { history = h; limits = c.self.inside.limits; log = c.self.inside.log; trees = g.W.Tends.condition c.self.inside.world; base = c.self.inside.base }) after e pending (entry_after h c.args.session (plain_effect c.args.made)) (refused Disk) (ap plain_history c.reserve.ensures.items) refl
-    (c.in_default.ensures.pending (kept h) pending (entry_after h c.args.session (plain_effect c.args.made)) (ready g (goal.at.returns-in_default-clause-keeps g c).After-keep) has))
+    (λ pending has. stays_pending (record { history = h; limits = c.self.inside.limits; log = c.self.inside.log; trees = g.W.Rebalance.condition c.self.inside.world; base = c.self.inside.base }) after e pending (entry_after h c.args.session (plain_effect c.args.made)) (refused Disk) (ap plain_history c.reserve.ensures.items) refl
+    (c.in_default.ensures.pending (durable_entries h) pending (entry_after h c.args.session (plain_effect c.args.made)) (ready g (goal.at.returns-in_default-clause-keeps g c).After-keep) has))
 
 pub returns-in_default-clause-trees : goal.returns-in_default-clause-trees
 returns-in_default-clause-trees g c same =
-    c.undo.ensures.condition (g.W.Tends.condition c.self.inside.world) (c.in_ok-undo.ensures.was (view_of (plain_history c.self.inside.history.items)) c.self.invariant.world_stands) ∙ ap (λ (v : StoreView). v.trees) c.self.view_is
+    c.undo.ensures.condition (g.W.Rebalance.condition c.self.inside.world) (c.in_ok-undo.ensures.was (view_of (plain_history c.self.inside.history.items)) c.self.invariant.world_stands) ∙ ap (λ (v : StoreView). v.trees) c.self.view_is
 
 -- ---- where there was no memory for the trees
 
@@ -87,11 +87,11 @@ invariant_of-self-2 g c =
     let may = may_here g at_keep in
     let live : is_live h c.args.session ≡ true = ap (λ (v : StoreView). is_live v.history c.args.session) c.self.view_is ∙ c.requires.live in
     let same = entry_is h c.args.session c.entries_of.result (plain_change c.args.made.change) (c.entries_of.ensures (view_of h) c.self.invariant.world_stands) in
-    let after = stands_after (g.W.Lookups.stands c.apply_with_undo.new.self) (view_of h) _ entry same (c.in_ok-undo.ensures.ok (view_of h) c.self.invariant.world_stands) in
+    let after = stands_after (g.W.LookUp.stands c.apply_with_undo.new.self) (view_of h) _ entry same (c.in_ok-undo.ensures.ok (view_of h) c.self.invariant.world_stands) in
     let room : length c.self.inside.live.items ≤ c.push_reserved.new.self.spare = search rules in
     let leaves = kept_leaves (plain_change c.args.made.change) may.counted in
     same_store _ _ _ _ _ _ _ _ (history_grows g (goal.at.invariant_of-self-2 g c).After-push_reserved) refl refl
-    (gone_on h _ c.push_reserved.new.self.spare _ (g.W.Lookups.stands c.apply_with_undo.new.self) _ _ entry c.self.invariant live leaves after room
+    (gone_on h _ c.push_reserved.new.self.spare _ (g.W.LookUp.stands c.apply_with_undo.new.self) _ _ entry c.self.invariant live leaves after room
     (regular_changed h c.args.session (plain_effect c.args.made) leaves may.placed c.self.invariant.regular)
     (entries_counted h entry may.counted (ready g at_keep).next c.self.invariant.entries))
 
@@ -109,11 +109,11 @@ returns-clause-keeps g c =
     let h = plain_history c.self.inside.history.items in
     let entry = entry_after h c.args.session (plain_effect c.args.made) in
     let at_keep = (goal.at.returns-clause-keeps g c).After-keep in
-    let after : StoreView = record { history = plain_history c.push_reserved.new.self.items; limits = c.self.inside.limits; log = c.keep.new.log; trees = g.W.Tends.condition c.apply_with_undo.new.self; base = c.self.inside.base } in
+    let after : StoreView = record { history = plain_history c.push_reserved.new.self.items; limits = c.self.inside.limits; log = c.keep.new.log; trees = g.W.Rebalance.condition c.apply_with_undo.new.self; base = c.self.inside.base } in
     subst (λ (v : StoreView). (pending : Option PlainEntry) → Keeps d v pending → KeepsEdit v pending (entry_after v.history c.args.session (plain_effect c.args.made)) after (plain_reply c.args.made.reply) e)
     c.self.view_is
     (λ pending has. inl (has_one_more e c.keep.new.log h (plain_history c.push_reserved.new.self.items) entry (may_here g at_keep).counted (history_grows g (goal.at.returns-clause-keeps g c).After-push_reserved)
-    (c.in-Ok.ensures.done (kept h) pending entry (ready g at_keep) has)))
+    (c.in-Ok.ensures.done (durable_entries h) pending entry (ready g at_keep) has)))
 
 pub returns-clause-trees : goal.returns-clause-trees
 returns-clause-trees g c same =

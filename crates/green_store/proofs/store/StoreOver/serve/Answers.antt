@@ -3,12 +3,12 @@ use Rattle.febe_data.specs.LimitsView.{LimitsView, AreLimits}
 use Rattle.febe_data.specs.Plain.{plain_request, plain_history, plain_change}
 use Rattle.world_rules.specs.Apply.{world_of}
 use Rattle.world_rules.specs.FlatView.{view_of}
-use Rattle.world_rules.specs.History.{kept, is_counted}
+use Rattle.world_rules.specs.History.{durable_entries, is_durable}
 use Rattle.world_rules.specs.Legal.{entry_after}
 use Rattle.world_rules.specs.PlainEffect.{plain_effect}
 use Rattle.world_rules.proofs.Placed.{served_is_placed}
 use Rattle.entry_fits.specs.Laws.{IsRegular}
-use Rattle.green_store.specs.Durable.{has_risen, IsEdit}
+use Rattle.green_store.specs.Durable.{has_risen, IsDurableEntry}
 use Rattle.green_store.specs.StoreView.{StoreView}
 use Rattle.green_store.proofs.Accepting.{may_be_kept}
 use Rattle.green_store.proofs.Edits.{made_keeps, edit_leaves, kept_keeps}
@@ -31,7 +31,7 @@ make_kept-requires-clause-may g c =
     let before = c.args.self.now in
     let request = plain_request c.args.request.now in
     let served = rw c.in-Changed.is at (c.in_ok-refusal.ensures.served view c.self.invariant.world_stands) in
-    let counted : is_counted (plain_change c.in-Changed.made.change) ≡ true = sym c.is_kept.ensures ∙ c.if-is_kept.true in
+    let counted : is_durable (plain_change c.in-Changed.made.change) ≡ true = sym c.is_durable.ensures ∙ c.if-is_durable.true in
     let bounds : AreLimits before.limits.entries before.limits.text before.limits.flush = subst (λ (l : LimitsView). AreLimits l.entries l.text l.flush) (limits_are g here) c.text.ensures.bounds in
     let regular : IsRegular before.history = subst (λ (v : StoreView). IsRegular v.history) c.self.view_is c.self.invariant.regular in
     may_be_kept before.limits before.history c.args.session request (plain_effect c.in-Changed.made) bounds regular c.requires.live
@@ -46,7 +46,7 @@ make-requires-clause-placed g c =
     let before = c.args.self.now in
     let request = plain_request c.args.request.now in
     let served = rw c.in-Changed.is at (c.in_ok-refusal.ensures.served view c.self.invariant.world_stands) in
-    served_is_placed before.limits (length (kept before.history)) (world_of before.history) c.args.session request (plain_effect c.in-Changed.made)
+    served_is_placed before.limits (length (durable_entries before.history)) (world_of before.history) c.args.session request (plain_effect c.in-Changed.made)
     (allowed_here before c.self.inside.limits view c.args.session request true c.requires.live (limits_are g here) (world_is g here) c.in-Changed.made served)
     (effect_here before c.self.inside.limits view c.args.session request true c.requires.live (limits_are g here) (world_is g here) c.in-Changed.made served)
 
@@ -72,17 +72,17 @@ returns-in-Changed-clause-steps g c =
     let view = view_of (plain_history c.self.inside.history.items) in
     let rose = has_risen (g.D.Disk.fault_count c.args.disk.now) (g.D.Disk.fault_count c.make_kept.new.disk) in
     let served = rw c.in-Changed.is at (c.in_ok-refusal.ensures.served view c.self.invariant.world_stands) in
-    let counted : is_counted (plain_change c.in-Changed.made.change) ≡ true = sym c.is_kept.ensures ∙ c.if-is_kept.true in
+    let counted : is_durable (plain_change c.in-Changed.made.change) ≡ true = sym c.is_durable.ensures ∙ c.if-is_durable.true in
     kept_here c.args.self.now c.self.inside.limits view c.args.session (plain_request c.args.request.now) rose c.requires.live (limits_are g here) (world_is g here) c.in-Changed.made c.make_kept.result
     c.make_kept.new.self.history served counted c.make_kept.ensures.outcome
 
-edit_is : (g : given.Over) (c : After-make_kept g) → IsEdit c.args.self.now.limits c.args.self.now.history c.args.session (plain_request c.args.request.now) (entry_after c.args.self.now.history c.args.session (plain_effect c.in-Changed.made))
+edit_is : (g : given.Over) (c : After-make_kept g) → IsDurableEntry c.args.self.now.limits c.args.self.now.history c.args.session (plain_request c.args.request.now) (entry_after c.args.self.now.history c.args.session (plain_effect c.in-Changed.made))
 edit_is g c =
     let view = view_of (plain_history c.self.inside.history.items) in
     let limits : c.self.inside.limits ≡ c.args.self.now.limits = ap (λ (v : StoreView). v.limits) c.self.view_is in
     let world : view ≡ view_of c.args.self.now.history = ap (λ (v : StoreView). view_of v.history) c.self.view_is in
     let served = rw c.in-Changed.is at (c.in_ok-refusal.ensures.served view c.self.invariant.world_stands) in
-    let counted : is_counted (plain_change c.in-Changed.made.change) ≡ true = sym c.is_kept.ensures ∙ c.if-is_kept.true in
+    let counted : is_durable (plain_change c.in-Changed.made.change) ≡ true = sym c.is_durable.ensures ∙ c.if-is_durable.true in
     edit_here c.args.self.now c.self.inside.limits view c.args.session (plain_request c.args.request.now) true c.requires.live limits world c.in-Changed.made served counted
 
 pub returns-in-Changed-clause-any_moment : goal.returns-in-Changed-clause-any_moment
@@ -107,7 +107,7 @@ returns-in-Changed-2-clause-steps g c =
 pub returns-in-Changed-2-clause-keeps : goal.returns-in-Changed-2-clause-keeps
 returns-in-Changed-2-clause-keeps g c pending has =
     made_keeps c.args.self.now c.make.new.self (g.D.Disk.state c.args.disk.now) (g.D.Disk.state c.args.disk.now) pending c.args.session (plain_request c.args.request.now) c.make.result
-    (entry_after c.args.self.now.history c.args.session (plain_effect c.in-Changed.made)) (sym c.is_kept.ensures ∙ c.if-is_kept.false) c.make.ensures.ok has
+    (entry_after c.args.self.now.history c.args.session (plain_effect c.in-Changed.made)) (sym c.is_durable.ensures ∙ c.if-is_durable.false) c.make.ensures.ok has
 
 pub returns-in-Changed-2-clause-trees : goal.returns-in-Changed-2-clause-trees
 returns-in-Changed-2-clause-trees g c same =

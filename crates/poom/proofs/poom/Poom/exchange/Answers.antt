@@ -4,9 +4,9 @@ use Rattle.poom.proofs.poom.Poom.exchange.Goals as goal
 pub lay-requires-clause-fits : goal.lay-requires-clause-fits
 lay-requires-clause-fits c = end_fits c.args.part _ c.args.pieces.now c.args.from c.args.to c.requires.borders c.requires.fits
 
-pub exchange-requires-clause-right : goal.exchange-requires-clause-right
-exchange-requires-clause-right c =
-    (called c.args.part c.args.self.now c.self.inside.arena c.args.root.0 c.args.pieces.now c.args.from c.args.to c.in_ok-laid.laid.end _ _ _ c.in_ok-laid.laid.rows.items c.requires.document c.requires.borders c.requires.pieces c.requires.fits c.in_ok-laid.ensures.end c.self.view_is c.position.ensures c.position-2.ensures c.position-3.ensures c.in_ok-laid.ensures.rows).right
+pub exchange-requires-clause-well_formed : goal.exchange-requires-clause-well_formed
+exchange-requires-clause-well_formed c =
+    (called c.args.part c.args.self.now c.self.inside.arena c.args.root.0 c.args.pieces.now c.args.from c.args.to c.in_ok-laid.laid.end _ _ _ c.in_ok-laid.laid.rows.items c.requires.document c.requires.borders c.requires.pieces c.requires.fits c.in_ok-laid.ensures.end c.self.view_is c.position.ensures c.position-2.ensures c.position-3.ensures c.in_ok-laid.ensures.rows).well_formed
 
 pub returns-clause-document : goal.returns-clause-document
 returns-clause-document c =

@@ -14,13 +14,13 @@ use Rattle.tree_world.proofs.Marked.{stay_self, due_grown, due_rooted, some_row,
 use Rattle.tree_world.proofs.world.TreeWorld.balance_documents.Goals as goal
 
 pub balance-requires : goal.balance-requires
-balance-requires c = (root_stands c.self.inside.pooms c.self.inside.documents c.in-Some.document c.in-Some.root c.self.invariant.0 c.in-Some.ensures.some.root).there
+balance-requires c = (root_stands c.self.inside.pooms c.self.inside.documents c.in-Some.due.0 c.in-Some.due.1 c.self.invariant.0 c.in-Some.ensures.some.root).there
 
 pub returns-in_err-made-clause-idle : goal.returns-in_err-made-clause-idle
-returns-in_err-made-clause-idle c off = absurd (true≢false (sym (ap (λ (t : Trees). documents_allow t.nodes t.documents) (sym c.self.view_is) ∙ (some_row c.self.inside.pooms c.self.inside.documents c.in-Some.document c.in-Some.root c.in-Some.ensures.some.root c.in-Some.ensures.some.allows)) ∙ off))
+returns-in_err-made-clause-idle c off = absurd (true≢false (sym (ap (λ (t : Trees). documents_allow t.nodes t.documents) (sym c.self.view_is) ∙ (some_row c.self.inside.pooms c.self.inside.documents c.in-Some.due.0 c.in-Some.due.1 c.in-Some.ensures.some.root c.in-Some.ensures.some.allows)) ∙ off))
 
 pub set_root-requires : goal.set_root-requires
-set_root-requires c = has_some c.self.inside.documents c.in-Some.document c.in-Some.root c.in-Some.ensures.some.root
+set_root-requires c = has_some c.self.inside.documents c.in-Some.due.0 c.in-Some.due.1 c.in-Some.ensures.some.root
 
 pub invariant_of-self-2 : goal.invariant_of-self-2
 invariant_of-self-2 c =
@@ -28,11 +28,11 @@ invariant_of-self-2 c =
     (record { contents = c.self.inside.contents; content = c.self.inside.content; nodes = c.balance.new.self; documents = c.set_root.new.self; index = c.self.inside.index; links = c.self.inside.links; access = c.self.inside.access; counted = c.self.inside.counted; sessions = c.self.inside.sessions; due = c.due_tree.new.due.items })
     (step_same (record { contents = c.self.inside.contents; content = c.self.inside.content; nodes = c.self.inside.pooms; documents = c.self.inside.documents; index = c.self.inside.index; links = c.self.inside.links; access = c.self.inside.access; counted = c.self.inside.counted; sessions = c.self.inside.sessions; due = c.self.inside.due.items })
     (record { contents = c.self.inside.contents; content = c.self.inside.content; nodes = c.balance.new.self; documents = c.set_root.new.self; index = c.self.inside.index; links = c.self.inside.links; access = c.self.inside.access; counted = c.self.inside.counted; sessions = c.self.inside.sessions; due = c.due_tree.new.due.items })
-    (place c.self.inside.pooms c.balance.new.self c.self.inside.documents c.in-Some.document c.in-Some.root c.in_ok-made.made c.in-Some.ensures.some.root c.in-Some.ensures.some.allows) c.in-Some.document c.in-Some.root c.in_ok-made.made
-    (step_found c.self.inside.pooms c.balance.new.self c.self.inside.documents c.in-Some.document c.in-Some.root c.in_ok-made.made c.in-Some.ensures.some.root c.in-Some.ensures.some.allows c.self.invariant.0 c.in_order.ensures
+    (place c.self.inside.pooms c.balance.new.self c.self.inside.documents c.in-Some.due.0 c.in-Some.due.1 c.in_ok-made.made c.in-Some.ensures.some.root c.in-Some.ensures.some.allows) c.in-Some.due.0 c.in-Some.due.1 c.in_ok-made.made
+    (step_found c.self.inside.pooms c.balance.new.self c.self.inside.documents c.in-Some.due.0 c.in-Some.due.1 c.in_ok-made.made c.in-Some.ensures.some.root c.in-Some.ensures.some.allows c.self.invariant.0 c.in_order.ensures
     (subst (λ (nodes : List (Shape ℕ)). DebtsStay nodes) c.arena.ensures c.debts_stay.ensures) c.in_ok-made.ensures.kept c.in_ok-made.ensures.grows c.in_ok-made.ensures.rows c.in_ok-made.ensures.document c.in_ok-made.ensures.lowers c.in_ok-made.ensures.idle)
-    (c.set_root.ensures ∙ ap (λ (node : Node). with_root c.self.inside.documents c.in-Some.document node) c.root_after.ensures) refl refl refl refl refl refl refl)
-    (due_rooted c.balance.new.self c.self.inside.documents c.set_root.new.self c.in-Some.document c.root_after.result c.due_tree.new.due.items c.due_tree.new.due.items c.in-Some.root c.in-Some.ensures.some.root c.set_root.ensures
+    (c.set_root.ensures ∙ ap (λ (node : Node). with_root c.self.inside.documents c.in-Some.due.0 node) c.root_after.ensures) refl refl refl refl refl refl refl)
+    (due_rooted c.balance.new.self c.self.inside.documents c.set_root.new.self c.in-Some.due.0 c.root_after.result c.due_tree.new.due.items c.due_tree.new.due.items c.in-Some.due.1 c.in-Some.ensures.some.root c.set_root.ensures
     (due_grown c.self.inside.pooms c.balance.new.self c.self.inside.documents c.due_tree.new.due.items c.in_ok-made.ensures.grows c.self.invariant.0 c.due_tree.ensures.due) (stay_self c.due_tree.new.due.items) (λ allows. c.in-Some.ensures.some.marked))
     c.self.invariant
 
@@ -41,23 +41,23 @@ returns-clause-same c =
     subst (λ (t : Trees). SameRows t (record { contents = c.self.inside.contents; content = c.self.inside.content; nodes = c.balance.new.self; documents = c.set_root.new.self; index = c.self.inside.index; links = c.self.inside.links; access = c.self.inside.access; counted = c.self.inside.counted; sessions = c.self.inside.sessions; due = c.due_tree.new.due.items })) c.self.view_is
     (step_same (record { contents = c.self.inside.contents; content = c.self.inside.content; nodes = c.self.inside.pooms; documents = c.self.inside.documents; index = c.self.inside.index; links = c.self.inside.links; access = c.self.inside.access; counted = c.self.inside.counted; sessions = c.self.inside.sessions; due = c.self.inside.due.items })
     (record { contents = c.self.inside.contents; content = c.self.inside.content; nodes = c.balance.new.self; documents = c.set_root.new.self; index = c.self.inside.index; links = c.self.inside.links; access = c.self.inside.access; counted = c.self.inside.counted; sessions = c.self.inside.sessions; due = c.due_tree.new.due.items })
-    (place c.self.inside.pooms c.balance.new.self c.self.inside.documents c.in-Some.document c.in-Some.root c.in_ok-made.made c.in-Some.ensures.some.root c.in-Some.ensures.some.allows) c.in-Some.document c.in-Some.root c.in_ok-made.made
-    (step_found c.self.inside.pooms c.balance.new.self c.self.inside.documents c.in-Some.document c.in-Some.root c.in_ok-made.made c.in-Some.ensures.some.root c.in-Some.ensures.some.allows c.self.invariant.0 c.in_order.ensures
+    (place c.self.inside.pooms c.balance.new.self c.self.inside.documents c.in-Some.due.0 c.in-Some.due.1 c.in_ok-made.made c.in-Some.ensures.some.root c.in-Some.ensures.some.allows) c.in-Some.due.0 c.in-Some.due.1 c.in_ok-made.made
+    (step_found c.self.inside.pooms c.balance.new.self c.self.inside.documents c.in-Some.due.0 c.in-Some.due.1 c.in_ok-made.made c.in-Some.ensures.some.root c.in-Some.ensures.some.allows c.self.invariant.0 c.in_order.ensures
     (subst (λ (nodes : List (Shape ℕ)). DebtsStay nodes) c.arena.ensures c.debts_stay.ensures) c.in_ok-made.ensures.kept c.in_ok-made.ensures.grows c.in_ok-made.ensures.rows c.in_ok-made.ensures.document c.in_ok-made.ensures.lowers c.in_ok-made.ensures.idle)
-    (c.set_root.ensures ∙ ap (λ (node : Node). with_root c.self.inside.documents c.in-Some.document node) c.root_after.ensures) refl refl refl refl refl refl refl)
+    (c.set_root.ensures ∙ ap (λ (node : Node). with_root c.self.inside.documents c.in-Some.due.0 node) c.root_after.ensures) refl refl refl refl refl refl refl)
 
 pub returns-clause-told : goal.returns-clause-told
-returns-clause-told c = sym (ap (λ (t : Trees). documents_allow t.nodes t.documents) (sym c.self.view_is) ∙ (some_row c.self.inside.pooms c.self.inside.documents c.in-Some.document c.in-Some.root c.in-Some.ensures.some.root c.in-Some.ensures.some.allows))
+returns-clause-told c = sym (ap (λ (t : Trees). documents_allow t.nodes t.documents) (sym c.self.view_is) ∙ (some_row c.self.inside.pooms c.self.inside.documents c.in-Some.due.0 c.in-Some.due.1 c.in-Some.ensures.some.root c.in-Some.ensures.some.allows))
 
 pub returns-clause-lowers : goal.returns-clause-lowers
 returns-clause-lowers c made =
     subst (λ (t : Trees). debt_of (record { contents = c.self.inside.contents; content = c.self.inside.content; nodes = c.balance.new.self; documents = c.set_root.new.self; index = c.self.inside.index; links = c.self.inside.links; access = c.self.inside.access; counted = c.self.inside.counted; sessions = c.self.inside.sessions; due = c.due_tree.new.due.items }) + 1 ≤ debt_of t) c.self.view_is
     (step_lowers (record { contents = c.self.inside.contents; content = c.self.inside.content; nodes = c.self.inside.pooms; documents = c.self.inside.documents; index = c.self.inside.index; links = c.self.inside.links; access = c.self.inside.access; counted = c.self.inside.counted; sessions = c.self.inside.sessions; due = c.self.inside.due.items })
     (record { contents = c.self.inside.contents; content = c.self.inside.content; nodes = c.balance.new.self; documents = c.set_root.new.self; index = c.self.inside.index; links = c.self.inside.links; access = c.self.inside.access; counted = c.self.inside.counted; sessions = c.self.inside.sessions; due = c.due_tree.new.due.items })
-    (place c.self.inside.pooms c.balance.new.self c.self.inside.documents c.in-Some.document c.in-Some.root c.in_ok-made.made c.in-Some.ensures.some.root c.in-Some.ensures.some.allows) c.in-Some.document c.in-Some.root c.in_ok-made.made
-    (step_found c.self.inside.pooms c.balance.new.self c.self.inside.documents c.in-Some.document c.in-Some.root c.in_ok-made.made c.in-Some.ensures.some.root c.in-Some.ensures.some.allows c.self.invariant.0 c.in_order.ensures
+    (place c.self.inside.pooms c.balance.new.self c.self.inside.documents c.in-Some.due.0 c.in-Some.due.1 c.in_ok-made.made c.in-Some.ensures.some.root c.in-Some.ensures.some.allows) c.in-Some.due.0 c.in-Some.due.1 c.in_ok-made.made
+    (step_found c.self.inside.pooms c.balance.new.self c.self.inside.documents c.in-Some.due.0 c.in-Some.due.1 c.in_ok-made.made c.in-Some.ensures.some.root c.in-Some.ensures.some.allows c.self.invariant.0 c.in_order.ensures
     (subst (λ (nodes : List (Shape ℕ)). DebtsStay nodes) c.arena.ensures c.debts_stay.ensures) c.in_ok-made.ensures.kept c.in_ok-made.ensures.grows c.in_ok-made.ensures.rows c.in_ok-made.ensures.document c.in_ok-made.ensures.lowers c.in_ok-made.ensures.idle)
-    (c.set_root.ensures ∙ ap (λ (node : Node). with_root c.self.inside.documents c.in-Some.document node) c.root_after.ensures) refl refl refl)
+    (c.set_root.ensures ∙ ap (λ (node : Node). with_root c.self.inside.documents c.in-Some.due.0 node) c.root_after.ensures) refl refl refl)
 
 pub returns-clause-idle : goal.returns-clause-idle
-returns-clause-idle c off = absurd (true≢false (sym (ap (λ (t : Trees). documents_allow t.nodes t.documents) (sym c.self.view_is) ∙ (some_row c.self.inside.pooms c.self.inside.documents c.in-Some.document c.in-Some.root c.in-Some.ensures.some.root c.in-Some.ensures.some.allows)) ∙ off))
+returns-clause-idle c off = absurd (true≢false (sym (ap (λ (t : Trees). documents_allow t.nodes t.documents) (sym c.self.view_is) ∙ (some_row c.self.inside.pooms c.self.inside.documents c.in-Some.due.0 c.in-Some.due.1 c.in-Some.ensures.some.root c.in-Some.ensures.some.allows)) ∙ off))

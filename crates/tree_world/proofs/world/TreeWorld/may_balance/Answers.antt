@@ -1,6 +1,6 @@
 use Rattle.std.proofs.Common.{◌∙◌, ap}
 use Rattle.enfilade_core.specs.declared.tree.Node.{Node}
-use Rattle.enfilade_core.specs.Standing.{tree_allows}
+use Rattle.enfilade_core.specs.BalanceState.{tree_allows}
 use Rattle.spanfilade.specs.Index.{IndexTree}
 use Rattle.tree_world.specs.Trees.{Trees}
 use Rattle.tree_world.specs.Condition.{allows_of, documents_allow}

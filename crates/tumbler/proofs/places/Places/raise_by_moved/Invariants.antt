@@ -1,6 +1,6 @@
 use Rattle.std.proofs.Common.{◌≡◌, take}
 use Rattle.tumbler.specs.Reach.{greater}
-use Rattle.tumbler.proofs.RaiseSteps.{AreZero}
+use Rattle.tumbler.proofs.LeadingZeros.{AreZero}
 use Rattle.tumbler.proofs.places.Places.raise_by_moved.Given as goal
 
 abbrev pub invariant-loop-k : goal.invariant-loop-k

@@ -1,0 +1,169 @@
+//! Which children a node may have, and what is kept of them.
+ghost use Rattle.std.specs.Prelude.{◌≡◌, ◌≢◌, ◌↔◌, ◌+◌, ◌<◌, ◌≤◌, [], ◌∷◌, ◌++◌, map, min, length, All, IsTrue, IfSome, IfNone};
+ghost use Rattle.tumbler.specs.Places.{IsTumbler, sum};
+ghost use Rattle.enfilade_core.specs.Rows.{Rows, Branches, rows_of, node_at};
+ghost use Rattle.enfilade_core.specs.Axes.{IsWellFormedRow, IsWellFormedRows, first_axis, greatest_end};
+ghost use Rattle.enfilade_core.specs.WellFormed.{IsWellFormed, AreWellFormed, IsWellFormedPart};
+ghost use Rattle.enfilade_core.specs.Summary.{row_summary, branch_summary, summary_in, summary_of, summaries, kept, depth_of, most_count};
+ghost use Rattle.enfilade_core.specs.Plain.{shape, plain_row};
+
+use crate::arena::Arena;
+use crate::plane::Plane;
+use crate::summary::Summary;
+use crate::tree::{Branch, Children, Node, Row};
+use std::alloc::Global;
+use tumbler::Tumbler;
+
+/// Whether coordinate and width add up to a tumbler.
+#[tactic(auto, using(crate::proofs::Rooms::fitting))]
+fn ends(coordinate: &Tumbler, width: &Tumbler) -> bool
+    ensures fits { IsTrue result ↔ IsTumbler (sum coordinate.now width.now) }
+    ensures coordinate { IsTumbler coordinate.now }
+    ensures width { IsTumbler width.now }
+{
+    let _coordinate = coordinate.places();
+    let _width = width.places();
+    coordinate.fits(width)
+}
+
+/// Whether two places are the same.
+pub(crate) fn is_same(a: &Tumbler, b: &Tumbler) -> bool
+    ensures { IsTrue result ↔ (a.now ≡ b.now) }
+{
+    a == b
+}
+
+/// What is told of a row, if it may hang in a bottom node.
+#[tactic(auto, using(crate::proofs::Rooms::fitting))]
+fn row_part<P: Plane>(row: &Row<P::Leaf>) -> Option<Summary>
+    ensures some { IfSome result (λ s. IsWellFormedRow P.widths (plain_row P.plain row.now) × (s ≡ row_summary P.widths (plain_row P.plain row.now))) }
+    ensures none { IfNone result (¬ IsWellFormedRow P.widths (plain_row P.plain row.now)) }
+{
+    let first_width = P::first_width(row);
+    let second_width = P::second_width(row);
+    if !ends(&row.first, &first_width) {
+        return None;
+    }
+    if !ends(&row.second, &second_width) {
+        return None;
+    }
+    if !P::is_proper(row) {
+        return None;
+    }
+    Some(Summary {
+        height: 0,
+        leaves: 1,
+        first: row.first,
+        last: row.first,
+        first_extent: row.first.add(&first_width),
+        second_extent: row.second.add(&second_width),
+    })
+}
+
+/// What is told of rows together, if a bottom node may have them.
+fn rows_summary<P: Plane>(alloc: Global, rows: &[Row<P::Leaf>]) -> Option<Summary>
+    ensures some { IfSome result (λ s. IsWellFormedRows P.widths (map (plain_row P.plain) rows.now) × (s ≡ kept (summary_in P.widths [] (Rows (map (plain_row P.plain) rows.now))))) }
+    ensures none { IfNone result (¬ IsWellFormedRows P.widths (map (plain_row P.plain) rows.now)) }
+{
+    let mut summary = Summary::none(alloc);
+    for row in rows {
+        let part = row_part::<P>(row)?;
+        summary.append(part)?;
+    }
+    Some(summary)
+}
+
+impl<P: Plane> Arena<P> {
+    /// What is told of a branch, if it may stand in an inner node.
+    fn branch_part(&self, branch: &Branch) -> Option<Summary>
+        ensures some { IfSome result (λ s. IsWellFormedPart P.widths self.now branch.now × (s ≡ kept (branch_summary (summaries P.widths self.now) branch.now))) }
+        ensures none { IfNone result (¬ IsWellFormedPart P.widths self.now branch.now) }
+    {
+        if branch.node.0 >= self.count() {
+            return None;
+        }
+        let _first = branch.first.places();
+        let _second = branch.second.places();
+        let summary = self.summary(branch.node);
+        if summary.leaves == 0 {
+            return None;
+        }
+        if !is_same(&branch.first_extent, &summary.first_extent) {
+            return None;
+        }
+        if !is_same(&branch.second_extent, &summary.second_extent) {
+            return None;
+        }
+        let reach = self.reach_below(branch.node);
+        if !branch.first.has_room(&reach.first) {
+            return None;
+        }
+        if !branch.second.has_room(&reach.second) {
+            return None;
+        }
+        Some(summary.moved(&branch.first, &branch.second))
+    }
+
+    /// What is told of branches together, if an inner node may have them.
+    fn branches_summary(&self, branches: &[Branch]) -> Option<Summary>
+        ensures some { IfSome result (λ s. IsWellFormed P.widths self.now (Branches branches.now) × (s ≡ kept (summary_in P.widths (summaries P.widths self.now) (Branches branches.now)))) }
+        ensures none { IfNone result (¬ IsWellFormed P.widths self.now (Branches branches.now)) }
+    {
+        let mut summary = Summary::none(self.allocator());
+        for branch in branches {
+            let part = self.branch_part(branch)?;
+            summary.append(part)?;
+        }
+        if branches.is_empty() {
+            return None;
+        }
+        Some(summary.raised())
+    }
+
+    /// What is told of children together, if a node may have them.
+    pub(crate) fn children_summary(&self, children: &Children<P::Leaf>) -> Option<Summary>
+        ensures some { IfSome result (λ s. IsWellFormed P.widths self.now (shape P.plain children.now) × (s ≡ kept (summary_in P.widths (summaries P.widths self.now) (shape P.plain children.now)))) }
+        ensures none { IfNone result (¬ IsWellFormed P.widths self.now (shape P.plain children.now)) }
+    {
+        match children {
+            Children::Bottom(rows) => rows_summary::<P>(self.allocator(), rows.as_slice()),
+            Children::Inner(branches) => self.branches_summary(branches.as_slice()),
+        }
+    }
+
+    /// Whether a node may have these children. It goes through all that is below them, and takes no memory.
+    pub fn is_well_formed(&self, children: &Children<P::Leaf>) -> bool
+        ensures { IsTrue result ↔ IsWellFormed P.widths self.now (shape P.plain children.now) }
+    {
+        self.children_summary(children).is_some()
+    }
+
+    /// How many levels of nodes a tree has, up to 2^32 - 1. It takes no memory.
+    pub fn depth(&self, root: Node) -> u32
+        requires { root.0 < length self.now }
+        ensures { result ≡ min (depth_of P.widths self.now root.0) 4294967295 }
+    {
+        let levels = self.summary(root).height.saturating_add(1);
+        if levels < 4_294_967_295 {
+            levels as u32
+        } else {
+            u32::MAX
+        }
+    }
+
+    /// How many rows a tree has, up to 2^64 - 1. It takes no memory.
+    pub fn leaves(&self, root: Node) -> u64
+        requires { root.0 < length self.now }
+        ensures { result ≡ min (length (rows_of self.now root.0)) most_count }
+    {
+        self.summary(root).leaves
+    }
+
+    /// The greatest end of a tree's rows on the first axis, or zero where it has no row. It takes no memory.
+    pub fn first_extent(&self, root: Node) -> Tumbler
+        requires { root.0 < length self.now }
+        ensures { result ≡ greatest_end (first_axis P.widths) (rows_of self.now root.0) }
+    {
+        self.summary(root).first_extent
+    }
+}

@@ -1,6 +1,0 @@
-use Rattle.std.proofs.Common.{ap, ◌+◌}
-use Rattle.links.proofs.Counted.{counts_as}
-use Rattle.links.proofs.counts.count_up.Goals as goal
-
-pub returns-clause-counted : goal.returns-clause-counted
-returns-clause-counted c = counts_as c.args.home _ _ c.args.counts.now c.insert.new.self c.in_ok-insert.ensures.updates.0 (ap (λ n. n + 1) c.count_of-count.ensures)

@@ -1,0 +1,2 @@
+mod NoneLater
+mod TestPlaces
