@@ -23,9 +23,7 @@ pub fn debts_stay<P: Plane>(arena: &Arena<P>)
 /// come in between, from other trees or where memory was refused, leave it.
 pub fn steps_are_counted<P: Plane>(arena: &Arena<P>)
     ensures { StepsAreCounted arena.now }
-{
-    let _count = arena.count();
-}
+{}
 
 /// A tree of d levels, two or more, in which no step is allowed has at least 2^d leaves.
 pub fn settled_trees_are_full<P: Plane>(arena: &Arena<P>)

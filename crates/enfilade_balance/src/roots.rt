@@ -11,6 +11,7 @@ ghost use Rattle.enfilade_balance.specs.Path.{debt_below, own_debt, IsRootOf, Is
 
 use crate::halves::{branches_halved, rows_halved};
 use crate::opening::opened;
+use enfilade_core::laws::nodes_are_well_formed;
 use enfilade_core::{Arena, Branch, Children, Node, Plane, Row};
 use tumbler::{List, Memory};
 
@@ -79,7 +80,7 @@ pub(crate) fn root_below<P: Plane>(arena: &mut Arena<P>, branch: &Branch) -> Res
     ensures owes { IfOk result (λ root. tree_debt arena.new root.0 ≤ (balance_state_of arena.old branch.now.node.0).debt) }
     ensures is { IfOk result (λ root. node_at arena.new root.0 ≡ children_of arena.old branch.now) }
 {
-    let _well_formed = arena.allocator();
+    nodes_are_well_formed(arena);
     if stands_at_zero(branch) {
         return Ok(branch.node);
     }

@@ -14,7 +14,7 @@ use Rattle.enfilade_core.specs.Plain.{shape}
 use Rattle.enfilade_core.specs.StoredNode.{held_shapes, IsArena}
 use Rattle.enfilade_core.proofs.Tables.{table-none, table-take, table-push}
 
-well_formed_none : {L : Type 0} (w : Widths L) → AreWellFormed w []
+pub well_formed_none : {L : Type 0} (w : Widths L) → AreWellFormed w []
 well_formed_none w = record { each = λ k lt. absurd (omega arith) }
 
 pub well_formed_take : {L : Type 0} (w : Widths L) (n : ℕ) (nodes : List (Shape L)) → AreWellFormed w nodes → AreWellFormed w (take n nodes)

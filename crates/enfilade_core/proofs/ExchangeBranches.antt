@@ -1,7 +1,7 @@
 -- An exchange in the branches of a node: what each one needs, and what comes of them together.
-use Rattle.std.proofs.Common.{◌≡◌, ℕ, ◌+◌, ◌<◌, ◌≤◌, false, List, [], ◌∷◌, ◌++◌, length, get_or, take, drop, refl, ap, ◌∙◌, sym, subst, append_assoc, append-nil, Option}
+use Rattle.std.proofs.Common.{◌≡◌, ℕ, ◌+◌, ◌<◌, ◌≤◌, true, false, List, [], ◌∷◌, ◌++◌, length, get_or, take, drop, refl, arith, ap, ◌∙◌, sym, subst, append_assoc, append-nil, Option}
 use Rattle.std.specs.List.{All}
-use Rattle.std.proofs.lemmas.List.Elements.{All-take, All-drop}
+use Rattle.std.proofs.lemmas.List.Elements.{All-nil, All-take, All-drop}
 use Rattle.std.proofs.lemmas.List.{take_more, take_all}
 use Rattle.std.proofs.lemmas.Grind.{flat_map-append}
 use Rattle.tumbler.specs.Places.{IsUpTo, comes_before}
@@ -225,3 +225,35 @@ branches-taken {L} w gap new old mid branches k branch rest out_before out out_a
     ∙ ap (λ (r : List (Row L)). r ++ taken_out gap.from gap.to behind) took
     ∙ append_assoc out_before (taken_out gap.from gap.to rows) (taken_out gap.from gap.to behind)
     ∙ ap (λ (r : List (Row L)). out_before ++ r) (sym whole)
+
+-- ---- a lone branch
+
+pub lone-chosen : {L : Type 0} (nodes : List (Shape L)) (branches : List Branch) (at : List ℕ) → length branches ≡ 1 → IsChosen nodes branches at 0
+lone-chosen nodes [] at one = absurd (omega (arith, one))
+lone-chosen nodes (branch ∷ []) at one = record { there = omega arith; front = All-nil (λ row. comes_before row.first at ≡ true); back = All-nil (λ row. comes_before row.first at ≡ false) }
+lone-chosen nodes (branch ∷ other ∷ branches) at one = absurd (omega (arith, one))
+
+none_behind : (branches : List Branch) → length branches ≡ 1 → [] ≡ drop (0 + 1) branches
+none_behind [] one = absurd (omega (arith, one))
+none_behind (branch ∷ []) one = refl
+none_behind (branch ∷ other ∷ branches) one = absurd (omega (arith, one))
+
+pub lone-made : {L : Type 0} (w : Widths L) (gap : Gap) (new : List (Row L)) (old now : List (Shape L)) (branches : List Branch) (branch : Branch) (made : List Branch) (found : Option Branch)
+    → BranchesAt w gap new old branches 0 branch → length branches ≡ 1 → Grows old now → MayHaveRows w now (height_of w old branch.node.0) (exchanged gap new (branch_rows (rows_table old) branch)) found → made ≡ branches_if found
+    → LevelRows w old now branches (exchanged gap new (flat_rows old branches)) made
+lone-made w gap new old now branches branch made found at one grows has is =
+    branches-made w gap new old now now branches 0 branch [] [] made made found at record {
+      grows = grows;
+      later = grows-same now;
+      front_is = refl;
+      rest_is = none_behind branches one;
+      has = has;
+      made_is = is;
+      appends = (rest-start w gap now [] made []).rows;
+    }
+
+pub lone-taken : {L : Type 0} (w : Widths L) (gap : Gap) (new : List (Row L)) (old now : List (Shape L)) (branches : List Branch) (branch : Branch) (out_before out : List (Row L))
+    → BranchesAt w gap new old branches 0 branch → length branches ≡ 1 → Grows old now → out ≡ out_before ++ taken_out gap.from gap.to (branch_rows (rows_table old) branch)
+    → out ≡ out_before ++ taken_out gap.from gap.to (flat_rows old branches)
+lone-taken w gap new old now branches branch out_before out at one grows took =
+    branches-taken w gap new old now branches 0 branch [] out_before out out at grows (none_behind branches one) took (sym (append-nil out))

@@ -48,3 +48,8 @@ pub mod Rooted
 pub mod WalkedBefore
 pub mod WalkedDown
 pub mod AskedEdits
+pub mod Naming
+pub mod Ranks
+pub mod AtRanks
+pub mod Changed
+pub mod KeptMarked

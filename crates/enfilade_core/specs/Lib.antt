@@ -14,3 +14,5 @@ pub mod Following
 pub mod Exchange
 pub mod Packing
 pub mod Touched
+pub mod NewNumbers
+pub mod KeptMarked

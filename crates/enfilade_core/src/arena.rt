@@ -6,9 +6,12 @@ ghost use Rattle.enfilade_core.specs.Plain.{shape, plain_row};
 ghost use Rattle.enfilade_core.specs.Summary.{summary_of, kept};
 ghost use Rattle.enfilade_core.specs.BalanceState.{balance_state_of, kept_balance_state};
 ghost use Rattle.enfilade_core.specs.Edits.{KeepsRows};
+ghost use Rattle.enfilade_core.specs.NewNumbers.{IsClosed, AreRanks, AreAtRanks};
 
 use crate::balance_state::BalanceState;
 use crate::exchange::append_copies;
+use crate::keep_nodes::keep_nodes;
+use crate::laws::nodes_are_few;
 use crate::plane::Plane;
 use crate::stored_node::StoredNode;
 use crate::summary::Summary;
@@ -74,6 +77,17 @@ impl<P: Plane> Arena<P> {
         self.nodes.truncate(mark as usize);
     }
 
+    /// Keeps the marked nodes, in their order, and drops the others. What hangs under a node has its new number then: how
+    /// many marked nodes are before it. The nodes are moved with what is kept of them, and it takes no memory.
+    pub fn keep_marked(&mut self, marks: &[bool], ranks: &[u64])
+        requires long { length marks.now ≡ length self.old }
+        requires closed { IsClosed self.old marks.now }
+        requires ranks { AreRanks marks.now ranks.now }
+        ensures { AreAtRanks marks.now self.old self.new (length self.old) }
+    {
+        keep_nodes::<P>(&mut self.nodes, marks, ranks);
+    }
+
     /// Makes room for so many more nodes, so that adding them moves none.
     pub fn reserve(&mut self, nodes: u64) -> Result<(), Memory>
         ensures { self.new ≡ self.old }
@@ -112,7 +126,7 @@ impl<P: Plane> Arena<P> {
         ensures well_formed { AreWellFormed P.widths self.now }
         ensures few { length self.now < 2 ^ 64 }
     {
-        let _count = self.nodes.len();
+        nodes_are_few(self);
         self.alloc
     }
 
@@ -123,7 +137,7 @@ impl<P: Plane> Arena<P> {
         ensures well_formed { AreWellFormed P.widths self.now }
         ensures few { length self.now < 2 ^ 64 }
     {
-        let _count = self.nodes.len();
+        nodes_are_few(self);
         &self.nodes.as_slice()[node.0 as usize].summary
     }
 

@@ -8,6 +8,7 @@ ghost use Rattle.enfilade_core.specs.Summary.{row_summary, branch_summary, summa
 ghost use Rattle.enfilade_core.specs.Plain.{shape, plain_row};
 
 use crate::arena::Arena;
+use crate::laws::is_tumbler;
 use crate::plane::Plane;
 use crate::summary::Summary;
 use crate::tree::{Branch, Children, Node, Row};
@@ -21,8 +22,8 @@ fn ends(coordinate: &Tumbler, width: &Tumbler) -> bool
     ensures coordinate { IsTumbler coordinate.now }
     ensures width { IsTumbler width.now }
 {
-    let _coordinate = coordinate.places();
-    let _width = width.places();
+    is_tumbler(coordinate);
+    is_tumbler(width);
     coordinate.fits(width)
 }
 
@@ -82,8 +83,8 @@ impl<P: Plane> Arena<P> {
         if branch.node.0 >= self.count() {
             return None;
         }
-        let _first = branch.first.places();
-        let _second = branch.second.places();
+        is_tumbler(&branch.first);
+        is_tumbler(&branch.second);
         let summary = self.summary(branch.node);
         if summary.leaves == 0 {
             return None;

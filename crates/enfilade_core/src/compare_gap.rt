@@ -12,6 +12,7 @@ ghost use Rattle.enfilade_core.specs.declared.compare_gap.Beside.TheVariants.{Pa
 
 use crate::arena::Arena;
 use crate::gap::Gap;
+use crate::laws::nodes_are_well_formed;
 use crate::plane::Plane;
 use crate::tree::Branch;
 use tumbler::Tumbler;
@@ -48,7 +49,7 @@ impl<P: Plane> Arena<P> {
         ensures some { branch_rows (rows_table self.now) branch.now ≢ [] }
         ensures ordered { InOrder (branch_rows (rows_table self.now) branch.now) }
     {
-        let _well_formed = self.allocator();
+        nodes_are_well_formed(self);
         if !branch.first.is_before(at) {
             return false;
         }

@@ -10,6 +10,7 @@ ghost use Rattle.enfilade_core.specs.Exchange.{exchanged, Grows, MayBeRoot, heig
 
 use crate::arena::Arena;
 use crate::gap::Gap;
+use crate::laws::nodes_are_well_formed;
 use crate::plane::Plane;
 use crate::tree::{Children, Node, Row};
 use tumbler::{List, Memory, Tumbler};
@@ -80,7 +81,7 @@ impl<P: Plane> Arena<P> {
         ensures rows { IfOk result (λ made. rows_of self.new made.0 ≡ put_before at.now (map (plain_row P.plain) rows.now.items) (rows_of self.old root.0)) }
         ensures level { IfOk result (λ made. rows_of self.new made.0 ≢ [] → depth_of P.widths self.new made.0 ≡ depth_of P.widths self.old root.0) }
     {
-        let _well_formed = self.allocator();
+        nodes_are_well_formed(self);
         let gap = Gap {
             from: at.copy(),
             to: at.copy(),

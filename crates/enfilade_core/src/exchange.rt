@@ -14,6 +14,7 @@ ghost use Rattle.enfilade_core.specs.Exchange.{exchanged, rows_before, rows_past
 use crate::arena::Arena;
 use crate::compare_gap::Beside;
 use crate::gap::Gap;
+use crate::laws::nodes_are_well_formed;
 use crate::plane::Plane;
 use crate::rebuild_node::Touched;
 use crate::tree::{Branch, Children, Node, Row};
@@ -164,7 +165,7 @@ impl<P: Plane> Arena<P> {
         ensures short { result ≤ length branches.now }
         ensures back { All (λ row. comes_before row.first at.now ≡ false) (rows_in (rows_table self.now) (Branches (drop result branches.now))) }
     {
-        let _well_formed = self.allocator();
+        nodes_are_well_formed(self);
         let mut near = 0;
         let mut far = branches.len();
         while near + 1 < far {
@@ -338,6 +339,57 @@ impl<P: Plane> Arena<P> {
         Ok(made)
     }
 
+    /// The same of a lone branch. What comes of it takes its place in the list, so that no other list is made.
+    #[cycle(exchanging)]
+    fn lone_exchanged(
+        &mut self,
+        below: Node,
+        branches: List<Branch>,
+        gap: &Gap,
+        rows: &[Row<P::Leaf>],
+        out: &mut List<Row<P::Leaf>>,
+    ) -> Result<List<Branch>, Memory>
+        requires up_to { IsUpTo gap.now.from gap.now.to }
+        requires lone { length branches.items ≡ 1 }
+        requires named { All (λ branch. branch.node.0 < below.0) branches.items }
+        requires node { IsWellFormed P.widths self.old (Branches branches.items) }
+        requires well_formed { IsWellFormedRows P.widths (exchanged gap.now (map (plain_row P.plain) rows.now) (rows_in (rows_table self.old) (Branches branches.items))) }
+        ensures grows { Grows self.old self.new }
+        ensures rows { IfOk result (λ made. LevelRows P.widths self.old self.new branches.items (exchanged gap.now (map (plain_row P.plain) rows.now) (rows_in (rows_table self.old) (Branches branches.items))) made.items) }
+        ensures out { OnOk result (map (plain_row P.plain) out.new.items ≡ map (plain_row P.plain) out.old.items ++ taken_out gap.now.from gap.now.to (rows_in (rows_table self.old) (Branches branches.items))) }
+    {
+        let mut made = branches;
+        let branch = made.as_slice()[0].copy();
+        let left = self.branch_exchanged(&branch, gap, rows, out)?;
+        made.truncate(0);
+        append_branch(left, &mut made)?;
+        Ok(made)
+    }
+
+    /// The branches of a node that an exchange touches, mostly one, with what stands in a gap exchanged.
+    #[cycle(exchanging)]
+    fn middle_exchanged(
+        &mut self,
+        below: Node,
+        branches: List<Branch>,
+        gap: &Gap,
+        rows: &[Row<P::Leaf>],
+        out: &mut List<Row<P::Leaf>>,
+    ) -> Result<List<Branch>, Memory>
+        requires up_to { IsUpTo gap.now.from gap.now.to }
+        requires named { All (λ branch. branch.node.0 < below.0) branches.items }
+        requires node { IsWellFormed P.widths self.old (Branches branches.items) }
+        requires well_formed { IsWellFormedRows P.widths (exchanged gap.now (map (plain_row P.plain) rows.now) (rows_in (rows_table self.old) (Branches branches.items))) }
+        ensures grows { Grows self.old self.new }
+        ensures rows { IfOk result (λ made. LevelRows P.widths self.old self.new branches.items (exchanged gap.now (map (plain_row P.plain) rows.now) (rows_in (rows_table self.old) (Branches branches.items))) made.items) }
+        ensures out { OnOk result (map (plain_row P.plain) out.new.items ≡ map (plain_row P.plain) out.old.items ++ taken_out gap.now.from gap.now.to (rows_in (rows_table self.old) (Branches branches.items))) }
+    {
+        if branches.len() == 1 {
+            return self.lone_exchanged(below, branches, gap, rows, out);
+        }
+        self.branches_exchanged(below, branches.as_slice(), gap, rows, out)
+    }
+
     /// The children of an inner node that an exchange touches, seen from a base, with what stands in a gap
     /// exchanged. There may be none left.
     #[cycle(exchanging)]
@@ -360,7 +412,7 @@ impl<P: Plane> Arena<P> {
         ensures rows { IfOk result (λ made. MayHaveChildren P.widths self.new (height_of P.widths self.old node.0) (exchanged gap.now (map (plain_row P.plain) rows.now) (map (moved first.now second.now) (rows_of self.old node.0))) (Branches (with_middle first.now second.now (branches_at first.now second.now (branches_under (node_at self.old node.0))) made))) }
         ensures out { OnOk result (map (plain_row P.plain) out.new.items ≡ map (plain_row P.plain) out.old.items ++ taken_out gap.now.from gap.now.to (map (moved first.now second.now) (rows_of self.old node.0))) }
     {
-        let _well_formed = self.allocator();
+        nodes_are_well_formed(self);
         let touched = self.touched(node, first, second, gap)?;
         let Touched {
             front,
@@ -368,7 +420,7 @@ impl<P: Plane> Arena<P> {
             branches: middle,
             rest,
         } = touched;
-        let branches = self.branches_exchanged(node, middle.as_slice(), gap, rows, out)?;
+        let branches = self.middle_exchanged(node, middle, gap, rows, out)?;
         Ok(Touched {
             front,
             behind,

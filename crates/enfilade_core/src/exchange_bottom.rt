@@ -16,6 +16,7 @@ use crate::arena::Arena;
 use crate::check_children::is_same;
 use crate::exchange::{append_copies, count_before, rows_exchanged};
 use crate::gap::Gap;
+use crate::laws::is_tumbler;
 use crate::list_rows::append_moved;
 use crate::move_children::rows_moved;
 use crate::pack_children::row_back;
@@ -106,7 +107,7 @@ fn row_shifted_back<P: Plane>(
     let coordinate = first.add(&row.first);
     let distance = coordinate.minus(&gap.to);
     let there = gap.onto.add(&distance);
-    let _second = row.second.places();
+    is_tumbler(&row.second);
     Ok(Row {
         first: there.minus(first),
         second: row.second.copy(),

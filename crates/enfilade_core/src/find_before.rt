@@ -12,6 +12,7 @@ ghost use Rattle.enfilade_core.specs.Exchange.{IsWellFormedAt, branch_at, IsChos
 
 use crate::arena::Arena;
 use crate::exchange::count_before;
+use crate::laws::nodes_are_well_formed;
 use crate::move_children::branch_moved;
 use crate::plane::Plane;
 use crate::rebuild_node::seen_from;
@@ -109,7 +110,7 @@ impl<P: Plane> Arena<P> {
         ensures none { IfNone result (last_before at.now (map (moved first.now second.now) (rows_of self.now node.0)) ≡ None) }
         ensures visits { IfSome result (λ found. found.visits ≡ min (visits + height_of P.widths self.now node.0 + 1) 4294967295) }
     {
-        let _ = self.allocator();
+        nodes_are_well_formed(self);
         let visits = visits.saturating_add(1);
         match self.node(node) {
             Children::Bottom(rows) => last_row::<P>(rows.as_slice(), first, second, at, visits),

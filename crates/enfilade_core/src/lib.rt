@@ -10,6 +10,7 @@ mod exchange;
 mod exchange_bottom;
 mod find_before;
 mod gap;
+mod keep_nodes;
 pub mod laws;
 mod list_rows;
 mod move_children;

@@ -11,6 +11,7 @@ ghost use Rattle.enfilade_core.specs.Packing.{back, branch_back, MayStandAt, IsP
 ghost use Rattle.enfilade_core.specs.BalanceState.{balance_states, balance_state_in, balance_state_below, balance_state_of};
 
 use crate::arena::Arena;
+use crate::laws::is_tumbler;
 use crate::plane::Plane;
 use crate::tree::{Branch, Children, Row};
 use std::alloc::Global;
@@ -43,7 +44,7 @@ fn second_before<P: Plane>(rows: &[Row<P::Leaf>]) -> Tumbler
     for row in rows {
         least = lesser(&least, &row.second);
     }
-    let _least = least.places();
+    is_tumbler(&least);
     least.just_before()
 }
 
@@ -57,7 +58,7 @@ fn first_least(branches: &[Branch]) -> Tumbler
     for branch in branches {
         least = lesser(&least, &branch.first);
     }
-    let _least = least.places();
+    is_tumbler(&least);
     least
 }
 
@@ -71,7 +72,7 @@ fn second_least(branches: &[Branch]) -> Tumbler
     for branch in branches {
         least = lesser(&least, &branch.second);
     }
-    let _least = least.places();
+    is_tumbler(&least);
     least
 }
 

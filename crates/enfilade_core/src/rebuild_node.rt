@@ -12,6 +12,7 @@ ghost use Rattle.enfilade_core.specs.Touched.{branches_at, IsSeenFrom, StandBefo
 
 use crate::arena::Arena;
 use crate::gap::Gap;
+use crate::laws::{is_tumbler, nodes_are_well_formed};
 use crate::move_children::branches_moved;
 use crate::pack_children::branch_back;
 use crate::plane::Plane;
@@ -41,7 +42,7 @@ pub(crate) fn seen_from(at: &Tumbler, base: &Tumbler) -> Tumbler
         return Tumbler::zero(at.allocator());
     }
     let seen = at.minus(base);
-    let _seen = seen.places();
+    is_tumbler(&seen);
     seen
 }
 
@@ -220,7 +221,7 @@ impl<P: Plane> Arena<P> {
         ensures grows { Grows self.old self.new }
         ensures packed { IfOk result (λ made. MayBePacked P.widths self.old self.new (Branches (with_middle branch.now.first branch.now.second (branches_at branch.now.first branch.now.second (branches_under (node_at self.old branch.now.node.0))) touched.now)) made) }
     {
-        let _well_formed = self.allocator();
+        nodes_are_well_formed(self);
         let children = self.around(branch.node, &branch.first, &branch.second, touched)?;
         if children.is_empty() {
             return Ok(None);

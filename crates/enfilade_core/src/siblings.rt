@@ -11,6 +11,7 @@ ghost use Rattle.enfilade_core.specs.Touched.{branches_at, EndsBoth, StandPast, 
 use crate::arena::Arena;
 use crate::check_children::is_same;
 use crate::gap::Gap;
+use crate::laws::is_tumbler;
 use crate::plane::Plane;
 use crate::rebuild_node::{append_branches, seen_from};
 use crate::tree::Branch;
@@ -68,7 +69,7 @@ impl<P: Plane> Arena<P> {
             return None;
         }
         let there = first.add(&seen);
-        let _seen = seen.places();
+        is_tumbler(&seen);
         let summary = self.summary(branch.node);
         if !there.is_covered(&summary.last) {
             return None;

@@ -41,8 +41,6 @@ impl<P: Plane> Arena<P> {
         let mut summary = Summary::none(self.allocator());
         for branch in branches {
             let part = self.summary(branch.node);
-            let _first = branch.first.places();
-            let _second = branch.second.places();
             summary.join_moved(&branch.first, &branch.second, part);
         }
         let last = &branches[branches.len() - 1];

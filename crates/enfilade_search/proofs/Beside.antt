@@ -1,5 +1,5 @@
 -- A row that stands beside a range, as it is seen from a base, is not sought.
-use Rattle.std.proofs.Common.{◌≡◌, ◌⊎◌, ℕ, true, false, List, [], ◌∷◌, ◌++◌, refl, ap, ◌∙◌, sym, subst, inl, inr}
+use Rattle.std.proofs.Common.{◌≡◌, ◌⊎◌, ℕ, Bool, true, false, not, ◌||◌, List, [], ◌∷◌, ◌++◌, refl, ap, ◌∙◌, sym, subst, inl, inr}
 use Rattle.std.specs.List.{filter}
 use Rattle.std.proofs.lemmas.Bool.{false_from_ne_true}
 use Rattle.tumbler.specs.Places.{EndsWell, IsBefore, comes_before, sum}
@@ -29,6 +29,11 @@ no_touch from to base seen_from seen_to coordinate width begins ends well beside
           let lt : IsBefore (sum (sum base coordinate) width) from = subst (λ (x : List ℕ). IsBefore x from) (sym (sums_associate base coordinate width)) (before_if_true (sum base (sum coordinate width)) from (begins.before (sum coordinate width) before)) in
           never_before_itself from (upto_before from (sum (sum base coordinate) width) from both.1 lt)
     ])
+
+-- on which side it is beside
+pub beside_so : (told a b : Bool) → told ≡ (not a || b) → told ≡ true → (a ≡ false) ⊎ (b ≡ true)
+beside_so told true b is so = inr (sym is ∙ so)
+beside_so told false b is so = inl refl
 
 pub beside-left : {L : Type 0} (w : Widths L) → WidthsStay w → (sought : Sought) (a b seen_from seen_to : List ℕ) (row : Row L) (held : List (Row L)) → sought.by ≡ Second → IsSeenFrom sought.from b seen_from → IsSeenFrom sought.to b seen_to → IsWellFormedRow w row
     → (comes_before row.second seen_to ≡ false) ⊎ (comes_before (sum row.second (w.second row)) seen_from ≡ true) → held ≡ held ++ filter (is_sought w sought) (moved a b row ∷ [])

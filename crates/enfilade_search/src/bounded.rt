@@ -13,6 +13,7 @@ ghost use Rattle.enfilade_search.specs.Limits.{HoldsUpTo};
 
 use crate::gather::take_row;
 use crate::sought::{By, Sought};
+use enfilade_core::laws::nodes_are_well_formed;
 use enfilade_core::{Arena, Branch, Children, Node, Plane, Row};
 use std::alloc::Global;
 use tumbler::{List, Memory, Span, Tumbler};
@@ -99,7 +100,7 @@ fn gather_child_up_to<P: Plane>(
     ensures gathered { OnOk result (HoldsUpTo limit (map (plain_row P.plain) out.old.items ++ filter (is_sought P.widths sought.now) (rows_from arena.now child.now.node.0 (sum first.now child.now.first) (sum second.now child.now.second))) (map (plain_row P.plain) out.new.items)) }
     ensures goes_on { IfOk result (λ more. more ≡ not (is_past sought.now (sum first.now child.now.first))) }
 {
-    let _alloc = arena.allocator();
+    nodes_are_well_formed(arena);
     let first = first.add(&child.first);
     if sought.is_past(&first) {
         return Ok(false);

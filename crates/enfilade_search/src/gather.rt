@@ -1,5 +1,5 @@
 //! What is sought below a node.
-ghost use Rattle.std.specs.Prelude.{◌≡◌, ◌⊎◌, ◌++◌, ◌∷◌, [], ◌<◌, true, false, not, map, length, All, IfOk, OnOk};
+ghost use Rattle.std.specs.Prelude.{◌≡◌, ◌||◌, ◌++◌, ◌∷◌, [], ◌<◌, true, false, not, map, length, All, IfOk, OnOk};
 ghost use Rattle.std.specs.List.{filter};
 ghost use Rattle.tumbler.specs.Places.{comes_before, sum};
 ghost use Rattle.enfilade_core.specs.Rows.{moved, rows_of};
@@ -11,6 +11,7 @@ ghost use Rattle.enfilade_search.specs.declared.sought.By.TheVariants.{Second};
 ghost use Rattle.enfilade_search.specs.Sought.{is_sought, is_past, FitsAt, ChildFits};
 
 use crate::sought::{By, Sought};
+use enfilade_core::laws::{is_tumbler, nodes_are_well_formed};
 use enfilade_core::{Arena, Branch, Children, Node, Plane, Row};
 use std::alloc::Global;
 use tumbler::{List, Memory, Tumbler};
@@ -76,7 +77,7 @@ fn seen_from(at: &Tumbler, base: &Tumbler) -> Tumbler
         return Tumbler::zero(at.allocator());
     }
     let seen = at.minus(base);
-    let _seen = seen.places();
+    is_tumbler(&seen);
     seen
 }
 
@@ -84,7 +85,7 @@ fn seen_from(at: &Tumbler, base: &Tumbler) -> Tumbler
 /// seen from where the row's coordinate is.
 fn is_beside<P: Plane>(row: &Row<P::Leaf>, from: &Tumbler, to: &Tumbler) -> bool
     requires { IsWellFormedRow P.widths (plain_row P.plain row.now) }
-    ensures { result ≡ true → (comes_before row.now.second to.now ≡ false) ⊎ (comes_before (sum row.now.second (P.widths.second (plain_row P.plain row.now))) from.now ≡ true) }
+    ensures { result ≡ (not (comes_before row.now.second to.now) || comes_before (sum row.now.second (P.widths.second (plain_row P.plain row.now))) from.now) }
 {
     if !row.second.is_before(to) {
         return true;
@@ -188,7 +189,7 @@ fn gather_child<P: Plane>(
     ensures gathered { OnOk result (map (plain_row P.plain) out.new.items ≡ map (plain_row P.plain) out.old.items ++ filter (is_sought P.widths sought.now) (rows_from arena.now child.now.node.0 (sum first.now child.now.first) (sum second.now child.now.second))) }
     ensures goes_on { IfOk result (λ more. more ≡ not (is_past sought.now (sum first.now child.now.first))) }
 {
-    let _alloc = arena.allocator();
+    nodes_are_well_formed(arena);
     let first = first.add(&child.first);
     if sought.is_past(&first) {
         return Ok(false);

@@ -10,8 +10,8 @@ use Rattle.std.proofs.lemmas.List.Sums.{sum_by-cons, count_by-le-length}
 use Rattle.std.proofs.lemmas.Bool.{cases_lt, eqb-true, eq-eqb, or_cases, or_left, or_right, and_parts, and_from}
 use Rattle.std.proofs.lemmas.Bool.Decides.{same_from_decides}
 use Rattle.enfilade_core.specs.Rows.{Shape, Rows, node_at}
-use Rattle.enfilade_sweep.specs.Sweep.{under, Reached, is_root, hangs, AllReached, is_among, is_reached_in, is_reached, reached_count, unreached_count}
-use Rattle.enfilade_sweep.specs.Marks.{is_marked, rank}
+use Rattle.enfilade_core.specs.NewNumbers.{under, is_marked, rank}
+use Rattle.enfilade_sweep.specs.Sweep.{Reached, is_root, hangs, AllReached, is_among, is_reached_in, is_reached, reached_count, unreached_count}
 
 -- ---- numbers in lists
 

@@ -4,7 +4,8 @@ use Rattle.std.specs.Prelude.{IsTrue}
 use Rattle.std.specs.List.{Contains}
 use Rattle.std.proofs.lemmas.List.{take_more, take_all, map-append}
 use Rattle.std.proofs.lemmas.List.Elements.{Contains-append_left, Contains-append_right, Contains-append_cases}
-use Rattle.enfilade_sweep.specs.Marks.{is_marked, MarksMore}
+use Rattle.enfilade_core.specs.NewNumbers.{is_marked}
+use Rattle.enfilade_sweep.specs.Marks.{MarksMore}
 
 pub marked_none : (marks : List Bool) → MarksMore [] marks marks
 marked_none marks k = (λ h. inl h, λ s. elim s [ inl h ↦ h | inr c ↦ absurd (omega (arith, c.1)) ])

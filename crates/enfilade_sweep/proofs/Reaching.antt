@@ -7,8 +7,9 @@ use Rattle.std.proofs.lemmas.List.Elements.{All-contains, All-map}
 use Rattle.std.proofs.lemmas.Bool.{cases_lt}
 use Rattle.enfilade_core.specs.declared.tree.Branch.{Branch}
 use Rattle.enfilade_core.specs.Rows.{Shape, node_at, branches_under}
-use Rattle.enfilade_sweep.specs.Sweep.{is_root, hangs, under}
-use Rattle.enfilade_sweep.specs.Marks.{is_marked, MarksMore, AreMarked}
+use Rattle.enfilade_core.specs.NewNumbers.{under, is_marked}
+use Rattle.enfilade_sweep.specs.Sweep.{is_root, hangs}
+use Rattle.enfilade_sweep.specs.Marks.{MarksMore, AreMarked}
 
 none_marked : (n k : ℕ) → is_marked (replicate n false) k ≡ false
 none_marked zero k = refl

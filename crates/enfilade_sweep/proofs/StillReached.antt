@@ -8,8 +8,9 @@ use Rattle.enfilade_core.specs.Rows.{Shape, Rows, Branches, node_at, branches_un
 use Rattle.enfilade_core.specs.Axes.{Widths}
 use Rattle.enfilade_core.specs.WellFormed.{AreWellFormed}
 use Rattle.enfilade_core.proofs.Parts.{names_below}
-use Rattle.enfilade_sweep.specs.Sweep.{under, renamed, renamed_branch, Reached, is_root, hangs, AllReached, IsSwept}
-use Rattle.enfilade_sweep.proofs.Copies.{named_all}
+use Rattle.enfilade_core.specs.NewNumbers.{under, renamed, renamed_branch}
+use Rattle.enfilade_sweep.specs.Sweep.{Reached, is_root, hangs, AllReached, IsSwept}
+use Rattle.enfilade_core.proofs.AtRanks.{named_all}
 
 placed_there : (place : ℕ → ℕ) (xs : List ℕ) (k : ℕ) → Contains xs k → Contains (map place xs) (place k)
 placed_there place xs k c = (c.0, omega (arith, c.1, length-map xs place), get_or-map place xs c.0 k (place k) c.1 ∙ ap place c.2)

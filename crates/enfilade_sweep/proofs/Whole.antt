@@ -14,10 +14,11 @@ use Rattle.enfilade_core.specs.Summary.{summary_in, no_summary, depth_of}
 use Rattle.enfilade_core.specs.BalanceState.{no_balance_state, balance_states, balance_state_in, balance_state_of, root_debt, has_lone_child, tree_debt, tree_allows}
 use Rattle.enfilade_core.proofs.Locals.{rows_local, summary_local, balance_state_local}
 use Rattle.enfilade_sweep.specs.Sweep.{Reached, is_root, hangs, numbers, IsSwept}
-use Rattle.enfilade_sweep.specs.Marks.{is_marked, rank, AreMarked, AreCopied, IsClosed, AreRanks}
-use Rattle.enfilade_sweep.proofs.Naming.{SaidThere, rows_natural, summary_natural, balance_state_natural, debt_natural, lone_natural}
-use Rattle.enfilade_sweep.proofs.Ranks.{marked_within, rank_once, rank_only}
-use Rattle.enfilade_sweep.proofs.Copies.{under_marked, inside, agree}
+use Rattle.enfilade_core.specs.NewNumbers.{is_marked, rank, AreAtRanks, IsClosed, AreRanks}
+use Rattle.enfilade_sweep.specs.Marks.{AreMarked}
+use Rattle.enfilade_core.proofs.Naming.{SaidThere, rows_natural, summary_natural, balance_state_natural, debt_natural, lone_natural}
+use Rattle.enfilade_core.proofs.Ranks.{marked_within, rank_once, rank_only}
+use Rattle.enfilade_core.proofs.AtRanks.{under_marked, inside, agree}
 
 map-alike : {X : Type 0} (f g : ℕ → X) (ks : List ℕ) → All (λ k. f k ≡ g k) ks → map f ks ≡ map g ks
 map-alike f g [] h = refl
@@ -34,7 +35,7 @@ reached_marked old roots marks m k (is_root c) = m.rooted k c
 reached_marked old roots marks m k (hangs {j = j} r c) = m.closed j k (omega arith) (reached_marked old roots marks m j r) c
 
 module _ {L : Type 0} (w : Widths L) (old new : List (Shape L)) (roots : List ℕ) (marks : List Bool) (ranks : List ℕ) (well_formed_old : AreWellFormed w old) (well_formed_new : AreWellFormed w new) (marked : AreMarked old roots marks 0) (exact : AreRanks marks ranks)
-    (copied : AreCopied marks old new (length old)) where
+    (copied : AreAtRanks marks old new (length old)) where
   pub closed : IsClosed old marks
   closed j k here c = marked.closed j k (omega arith) here c
 

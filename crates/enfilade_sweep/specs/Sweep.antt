@@ -1,17 +1,16 @@
 -- What a sweep of an arena leaves: the nodes that are reached from its roots, each once.
-use Rattle.std.specs.Prelude.{◌≡◌, ℕ, zero, suc, ◌-◌, ◌<◌, ◌==◌, ◌||◌, ◌&&◌, Bool, List, length, map, count_by}
+use Rattle.std.specs.Prelude.{◌≡◌, ℕ, zero, suc, ◌-◌, ◌<◌, ◌==◌, ◌||◌, ◌&&◌, Bool, List, [], ◌∷◌, length, map, count_by}
 use Rattle.std.specs.List.{Contains, list_any, range_with_len}
 use Rattle.enfilade_core.specs.declared.tree.Node.{Node}
-use Rattle.enfilade_core.specs.declared.tree.Branch.{Branch}
-use Rattle.enfilade_core.specs.Rows.{Shape, Rows, Branches, node_at, branches_under}
+use Rattle.enfilade_core.specs.Rows.{Shape, node_at, rows_of}
+use Rattle.enfilade_core.specs.Axes.{Widths}
+use Rattle.enfilade_core.specs.Summary.{depth_of}
+use Rattle.enfilade_core.specs.BalanceState.{tree_debt, tree_allows}
+use Rattle.enfilade_core.specs.NewNumbers.{under, renamed}
 
 -- the nodes' numbers
 abbrev pub numbers : List Node → List ℕ
 numbers nodes = map (λ (node : Node). node.0) nodes
-
--- the numbers of the nodes that hang under a node
-abbrev pub under : {L : Type 0} → Shape L → List ℕ
-under node = map (λ (branch : Branch). branch.node.0) (branches_under node)
 
 -- a node is reached where it is a root, or hangs under one that is reached
 pub data Reached {L : Type 0} (nodes : List (Shape L)) (roots : List ℕ) : ℕ → Type 0 where
@@ -43,14 +42,6 @@ reached_count nodes roots = count_by (is_reached nodes roots) (range_with_len 0 
 unfoldable pub unreached_count : {L : Type 0} → List (Shape L) → List ℕ → ℕ
 unreached_count nodes roots = length nodes - reached_count nodes roots
 
--- a branch, and what hangs under a node, where nodes have other numbers
-abbrev pub renamed_branch : (ℕ → ℕ) → Branch → Branch
-renamed_branch place branch = record branch { node = record { 0 = place branch.node.0 } }
-
-abbrev pub renamed : {L : Type 0} → (ℕ → ℕ) → Shape L → Shape L
-renamed place (Rows rows) = Rows rows
-renamed place (Branches branches) = Branches (map (renamed_branch place) branches)
-
 -- Each node that was reached has its place in the new arena, no two have one place, and no place is another's. What
 -- hangs under it is what hung there, by the new places; so nodes that were shared still are. Each root is where it was.
 pub record IsSwept {L : Type 0} (old : List (Shape L)) (roots : List ℕ) (new : List (Shape L)) (new_roots : List ℕ) : Type 0 where
@@ -60,3 +51,13 @@ pub record IsSwept {L : Type 0} (old : List (Shape L)) (roots : List ℕ) (new :
   pub only : (p : ℕ) → p < length new → (k : ℕ) × Reached old roots k × (place k ≡ p)
   pub same : (k : ℕ) → Reached old roots k → node_at new (place k) ≡ renamed place (node_at old k)
   pub at : new_roots ≡ map place roots
+
+-- A tree as it was, among the nodes that its root reached and no others: with the rows and the shape that it had.
+pub record IsSweptTree {L : Type 0} (w : Widths L) (old : List (Shape L)) (root : ℕ) (new : List (Shape L)) (new_root : ℕ) : Type 0 where
+  pub below : new_root < length new
+  pub rows : rows_of new new_root ≡ rows_of old root
+  pub debt : tree_debt new new_root ≡ tree_debt old root
+  pub allows : tree_allows new new_root ≡ tree_allows old root
+  pub depth : depth_of w new new_root ≡ depth_of w old root
+  pub count : length new ≡ reached_count old (root ∷ [])
+  pub none_left : unreached_count new (new_root ∷ []) ≡ 0

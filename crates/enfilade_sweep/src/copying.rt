@@ -2,8 +2,8 @@
 ghost use Rattle.std.specs.Prelude.{◌≡◌, ◌+◌, ◌<◌, [], ◌∷◌, ◌++◌, length, map, get_or, All, IfOk, OnOk, IsTrue};
 ghost use Rattle.enfilade_core.specs.Rows.{node_at, branches_under};
 ghost use Rattle.enfilade_core.specs.WellFormed.{IsWellFormed};
-ghost use Rattle.enfilade_sweep.specs.Sweep.{numbers, renamed_branch, renamed};
-ghost use Rattle.enfilade_sweep.specs.Marks.{AreRanks, IsClosed, AreCopied};
+ghost use Rattle.enfilade_core.specs.NewNumbers.{renamed_branch, renamed, AreRanks, IsClosed, AreAtRanks};
+ghost use Rattle.enfilade_sweep.specs.Sweep.{numbers};
 
 use enfilade_core::laws::nodes_are_well_formed;
 use enfilade_core::{Arena, Branch, Children, Node, Plane};
@@ -11,7 +11,7 @@ use std::alloc::Global;
 use tumbler::{List, Memory};
 
 /// The node of the new arena at which a node of the old one is.
-fn node_there<P: Plane>(new: &Arena<P>, ranks: &[u64], node: Node) -> Node
+pub(crate) fn node_there<P: Plane>(new: &Arena<P>, ranks: &[u64], node: Node) -> Node
     requires known { node.0 < length ranks.now }
     requires there { get_or ranks.now node.0 0 < length new.now }
     ensures { result.0 ≡ get_or ranks.now node.0 0 }
@@ -79,8 +79,8 @@ fn copy_node<P: Plane>(
     requires long { length marks.now ≡ length old.now }
     requires closed { IsClosed old.now marks.now }
     requires ranks { AreRanks marks.now ranks.now }
-    requires copied { AreCopied marks.now old.now new.old number }
-    ensures { OnOk result (AreCopied marks.now old.now new.new (number + 1)) }
+    requires copied { AreAtRanks marks.now old.now new.old number }
+    ensures { OnOk result (AreAtRanks marks.now old.now new.new (number + 1)) }
 {
     nodes_are_well_formed(old);
     nodes_are_well_formed(new);
@@ -103,7 +103,7 @@ pub(crate) fn copied<P: Plane>(
     requires long { length marks.now ≡ length old.now }
     requires closed { IsClosed old.now marks.now }
     requires ranks { AreRanks marks.now ranks.now }
-    ensures { IfOk result (λ new. AreCopied marks.now old.now new (length old.now)) }
+    ensures { IfOk result (λ new. AreAtRanks marks.now old.now new (length old.now)) }
 {
     let mut new = Arena::new(old.allocator());
     // Mostly the next sweep comes once there are about as many again. Without the room adding nodes is only slower.

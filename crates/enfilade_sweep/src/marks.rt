@@ -2,8 +2,9 @@
 ghost use Rattle.std.specs.Prelude.{◌≡◌, ◌↔◌, ℕ, ◌+◌, ◌^◌, ◌<◌, [], ◌∷◌, length, map, get_or, All, IfOk, IsTrue, true, false};
 ghost use Rattle.enfilade_core.specs.Rows.{node_at, branches_under};
 ghost use Rattle.enfilade_core.specs.Plain.{shape};
-ghost use Rattle.enfilade_sweep.specs.Sweep.{numbers, under, Reached};
-ghost use Rattle.enfilade_sweep.specs.Marks.{is_marked, MarksMore, AreMarked, AreRanks};
+ghost use Rattle.enfilade_core.specs.NewNumbers.{under, is_marked, AreRanks};
+ghost use Rattle.enfilade_sweep.specs.Sweep.{numbers, Reached};
+ghost use Rattle.enfilade_sweep.specs.Marks.{MarksMore, AreMarked};
 
 use enfilade_core::laws::nodes_are_well_formed;
 use enfilade_core::{Arena, Branch, Children, Node, Plane};

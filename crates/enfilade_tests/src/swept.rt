@@ -2,7 +2,7 @@
 ghost use Rattle.std.specs.Prelude.{◌<◌, length, All, IfOk, IfSome};
 
 use enfilade_core::{Arena, Branch, Children, Node, Row, TextPlane};
-use enfilade_sweep::sweep;
+use enfilade_sweep::{finish_sweep, plan_sweep, sweep};
 use std::alloc::Global;
 use std::process::Abort;
 use std::test::Fail;
@@ -93,5 +93,25 @@ fn keeps_what_is_reached_once(rt: HostRuntime) -> Result<(), Fail> {
     assert!(rt; is_same);
     let there = swept.at_number(2).expect(&rt, "the root");
     are_alike(&rt, &arena.rows(root)?, &swept.rows(there)?);
+    Ok(())
+}
+
+#[test]
+fn stays_in_its_arena(rt: HostRuntime) -> Result<(), Fail> {
+    let mut arena: Arena<TextPlane> = Arena::new(rt.alloc());
+    arena.empty()?;
+    let root = tree(&rt, &mut arena)?;
+    let rows = arena.rows(root)?;
+    let roots = times(&arena, root, 1_000)?;
+    let plan = plan_sweep(&arena, roots)?;
+    let roots = finish_sweep(&mut arena, plan);
+    assert!(rt; arena.count() == 3);
+    let is_same = roots
+        .as_slice()
+        .iter()
+        .all(|root| Arena::<TextPlane>::number(*root) == 2);
+    assert!(rt; is_same);
+    let there = arena.at_number(2).expect(&rt, "the root");
+    are_alike(&rt, &rows, &arena.rows(there)?);
     Ok(())
 }

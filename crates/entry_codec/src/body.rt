@@ -1,5 +1,5 @@
 //! Bodies: their length, and the entry in them.
-ghost use Rattle.std.specs.Prelude.{◌≡◌, IfOk, MatchOption};
+ghost use Rattle.std.specs.Prelude.{◌≡◌, [], IfOk, MatchOption};
 ghost use Rattle.febe_data.specs.Plain.{plain_entry};
 ghost use Rattle.febe_fields.specs.Reading.{ReadsIfOk, Reads};
 ghost use Rattle.entry_codec.specs.Format.{entry_bytes, body_of};
@@ -15,18 +15,31 @@ use std::alloc::Global;
 /// The number of this format, in the first byte behind the length.
 const FORMAT: u8 = 1;
 
+/// Room for what most entries are written in.
+const USUAL_BYTES: usize = 128;
+
 /// What stands behind the length of the entry's body.
 fn entry_bytes(alloc: Global, entry: &Entry) -> Result<Text, Memory>
     requires { HasBody (plain_entry entry.now) }
     ensures { IfOk result (λ bytes. bytes.items ≡ entry_bytes (plain_entry entry.now)) }
 {
     let mut bytes = List::new(alloc);
+    bytes.reserve(USUAL_BYTES)?;
     append_u8(&mut bytes, FORMAT)?;
     append_u64(&mut bytes, entry.session)?;
     append_u64(&mut bytes, entry.serial)?;
     append_u8(&mut bytes, kind_of(&entry.change))?;
     append_change(&mut bytes, &entry.change)?;
     Ok(bytes)
+}
+
+/// An empty list with room for these bytes, for their length, and for the byte that a log puts behind a body.
+fn body_room(alloc: Global, bytes: &Text) -> Result<Text, Memory>
+    ensures { IfOk result (λ body. body.items ≡ []) }
+{
+    let mut body = List::new(alloc);
+    body.reserve(bytes.len().saturating_add(5))?;
+    Ok(body)
 }
 
 /// The one body of an entry whose change is logged. Its fields keep to the bounds of requests: a text has at most
@@ -36,7 +49,7 @@ pub fn encode(alloc: Global, entry: &Entry) -> Result<Text, Memory>
     ensures { IfOk result (λ body. body.items ≡ body_of (plain_entry entry.now)) }
 {
     let bytes = entry_bytes(alloc, entry)?;
-    let mut body = List::new(alloc);
+    let mut body = body_room(alloc, &bytes)?;
     append_u32(&mut body, bytes.len() as u32)?;
     body.extend_from_slice(bytes.as_slice())?;
     Ok(body)

@@ -86,7 +86,7 @@ last_decides front l m count k h = elim (cases_lt (l + k) m) [
       (false_if_up_to (front ++ (l + k) ∷ []) (front ++ m ∷ []) (up_to_at_last front m (l + k) ge) ∙ sym (le-ltb k (min (m - l) count) (omega (arith, ge))))
 ]
 
-same_places : (a b : List ℕ) → not (pointwise nat_eq a b) ≡ false → a ≡ b
+pub same_places : (a b : List ℕ) → not (pointwise nat_eq a b) ≡ false → a ≡ b
 same_places a b e = same_text a b (true_test (pointwise nat_eq a b) e)
   where
     true_test : (t : Bool) → not t ≡ false → true ≡ t

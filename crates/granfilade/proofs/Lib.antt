@@ -12,3 +12,4 @@ pub mod PutRows
 pub mod LastRow
 pub mod LongerRow
 pub mod ReadBytes
+pub mod WholeRows

@@ -1,7 +1,7 @@
 -- The rows of a tree whose last row in front of a put became longer.
-use Rattle.std.proofs.Common.{◌≡◌, ℕ, ◌+◌, ◌<◌, Bool, true, false, cond, Some, List, [], ◌∷◌, ◌++◌, length, arith, ap, ◌∙◌, sym, subst, append_assoc, append-nil}
+use Rattle.std.proofs.Common.{◌≡◌, ℕ, suc, ◌+◌, ◌<◌, ◌&&◌, not, Bool, true, false, cond, refl, Some, List, [], ◌∷◌, ◌++◌, length, map, arith, ap, ◌∙◌, sym, subst, append_assoc, append-nil}
 use Rattle.std.specs.List.{All, filter}
-use Rattle.std.proofs.lemmas.List.{length-append}
+use Rattle.std.proofs.lemmas.List.{length-append, length-map}
 use Rattle.std.proofs.lemmas.List.Elements.{All-nil, All-cons, All-weaker, All-head, All-tail, All-append, All-filter, filter-append, filter_passes}
 use Rattle.std.proofs.lemmas.Grind.{flat_map-append}
 use Rattle.tumbler.specs.Places.{place_bound, IsBefore, IsUpTo, comes_before, width_at}
@@ -13,7 +13,7 @@ use Rattle.tumbler.proofs.Before.{before_if_true, true_if_before, false_if_up_to
 use Rattle.enfilade_core.specs.Axes.{InOrder, IsWellFormedRow, IsWellFormedRows}
 use Rattle.enfilade_core.specs.Planes.{content_widths}
 use Rattle.enfilade_core.specs.Exchange.{exchanged, rows_before, rows_past}
-use Rattle.enfilade_core.specs.Edits.{last_before, shifted}
+use Rattle.enfilade_core.specs.Edits.{last_before, is_within, taken_out, shifted}
 use Rattle.enfilade_core.specs.declared.gap.Gap.{Gap}
 use Rattle.enfilade_core.proofs.ExchangeLists.{filter-all, filter-none}
 use Rattle.enfilade_core.proofs.Orders.{All-flat}
@@ -21,7 +21,7 @@ use Rattle.granfilade.specs.Content.{ByteAt, so_far_on, laid, laid_row, laid_out
 use Rattle.granfilade.specs.Steps.{last_of}
 use Rattle.granfilade.specs.Lengthening.{Lengthens}
 use Rattle.granfilade.specs.declared.lengthened.Lengthened.{Lengthened}
-use Rattle.granfilade.specs.Puts.{IsByteOf, IsByteAddress, IsNext, IsLeaf, end_of_row, Linked, IsContent, put_in}
+use Rattle.granfilade.specs.Puts.{IsByteOf, IsByteAddress, IsNext, IsLeaf, end_of_row, Linked, IsContent, ComesIn, put_in}
 use Rattle.granfilade.specs.Leaves.{AreLeaves}
 use Rattle.granfilade.proofs.Stepping.{steps-before}
 use Rattle.granfilade.proofs.WellFormedRows.{row_filled, row_some}
@@ -40,7 +40,7 @@ linked-filter said p (row ∷ rows) h = filtered (p row) (All-filter p (λ r. Is
     filtered true all more = (all, more)
     filtered false all more = more
 
-linked-back : (said : RowOf → List ℕ) (xs ys : List RowOf) → Linked said (xs ++ ys) → Linked said ys
+pub linked-back : (said : RowOf → List ℕ) (xs ys : List RowOf) → Linked said (xs ++ ys) → Linked said ys
 linked-back said [] ys h = h
 linked-back said (x ∷ xs) ys h = linked-back said xs ys h.1
 
@@ -49,7 +49,7 @@ linked-front said [] ys h = tt
 linked-front said (x ∷ xs) ys h = (All-front (λ r. IsUpTo (said x) r.first) xs ys h.0, linked-front said xs ys h.1)
 
 -- each row in front ends at or before the row behind
-linked-seam : (said : RowOf → List ℕ) (xs : List RowOf) (row : RowOf) (ys : List RowOf) → Linked said (xs ++ row ∷ ys) → All (λ x. IsUpTo (said x) row.first) xs
+pub linked-seam : (said : RowOf → List ℕ) (xs : List RowOf) (row : RowOf) (ys : List RowOf) → Linked said (xs ++ row ∷ ys) → All (λ x. IsUpTo (said x) row.first) xs
 linked-seam said [] row ys h = All-nil (λ x. IsUpTo (said x) row.first)
 linked-seam said (x ∷ xs) row ys h =
     All-cons (λ x. IsUpTo (said x) row.first) x xs (All-head (λ r. IsUpTo (said x) r.first) row ys (All-back (λ r. IsUpTo (said x) r.first) xs (row ∷ ys) h.0)) (linked-seam said xs row ys h.1)
@@ -91,6 +91,33 @@ pub record IsLonger (start bytes : List ℕ) (rows : List RowOf) (row : RowOf) (
   pub parts : SplitAt start rows row
   pub ends : end_of_row row ≡ start
   pub made : AreLeaves row.first (row.leaf.items ++ bytes) new
+
+-- ---- rows in front, of which a gap takes none
+
+not_one : (n a b : ℕ) → suc n ≡ 1 → n ≡ a + suc b → ⊥
+not_one n a b e sum = omega (arith, e, sum)
+
+empty_front : {X : Type 0} (xs : List X) (y : X) (ys : List X) → length (xs ++ y ∷ ys) ≡ 1 → xs ≡ []
+empty_front [] y ys e = refl
+empty_front (x ∷ xs) y ys e = absurd (not_one (length (xs ++ y ∷ ys)) (length xs) (length ys) e (length-append xs (y ∷ ys)))
+
+taken_some : (b : Bool) (r : RowOf) (rs : List RowOf) → b ≡ true → cond b (r ∷ rs) rs ≡ [] → ⊥
+taken_some true r rs is e = let never : ⊥ = cc in never
+taken_some false r rs is e = let never : ⊥ = cc in never
+
+none_within : (from to : List ℕ) (front : List RowOf) → All (λ r. comes_before r.first to ≡ true) front → filter (is_within from to) front ≡ [] → All (λ r. comes_before r.first from ≡ true) front
+none_within from to [] all none = All-nil (λ r. comes_before r.first from ≡ true)
+none_within from to (r ∷ rs) all none =
+    by_test (comes_before r.first from) refl (All-head (λ r. comes_before r.first to ≡ true) r rs all) none (λ none. none_within from to rs (All-tail (λ r. comes_before r.first to ≡ true) r rs all) none)
+  where
+    by_test : (b : Bool) → comes_before r.first from ≡ b → comes_before r.first to ≡ true → cond (not b && comes_before r.first to) (r ∷ filter (is_within from to) rs) (filter (is_within from to) rs) ≡ []
+        → (filter (is_within from to) rs ≡ [] → All (λ r. comes_before r.first from ≡ true) rs) → All (λ r. comes_before r.first from ≡ true) (r ∷ rs)
+    by_test true is here none more = All-cons (λ r. comes_before r.first from ≡ true) r rs is (more none)
+    by_test false is here none more = absurd (taken_some (comes_before r.first to) r (filter (is_within from to) rs) here none)
+
+pub one_taken : {X : Type 0} (f : X → RowOf) (out : List X) (n : ℕ) (from to first start : List ℕ) (rows : List RowOf) → map f out ≡ taken_out from to rows → from ≡ first → to ≡ start → n ≡ length out → n ≡ 1 → length (taken_out first start rows) ≡ 1
+one_taken f out n from to first start rows outs from_is to_is long one =
+    ap (λ a. length (taken_out a start rows)) (sym from_is) ∙ ap (λ a. length (taken_out from a rows)) (sym to_is) ∙ sym (ap length outs) ∙ length-map out f ∙ sym long ∙ one
 
 module _ (start bytes : List ℕ) (rows : List RowOf) (row : RowOf) (new : List RowOf) (h : IsLonger start bytes rows row new) where
   row_well_formed : IsWellFormedRow content_widths row
@@ -184,24 +211,24 @@ module _ (start bytes : List ℕ) (rows : List RowOf) (row : RowOf) (new : List 
       (subst (λ a. IsBefore a (end_of_row r)) (step-none r.first) (steps-before r.first 0 (length r.leaf.items) (row_filled r well_formed) (row_some r well_formed))) le))
       s.front (All-front (IsWellFormedRow content_widths) s.front (row ∷ s.back) (subst (All (IsWellFormedRow content_widths)) s.is h.well_formed)) (front_seam old)
 
-  before_are : IsContent rows → rows_before row.first rows ≡ h.parts.front
-  before_are old =
+  before_are : All (λ r. comes_before r.first row.first ≡ true) h.parts.front → rows_before row.first rows ≡ h.parts.front
+  before_are all_before =
       let s = h.parts in
       let test : RowOf → Bool = λ r. comes_before r.first row.first in
       let reach = so_far_on start (length bytes) in
       ap (filter test) s.is ∙ filter-append test s.front (row ∷ s.back)
-      ∙ ap (λ (xs : List RowOf). xs ++ filter test (row ∷ s.back)) (filter-all test s.front (front_before old))
+      ∙ ap (λ (xs : List RowOf). xs ++ filter test (row ∷ s.back)) (filter-all test s.front all_before)
       ∙ ap (λ (xs : List RowOf). s.front ++ xs) (filter-none test (row ∷ s.back) (All-cons (λ r. test r ≡ false) row s.back (false_if_up_to row.first row.first (upto_itself row.first))
       (All-weaker (λ y. IsUpTo reach y.first) (λ r. test r ≡ false) (λ r le. false_if_up_to r.first row.first (upto_upto row.first reach r.first start_reach le)) s.back far_rows)))
       ∙ append-nil s.front
 
-  now_is : (gap : Gap) → gap.from ≡ row.first → gap.to ≡ start → gap.onto ≡ start → IsContent rows → exchanged gap new rows ≡ h.parts.front ++ new ++ h.parts.back
-  now_is gap f t o old = exchanged-is gap f t o ∙ ap (λ (xs : List RowOf). xs ++ new ++ h.parts.back) (before_are old)
+  now_is : (gap : Gap) → gap.from ≡ row.first → gap.to ≡ start → gap.onto ≡ start → All (λ r. comes_before r.first row.first ≡ true) h.parts.front → exchanged gap new rows ≡ h.parts.front ++ new ++ h.parts.back
+  now_is gap f t o all_before = exchanged-is gap f t o ∙ ap (λ (xs : List RowOf). xs ++ new ++ h.parts.back) (before_are all_before)
 
   pub longer-content : (gap : Gap) → gap.from ≡ row.first → gap.to ≡ start → gap.onto ≡ start → IsContent rows → IsContent (exchanged gap new rows)
   longer-content gap f t o old =
       let s = h.parts in
-      subst IsContent (sym (now_is gap f t o old)) record {
+      subst IsContent (sym (now_is gap f t o (front_before old))) record {
         leaves = All-append IsLeaf (s.front ++ new) s.back (All-append IsLeaf s.front new (front_leaves old) h.made.leaves) (All-tail IsLeaf row s.back (row_back_leaves old));
         apart = linked-between end_of_row row.first (so_far_on start (length bytes)) s.front new s.back record {
           order = start_reach;
@@ -250,13 +277,42 @@ module _ (start bytes : List ℕ) (rows : List RowOf) (row : RowOf) (new : List 
       let F = laid_out s.front in
       let R = laid_row row in
       let B = laid_out s.back in
-      ap laid_out (now_is gap f t o old)
+      ap laid_out (now_is gap f t o (front_before old))
       ∙ flat_map-append laid_row (s.front ++ new) s.back
       ∙ ap (λ (bs : List ByteAt). bs ++ B) (flat_map-append laid_row s.front new ∙ ap (λ (bs : List ByteAt). F ++ bs) new_laid)
       ∙ append_assoc F (R ++ N) B
       ∙ ap (λ (bs : List ByteAt). F ++ bs) (append_assoc R N B ∙ ap (λ (bs : List ByteAt). R ++ bs) (sym back_in) ∙ sym (put_in-front start N R B (row_bytes old)))
       ∙ sym (put_in-front start N F (R ++ B) (front_bytes old))
       ∙ ap (put_in start N) (sym (ap laid_out s.is ∙ flat_map-append laid_row s.front (row ∷ s.back)))
+
+  -- ---- where no other row begins as it does
+
+  alone_before : length (taken_out row.first start rows) ≡ 1 → All (λ r. comes_before r.first row.first ≡ true) h.parts.front
+  alone_before one =
+      let s = h.parts in
+      let within : RowOf → Bool = is_within row.first start in
+      let here : within row ≡ true = ap (λ t. not t && comes_before row.first start) (false_if_up_to row.first row.first (upto_itself row.first)) ∙ s.here in
+      let parted : taken_out row.first start rows ≡ filter within s.front ++ row ∷ filter within s.back =
+      ap (filter within) s.is ∙ filter-append within s.front (row ∷ s.back) ∙ ap (λ t. filter within s.front ++ cond t (row ∷ filter within s.back) (filter within s.back)) here in
+      none_within row.first start s.front s.before (empty_front (filter within s.front) row (filter within s.back) (sym (ap length parted) ∙ one))
+
+  pub longer-comes_in : (gap : Gap) → gap.from ≡ row.first → gap.to ≡ start → gap.onto ≡ start → length (taken_out row.first start rows) ≡ 1 → ComesIn (laid start bytes) (laid_out rows) (laid_out (exchanged gap new rows))
+  longer-comes_in gap f t o one =
+      let s = h.parts in
+      let N = laid start bytes in
+      let F = laid_out s.front in
+      let R = laid_row row in
+      let B = laid_out s.back in
+      record {
+        front = F ++ R;
+        back = B;
+        was = ap laid_out s.is ∙ flat_map-append laid_row s.front (row ∷ s.back) ∙ sym (append_assoc F R B);
+        is =
+            ap laid_out (now_is gap f t o (alone_before one))
+            ∙ flat_map-append laid_row (s.front ++ new) s.back
+            ∙ ap (λ (bs : List ByteAt). bs ++ B) (flat_map-append laid_row s.front new ∙ ap (λ (bs : List ByteAt). F ++ bs) new_laid)
+            ∙ ap (λ (bs : List ByteAt). bs ++ B) (sym (append_assoc F R N));
+      }
 
 -- ---- from what the code has
 

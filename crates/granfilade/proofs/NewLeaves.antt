@@ -1,5 +1,5 @@
 -- New rows, one after another.
-use Rattle.std.proofs.Common.{◌≡◌, ◌≢◌, ℕ, zero, suc, ◌+◌, ◌-◌, ◌<◌, ◌≤◌, List, [], ◌∷◌, ◌++◌, length, take, drop, min, map, cond, refl, arith, ap, ◌∙◌, sym, subst, append-nil}
+use Rattle.std.proofs.Common.{◌≡◌, ◌≢◌, ℕ, zero, suc, eqb, Bool, false, ◌+◌, ◌-◌, ◌<◌, ◌≤◌, List, [], ◌∷◌, ◌++◌, length, take, drop, min, map, cond, refl, arith, ap, ◌∙◌, sym, subst, append-nil}
 use Rattle.std.specs.List.{All}
 use Rattle.std.proofs.lemmas.Bool.{lt-ltb, false≢true}
 use Rattle.std.proofs.lemmas.List.{length-append, length-take, length-drop, map-append, take_all}
@@ -18,7 +18,7 @@ use Rattle.granfilade.specs.Steps.{last_of}
 use Rattle.granfilade.specs.Puts.{IsByteOf, IsByteAddress, IsLeaf, end_of_row}
 use Rattle.granfilade.specs.Leaves.{AreLeaves}
 use Rattle.granfilade.proofs.Stepping.{step_is_tumbler, steps-up_to}
-use Rattle.granfilade.proofs.Documents.{address-last, last_of-last, step-in, step-byte, step-twice, last-number, not_nil, part_of}
+use Rattle.granfilade.proofs.Documents.{address-last, last_of-last, step-none, step-in, step-byte, step-twice, last-number, not_nil, part_of}
 use Rattle.granfilade.proofs.Picking.{take-none}
 use Rattle.granfilade.proofs.Putting.{RowOf, linked-join}
 
@@ -123,6 +123,16 @@ leaves-next start document b front rows row t h at none has short room =
           (All-weaker (End d) (λ x. All (λ y. IsUpTo (end_of_row x) y.first) (row ∷ []))
           (λ x le. All-cons (λ y. IsUpTo (end_of_row x) y.first) row [] (subst (IsUpTo (end_of_row x)) (sym at) le) (All-nil (λ y. IsUpTo (end_of_row x) y.first))) rows h.ended);
     }
+
+pub some_items : (xs : List ℕ) (none : Bool) → none ≡ eqb (length xs) 0 → none ≡ false → 0 < length xs
+some_items [] none is e = absurd (false≢true (sym e ∙ is))
+some_items (x ∷ xs) none is e = omega arith
+
+-- all bytes in one row
+pub leaves-one : (start : List ℕ) (row : RowOf) → IsByteAddress start → IsTumbler start → row.first ≡ start → row.second ≡ [] → 0 < length row.leaf.items → length row.leaf.items ≤ 1024 → last_of start + length row.leaf.items < place_bound
+    → AreLeaves start row.leaf.items (row ∷ [])
+leaves-one start row address t at none has short room =
+    leaves-next start address.0 address.1 [] [] row t (leaves-none start) (at ∙ sym (step-none start)) none has short (omega (arith, room))
 
 take-more : (m n : ℕ) (xs : List ℕ) → take m xs ++ take n (drop m xs) ≡ take (m + n) xs
 take-more zero n xs = let e : n ≡ 0 + n = omega arith in ap (λ k. take k xs) e

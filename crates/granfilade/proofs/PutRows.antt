@@ -1,5 +1,5 @@
 -- The rows of a tree after a put.
-use Rattle.std.proofs.Common.{◌≡◌, ℕ, ◌<◌, false, List, [], ◌∷◌, length, ap, ◌∙◌}
+use Rattle.std.proofs.Common.{◌≡◌, ℕ, ◌<◌, Bool, true, false, cond, List, [], ◌∷◌, ◌++◌, length, refl, ap, ◌∙◌, sym, append_assoc, append-nil}
 use Rattle.std.specs.List.{All}
 use Rattle.std.proofs.lemmas.List.Elements.{All-nil, All-cons, All-head, All-tail, All-weaker}
 use Rattle.tumbler.specs.Places.{IsBefore, IsUpTo, comes_before, width_at}
@@ -10,9 +10,10 @@ use Rattle.tumbler.proofs.Widths.{EndsWell-width_at}
 use Rattle.enfilade_core.specs.Axes.{InOrder, IsWellFormedRow}
 use Rattle.enfilade_core.specs.Planes.{content_widths}
 use Rattle.enfilade_core.specs.Edits.{put_before}
+use Rattle.std.proofs.lemmas.Grind.{flat_map-append}
 use Rattle.enfilade_core.proofs.Orders.{All-unflat}
 use Rattle.granfilade.specs.Content.{ByteAt, so_far_on, laid, laid_row, laid_out}
-use Rattle.granfilade.specs.Puts.{IsByteOf, IsBelow, IsNext, IsLeaf, end_of_row, IsContent, put_in}
+use Rattle.granfilade.specs.Puts.{IsByteOf, IsBelow, IsNext, IsLeaf, end_of_row, IsContent, ComesIn, put_in}
 use Rattle.granfilade.specs.Leaves.{AreLeaves}
 use Rattle.granfilade.proofs.WellFormedRows.{row_some}
 use Rattle.granfilade.proofs.Beside.{StaysBelow, front-end, back-past, front-row}
@@ -76,3 +77,20 @@ put-laid start bytes new rows next made old =
     (λ row leaf stays. record { filled = leaf.filled; front = λ e. front-row start document row next.address leaf stays (before_if_true row.first start e) })
     rows old.leaves (stay_below start rows next))
     ∙ ap (λ (bs : List ByteAt). put_in start bs (laid_out rows)) made.are_laid
+
+-- new rows come in between two others
+pub put-comes_in : (start : List ℕ) (new rows : List RowOf) → ComesIn (laid_out new) (laid_out rows) (laid_out (put_before start new rows))
+put-comes_in start new [] = record { front = []; back = []; was = refl; is = sym (append-nil (laid_out new)) }
+put-comes_in start new (row ∷ rows) = by_test (comes_before row.first start) (put-comes_in start new rows)
+  where
+    by_test : (b : Bool) → ComesIn (laid_out new) (laid_out rows) (laid_out (put_before start new rows)) → ComesIn (laid_out new) (laid_row row ++ laid_out rows) (laid_out (cond b (row ∷ put_before start new rows) (new ++ row ∷ rows)))
+    by_test true more = record {
+      front = laid_row row ++ more.front;
+      back = more.back;
+      was = ap (λ (bs : List ByteAt). laid_row row ++ bs) more.was ∙ sym (append_assoc (laid_row row) more.front more.back);
+      is =
+          ap (λ (bs : List ByteAt). laid_row row ++ bs) more.is
+          ∙ sym (append_assoc (laid_row row) (more.front ++ laid_out new) more.back)
+          ∙ ap (λ (bs : List ByteAt). bs ++ more.back) (sym (append_assoc (laid_row row) more.front (laid_out new)));
+    }
+    by_test false more = record { front = []; back = laid_row row ++ laid_out rows; was = refl; is = flat_map-append laid_row new (row ∷ rows) }

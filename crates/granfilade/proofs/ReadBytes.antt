@@ -131,7 +131,7 @@ row_reads a b rows i row first bytes well_formed lt at f is =
 
 -- ---- one child
 
-ends_up_to : {L : Type 0} (axis : Axis L) (rows : List (Row L)) → All (λ r. IsUpTo (end_on axis r) (greatest_end axis rows)) rows
+pub ends_up_to : {L : Type 0} (axis : Axis L) (rows : List (Row L)) → All (λ r. IsUpTo (end_on axis r) (greatest_end axis rows)) rows
 ends_up_to axis [] = All-nil (λ r. IsUpTo (end_on axis r) (greatest_end axis []))
 ends_up_to axis (row ∷ rows) =
     let P : Row _ → Type 0 = λ r. IsUpTo (end_on axis r) (greatest_end axis (row ∷ rows)) in

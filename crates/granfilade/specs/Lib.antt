@@ -3,3 +3,4 @@ pub mod Steps
 pub mod Puts
 pub mod Leaves
 pub mod Lengthening
+pub mod Whole

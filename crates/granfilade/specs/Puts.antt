@@ -37,6 +37,13 @@ abbrev pub put_in : List ℕ → List ByteAt → List ByteAt → List ByteAt
 put_in start new [] = new
 put_in start new (at ∷ bytes) = if comes_before at.address start then at ∷ put_in start new bytes else new ++ at ∷ bytes
 
+-- new bytes came in at one place; all others stand as before, in front of them or behind
+pub record ComesIn (new old made : List ByteAt) : Type 0 where
+  pub front : List ByteAt
+  pub back : List ByteAt
+  pub was : old ≡ front ++ back
+  pub is : made ≡ front ++ new ++ back
+
 -- ---- what holds of the rows where all that came in was put
 
 -- a row of some bytes, but not too many, from a content byte's address on; on the second axis it is at zero

@@ -1,20 +1,27 @@
 //! The tree of contents.
-ghost use Rattle.std.specs.Prelude.{◌≡◌, ℕ, ◌+◌, ◌<◌, ◌≤◌, ◌++◌, [], length, take, not, false, IsOk, IfOk, OnOk, OnErr};
+ghost use Rattle.std.specs.Prelude.{◌≡◌, ℕ, ◌+◌, ◌<◌, ◌≤◌, ◌++◌, [], ◌∷◌, length, take, not, false, IsOk, IfOk, OnOk, OnErr};
 ghost use Rattle.tumbler.specs.Places.{place_bound};
 ghost use Rattle.tumbler.specs.Span.{SpanFits};
 ghost use Rattle.enfilade_core.specs.Rows.{rows_of, node_at};
 ghost use Rattle.enfilade_core.specs.Exchange.{Grows};
+ghost use Rattle.enfilade_core.specs.Planes.{content_widths};
 ghost use Rattle.enfilade_core.specs.BalanceState.{tree_debt, tree_allows, has_lone_child};
+ghost use Rattle.enfilade_balance.specs.Depth.{KeepsDepth};
+ghost use Rattle.enfilade_balance.specs.OneStep.{IsOneStep};
 ghost use Rattle.enfilade_balance.specs.Steps.{root_after, is_idle, is_dropped};
+ghost use Rattle.enfilade_sweep.specs.Sweep.{IsSweptTree};
+ghost use Rattle.enfilade_sweep.specs.Plan.{IsPlanFor};
 ghost use Rattle.granfilade.specs.Content.{ContentTree, laid, content, tree_rows, laid_out, bytes_in};
 ghost use Rattle.granfilade.specs.Steps.{last_of};
-ghost use Rattle.granfilade.specs.Puts.{IsNext, IsContent, put_in};
+ghost use Rattle.granfilade.specs.Puts.{IsNext, IsContent, ComesIn, put_in};
 
-use crate::leaves::leaves;
-use crate::lengthened::last_lengthened;
+use crate::leaves::{leaves, leaves_of};
+use crate::lengthened::{Lengthened, last_lengthened};
 use crate::reading::append_node;
 use enfilade_balance::{Balance, balance_step};
+use enfilade_core::laws::{is_tumbler, nodes_are_well_formed};
 use enfilade_core::{Arena, ContentPlane, Gap, Node, TreeMark};
+use enfilade_sweep::{SweepPlan, finish_tree, plan_tree};
 use std::alloc::Global;
 use std::marker::Model;
 use tumbler::{Memory, Span, Text, Tumbler};
@@ -61,31 +68,54 @@ impl Granfilade {
 
     /// Puts bytes in, the first one at `start` and each other at the address after the one in front of it.
     ///
-    /// A row of the tree has at most 1,024 of them. Where the last row in front ends at `start` and has room, it
-    /// becomes longer. Where memory is refused, the tree is as before, though the arena may have more nodes.
+    /// A row of the tree has at most 1,024 of them. Where the last row in front ends at `start` and has room, and no
+    /// other begins where it does, it becomes longer. Where memory is refused, the tree is as before, though the arena
+    /// may have more nodes.
     pub fn put(&mut self, start: &Tumbler, bytes: &[u8]) -> Result<(), Memory>
         requires next { IsNext start.now (content self.old) }
         requires room { last_of start.now + length bytes.now < place_bound }
         ensures grows { Grows self.old.nodes self.new.nodes }
+        ensures added { OnOk result (ComesIn (laid start.now bytes.now) (content self.old) (content self.new)) }
         ensures bytes { IsContent (tree_rows self.old) → OnOk result (content self.new ≡ put_in start.now (laid start.now bytes.now) (content self.old)) }
         ensures rows { IsContent (tree_rows self.old) → OnOk result (IsContent (tree_rows self.new)) }
+        ensures level { OnOk result (KeepsDepth content_widths self.old.nodes self.old.root self.new.nodes self.new.root) }
         ensures root { OnErr result (self.new.root ≡ self.old.root) }
         ensures refused { OnErr result (tree_rows self.new ≡ tree_rows self.old) }
     {
-        let _alloc = self.arena.allocator();
+        nodes_are_well_formed(&self.arena);
         let Some(longer) = last_lengthened(&self.arena, self.root, start, bytes)? else {
-            let rows = leaves(start, bytes)?;
-            self.root = self.arena.splice(self.root, start, &rows)?;
-            return Ok(());
+            return self.put_rows(start, bytes);
         };
-        let rows = leaves(&longer.from, longer.text.as_slice())?;
+        let Lengthened { from, text } = longer;
+        let rows = leaves_of(&from, text)?;
         let gap = Gap {
-            from: longer.from.copy(),
+            from,
             to: start.copy(),
             onto: start.copy(),
         };
         let made = self.arena.exchange(self.root, &gap, &rows)?;
+        if made.out.len() != 1 {
+            return self.put_rows(start, bytes);
+        }
         self.root = made.root;
+        Ok(())
+    }
+
+    /// The same, in rows of their own.
+    fn put_rows(&mut self, start: &Tumbler, bytes: &[u8]) -> Result<(), Memory>
+        requires next { IsNext start.now (content self.old) }
+        requires room { last_of start.now + length bytes.now < place_bound }
+        ensures grows { Grows self.old.nodes self.new.nodes }
+        ensures added { OnOk result (ComesIn (laid start.now bytes.now) (content self.old) (content self.new)) }
+        ensures bytes { IsContent (tree_rows self.old) → OnOk result (content self.new ≡ put_in start.now (laid start.now bytes.now) (content self.old)) }
+        ensures rows { IsContent (tree_rows self.old) → OnOk result (IsContent (tree_rows self.new)) }
+        ensures level { OnOk result (KeepsDepth content_widths self.old.nodes self.old.root self.new.nodes self.new.root) }
+        ensures root { OnErr result (self.new.root ≡ self.old.root) }
+        ensures refused { OnErr result (tree_rows self.new ≡ tree_rows self.old) }
+    {
+        nodes_are_well_formed(&self.arena);
+        let rows = leaves(start, bytes)?;
+        self.root = self.arena.splice(self.root, start, &rows)?;
         Ok(())
     }
 
@@ -97,6 +127,7 @@ impl Granfilade {
         ensures grows { Grows self.old.nodes self.new.nodes }
         ensures root { IfOk result (λ made. self.new.root ≡ (root_after (record { 0 = self.old.root }) made).0) }
         ensures lowers { IfOk result (λ made. is_idle made ≡ false → tree_debt self.new.nodes self.new.root + 1 ≤ tree_debt self.old.nodes self.old.root) }
+        ensures one { IfOk result (λ made. IsOneStep content_widths self.new.nodes (node_at self.old.nodes self.old.root) made) }
         ensures idle { IfOk result (λ made. is_idle made ≡ not (tree_allows self.old.nodes self.old.root)) }
         ensures dropped { IfOk result (λ made. is_dropped made ≡ has_lone_child (node_at self.old.nodes self.old.root)) }
         ensures succeeds { tree_allows self.old.nodes self.old.root ≡ false → IsOk result }
@@ -110,6 +141,23 @@ impl Granfilade {
         };
         self.root = root_after(self.root, made);
         Ok(made)
+    }
+
+    /// Finds which nodes a sweep keeps. It takes all the memory that the sweep needs, and the tree stays as it is.
+    pub fn plan_sweep(&self) -> Result<SweepPlan, Memory>
+        ensures made { IfOk result (IsPlanFor self.now.nodes) }
+        ensures root { IfOk result (λ plan. plan.roots ≡ self.now.root ∷ []) }
+    {
+        plan_tree(&self.arena, self.root)
+    }
+
+    /// Makes the sweep that was planned: nodes that the tree does not reach are let go. It takes no memory.
+    pub fn finish_sweep(&mut self, plan: SweepPlan)
+        requires made { IsPlanFor self.old.nodes plan }
+        requires root { plan.roots ≡ self.old.root ∷ [] }
+        ensures { IsSweptTree content_widths self.old.nodes self.old.root self.new.nodes self.new.root }
+    {
+        self.root = finish_tree(&mut self.arena, plan);
     }
 
     /// The arena and the tree's root, lent.
@@ -156,7 +204,7 @@ impl Granfilade {
         ensures kept { take (length into.old.items) into.new.items ≡ into.old.items }
     {
         let alloc = self.arena.allocator();
-        let _places = span.start.places();
+        is_tumbler(&span.start);
         let end = span.start.add(&span.width);
         let zero = Tumbler::zero(alloc);
         append_node(&self.arena, self.root, &zero, &zero, span, &end, into)

@@ -10,6 +10,7 @@ ghost use Rattle.granfilade.specs.Leaves.{AreLeaves};
 
 use crate::parts::so_far_on;
 use enfilade_core::Row;
+use enfilade_core::laws::is_tumbler;
 use tumbler::{List, Memory, Text, Tumbler};
 
 /// The most bytes that a row may have.
@@ -36,7 +37,7 @@ pub(crate) fn leaves(start: &Tumbler, bytes: &[u8]) -> Result<List<Row<Text>>, M
     requires room { last_of start.now + length bytes.now < place_bound }
     ensures { IfOk result (λ made. AreLeaves start.now bytes.now (map (plain_row plain_text) made.items)) }
 {
-    let _places = start.places();
+    is_tumbler(start);
     let mut rows = List::new(start.allocator());
     let mut done = 0;
     while done < bytes.len() {
@@ -45,5 +46,28 @@ pub(crate) fn leaves(start: &Tumbler, bytes: &[u8]) -> Result<List<Row<Text>>, M
         rows.push(leaf(start, done, rest.split_at(count).0)?)?;
         done += count;
     }
+    Ok(rows)
+}
+
+/// Rows for a text from a start on. Where one row has room for all of it, it comes into that without a copy.
+pub(crate) fn leaves_of(start: &Tumbler, text: Text) -> Result<List<Row<Text>>, Memory>
+    requires address { IsByteAddress start.now }
+    requires room { last_of start.now + length text.items < place_bound }
+    ensures { IfOk result (λ made. AreLeaves start.now text.items (map (plain_row plain_text) made.items)) }
+{
+    if text.is_empty() {
+        return leaves(start, text.as_slice());
+    }
+    if text.len() > MOST_LEAF_BYTES {
+        return leaves(start, text.as_slice());
+    }
+    let alloc = start.allocator();
+    is_tumbler(start);
+    let mut rows = List::new(alloc);
+    rows.push(Row {
+        first: start.copy(),
+        second: Tumbler::zero(alloc),
+        leaf: text,
+    })?;
     Ok(rows)
 }

@@ -36,7 +36,9 @@ pub(crate) fn last_lengthened(
     if so_far_on(&row.first, long) != *start {
         return Ok(None);
     }
-    let mut text = List::from_slice(alloc, row.leaf.as_slice())?;
+    let mut text = List::new(alloc);
+    text.reserve(long.saturating_add(bytes.len()))?;
+    text.extend_from_slice(row.leaf.as_slice())?;
     text.extend_from_slice(bytes)?;
     Ok(Some(Lengthened {
         from: row.first.copy(),

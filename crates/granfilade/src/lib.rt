@@ -6,5 +6,6 @@ mod leaves;
 mod lengthened;
 mod parts;
 mod reading;
+mod whole;
 
 pub use granfilade::Granfilade;

@@ -9,6 +9,7 @@ ghost use Rattle.enfilade_search.specs.Sought.{FitsAt, ChildFits};
 ghost use Rattle.granfilade.specs.Content.{laid_out, bytes_in};
 
 use crate::parts::append_rows;
+use enfilade_core::laws::nodes_are_well_formed;
 use enfilade_core::{Arena, Branch, Children, ContentPlane, Node};
 use tumbler::{Memory, Span, Text, Tumbler};
 
@@ -30,7 +31,7 @@ pub(crate) fn append_node(
     ensures ok { OnOk result (into.new.items ≡ into.old.items ++ bytes_in span.now (laid_out (rows_from arena.now node.0 first.now second.now))) }
     ensures err { OnErr result (StartsWith into.new.items into.old.items) }
 {
-    let _alloc = arena.allocator();
+    nodes_are_well_formed(arena);
     match arena.node(node) {
         Children::Bottom(rows) => append_rows(rows.as_slice(), first, second, span, end, into),
         Children::Inner(branches) => {
@@ -64,7 +65,7 @@ fn append_child(
     ensures goes_on { IfOk result (λ more. more ≡ comes_before (sum first.now child.now.first) (end_of span.now)) }
     ensures err { OnErr result (StartsWith into.new.items into.old.items) }
 {
-    let _alloc = arena.allocator();
+    nodes_are_well_formed(arena);
     let first = first.add(&child.first);
     if !first.is_before(end) {
         return Ok(false);

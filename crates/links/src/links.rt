@@ -1,5 +1,5 @@
 //! The table of links and its calls.
-ghost use Rattle.std.specs.Prelude.{◌≡◌, ◌<◌, ◌≤◌, ◌⊎◌, List as ListOf, [], length, slice_get, All, IsOk, IfOk, OnOk, OnErr, IfSome, ◌+◌, not, false};
+ghost use Rattle.std.specs.Prelude.{◌≡◌, ◌<◌, ◌≤◌, ◌⊎◌, List as ListOf, [], ◌∷◌, length, slice_get, All, IsOk, IfOk, OnOk, OnErr, IfSome, ◌+◌, not, false};
 ghost use Rattle.std.specs.Option.{option_map, option_copied};
 ghost use Rattle.std.specs.Ordering.{nat_cmp};
 ghost use Rattle.std.specs.Cmp.Lexicographic.{slice_cmp};
@@ -7,7 +7,11 @@ ghost use Rattle.std.specs.List.Sorted.{IsStrictlySortedBy};
 ghost use Rattle.tumbler.specs.Span.{SpanFits};
 ghost use Rattle.enfilade_core.specs.Rows.{node_at};
 ghost use Rattle.enfilade_core.specs.BalanceState.{tree_debt, tree_allows, has_lone_child};
+ghost use Rattle.enfilade_core.specs.Planes.{key_widths};
+ghost use Rattle.enfilade_balance.specs.OneStep.{IsOneStep};
 ghost use Rattle.enfilade_balance.specs.Steps.{root_after, is_idle, is_dropped};
+ghost use Rattle.enfilade_sweep.specs.Sweep.{IsSweptTree};
+ghost use Rattle.enfilade_sweep.specs.Plan.{IsPlanFor};
 ghost use Rattle.spanfilade.specs.Index.{rows_in_index, at_mark};
 ghost use Rattle.links.specs.LinkLists.{LinkLists, most_links, plain_link, IsLink, HoldsRuns, index_at, with_index, ids_in, has_in, link_in, count_of_home_in, added, removed, marks_of, at_marks, AllGrow};
 ghost use Rattle.links.specs.Finding.{found_in, spans_met, EndsFit};
@@ -23,6 +27,7 @@ use crate::table::Table;
 use crate::wanted::joined_ends;
 use enfilade_balance::Balance;
 use enfilade_search::overlapping;
+use enfilade_sweep::SweepPlan;
 use spanfilade::Spanfilade;
 use std::alloc::Global;
 use std::marker::Model;
@@ -114,7 +119,7 @@ impl Links {
         ensures ascends { IsStrictlySortedBy (slice_cmp nat_cmp) (ids_in self.now.links) }
         ensures runs { All IsLink self.now.links }
     {
-        let _links = self.table.links();
+        self.table.ids_ascend();
     }
 
     /// How many links have the home. It looks a number up, and takes no memory.
@@ -140,7 +145,7 @@ impl Links {
     {
         let homes = homes.as_slice();
         let wanted = joined_ends(alloc, ends)?;
-        let _ascend = self.table.links();
+        self.table.ids_ascend();
         let Some(ids) = self.candidates(&wanted)? else {
             let links = self.table.not_before(after);
             return found_in_order(alloc, links, homes, &wanted, after, limit);
@@ -156,7 +161,7 @@ impl Links {
         )
     }
 
-    /// Ids among which all are that are wanted, where spans are given for some end.
+    /// Candidates: ids of links, with each that is wanted among them, where spans are given for some end.
     ///
     /// They are those of the end whose spans meet the fewest runs, or at most some times as many: the ends are
     /// looked at side by side, with a limit that grows until one of them is done.
@@ -184,7 +189,7 @@ impl Links {
         requires { EndsJoined ends.now }
         ensures { IfOk result (λ found. IfSome found (λ ids. Hold self.now.links ends.now ids.items)) }
     {
-        let _ids = self.table.links();
+        self.table.ids_ascend();
         if let Some(spans) = &ends.from {
             if let Some(ids) = self.from.keys_meeting_up_to(spans, limit)? {
                 return Ok(Some(ids));
@@ -208,7 +213,7 @@ impl Links {
         requires { EndsJoined ends.now }
         ensures { IfOk result (λ found. IfSome found (λ ids. Hold self.now.links ends.now ids.items)) }
     {
-        let _ids = self.table.links();
+        self.table.ids_ascend();
         if let Some(spans) = &ends.from {
             let ids = self.from.keys_meeting(spans)?;
             return Ok(Some(ids));
@@ -254,6 +259,7 @@ impl Links {
         ensures grows { AllGrow self.old self.new }
         ensures root { IfOk result (λ made. (index_at end self.new).root ≡ root_after (index_at end self.old).root made) }
         ensures lowers { IfOk result (λ made. is_idle made ≡ false → tree_debt (index_at end self.new).nodes (index_at end self.new).root.0 + 1 ≤ tree_debt (index_at end self.old).nodes (index_at end self.old).root.0) }
+        ensures one { IfOk result (λ made. IsOneStep key_widths (index_at end self.new).nodes (node_at (index_at end self.old).nodes (index_at end self.old).root.0) made) }
         ensures idle { IfOk result (λ made. is_idle made ≡ not (tree_allows (index_at end self.old).nodes (index_at end self.old).root.0)) }
         ensures dropped { IfOk result (λ made. is_dropped made ≡ has_lone_child (node_at (index_at end self.old).nodes (index_at end self.old).root.0)) }
         ensures succeeds { tree_allows (index_at end self.old).nodes (index_at end self.old).root.0 ≡ false → IsOk result }
@@ -267,16 +273,22 @@ impl Links {
         }
     }
 
-    /// Puts other indexes with the same rows in the places of the three. It takes no memory.
-    pub fn set_indexes(&mut self, from: Spanfilade, to: Spanfilade, three: Spanfilade)
-        requires from { rows_in_index from ≡ rows_in_index self.old.from }
-        requires to { rows_in_index to ≡ rows_in_index self.old.to }
-        requires three { rows_in_index three ≡ rows_in_index self.old.three }
-        ensures value { self.new ≡ record { links = self.old.links; from = from; to = to; three = three } }
+    /// Makes the sweeps of the three indexes that were planned: nodes that no index reaches are let go. It takes no memory.
+    pub fn finish_sweep(&mut self, from: SweepPlan, to: SweepPlan, three: SweepPlan)
+        requires from { IsPlanFor self.old.from.nodes from }
+        requires to { IsPlanFor self.old.to.nodes to }
+        requires three { IsPlanFor self.old.three.nodes three }
+        requires from_root { from.roots ≡ self.old.from.root.0 ∷ [] }
+        requires to_root { to.roots ≡ self.old.to.root.0 ∷ [] }
+        requires three_root { three.roots ≡ self.old.three.root.0 ∷ [] }
+        ensures links { self.new.links ≡ self.old.links }
+        ensures from { IsSweptTree key_widths self.old.from.nodes self.old.from.root.0 self.new.from.nodes self.new.from.root.0 }
+        ensures to { IsSweptTree key_widths self.old.to.nodes self.old.to.root.0 self.new.to.nodes self.new.to.root.0 }
+        ensures three { IsSweptTree key_widths self.old.three.nodes self.old.three.root.0 self.new.three.nodes self.new.three.root.0 }
     {
-        self.from = from;
-        self.to = to;
-        self.three = three;
+        self.from.finish_sweep(from);
+        self.to.finish_sweep(to);
+        self.three.finish_sweep(three);
     }
 
     /// What `back` goes back to. It takes no memory.
@@ -305,6 +317,15 @@ impl Links {
         self.from.back(&marks.from);
         self.to.back(&marks.to);
         self.three.back(&marks.three);
+    }
+
+    /// The index of each end has the runs of that end. It takes no memory.
+    pub fn ends_are_indexed(&self)
+        ensures from { HoldsRuns 1 self.now.links self.now.from }
+        ensures to { HoldsRuns 2 self.now.links self.now.to }
+        ensures three { HoldsRuns 3 self.now.links self.now.three }
+    {
+        let _ = &self.from;
     }
 
     /// The index of end 1, 2 or 3. It takes no memory.

@@ -1,19 +1,23 @@
 -- What is left where what a span picks has gone.
-use Rattle.std.proofs.Common.{◌≡◌, ℕ, zero, suc, ◌+◌, ◌-◌, ◌<◌, ◌≤◌, ◌&&◌, not, Bool, true, false, List, [], ◌∷◌, ◌++◌, length, take, drop, refl, arith, ap, sym, subst, ◌∙◌, inl, inr}
+use Rattle.std.proofs.Common.{◌≡◌, ◌≢◌, ℕ, zero, suc, ◌+◌, ◌-◌, ◌<◌, ◌≤◌, ◌&&◌, not, Bool, true, false, List, [], ◌∷◌, ◌++◌, length, take, drop, refl, arith, ap, sym, subst, ◌∙◌, inl, inr}
 use Rattle.std.specs.Prelude.{◌⊎◌}
 use Rattle.std.proofs.lemmas.List.{length-append}
-use Rattle.std.proofs.lemmas.List.Elements.{All-nil}
+use Rattle.std.proofs.lemmas.List.Elements.{All-nil, All-head}
 use Rattle.std.specs.List.{All}
 use Rattle.tumbler.specs.declared.span.Span.{Span}
 use Rattle.tumbler.specs.Places.{comes_before}
 use Rattle.tumbler.specs.Span.{end_of}
+use Rattle.enfilade_core.specs.declared.tree.Row.{Row}
 use Rattle.enfilade_core.specs.Rows.{Shape, rows_of}
+use Rattle.enfilade_core.specs.Planes.{text_widths}
+use Rattle.enfilade_balance.specs.Depth.{KeepsDepth}
 use Rattle.enfilade_core.specs.Edits.{KeepsRows}
 use Rattle.enfilade_core.specs.Exchange.{Grows}
 use Rattle.poom.specs.declared.part.Part.{Part}
 use Rattle.poom.specs.declared.part.Part.TheVariants.{Text, Links}
-use Rattle.poom.specs.Pieces.{IsPiece, laid}
-use Rattle.poom.specs.Laid.{part_number, most_in, standing_in, exchanged_at, IsRoot}
+use Rattle.poom.specs.declared.piece.Piece.{Piece}
+use Rattle.poom.specs.Pieces.{IsPiece, addresses_from, laid, rows_from, pieces_in}
+use Rattle.poom.specs.Laid.{part_number, most_in, standing_in, texts, links, exchanged_at, IsRoot, IsOneDocument}
 use Rattle.poom.specs.Picked.{is_picked, left_from}
 use Rattle.poom.specs.Bounds.{IsBound}
 use Rattle.poom.proofs.Places.{if_true, if_false}
@@ -165,4 +169,30 @@ text_twice span first second third a b = b ∙ a
 pub links_twice : (span : Span) (first second third : List (List ℕ)) → second ≡ first → third ≡ left_from 2 span 1 second → third ≡ left_from 2 span 1 first
 links_twice span first second third a b = b ∙ ap (left_from 2 span 1) a
 
-pub ruleset deleted = (rows_kept, text_twice, links_twice)
+-- pieces that lay out no address are none
+none_laid : (part : ℕ) (pieces : List Piece) → All IsPiece pieces → laid part pieces ≡ [] → pieces ≡ []
+none_laid part [] each none = refl
+none_laid part (piece ∷ pieces) each none = absurd (by_count piece.count (All-head IsPiece piece pieces each).filled none)
+  where
+    by_count : (n : ℕ) → 1 ≤ n → addresses_from part piece.document piece.first n ++ laid part pieces ≡ [] → ⊥
+    by_count zero filled e = omega (arith, filled)
+    by_count (suc n) filled e = let never : ⊥ = cc in never
+
+both_none : (xs ys : List (List ℕ)) → xs ++ ys ≡ [] → (xs ≡ []) × (ys ≡ [])
+both_none [] ys e = (refl, e)
+both_none (x ∷ xs) ys e = let never : ⊥ = cc in absurd never
+
+-- a document that has rows has text or links
+some_stands : (rows : List (Row ℕ)) → IsOneDocument rows → rows ≢ [] → texts rows ++ links rows ≢ []
+some_stands rows document some none =
+    let both = both_none (texts rows) (links rows) none in
+    some (document.gapless ∙ (λ i. rows_from 1 1 (none_laid 1 (pieces_in 1 rows) document.text_pieces both.0 i) ++ rows_from 2 1 (none_laid 2 (pieces_in 2 rows) document.link_pieces both.1 i)))
+
+-- a tree that has rows at the end had some between
+pub level_twice : (old mid new : List (Shape ℕ)) (root middle made : ℕ) (span : Span) → KeepsDepth text_widths old root mid middle → KeepsDepth text_widths mid middle new made → texts (rows_of new made) ≡ texts (rows_of mid middle) → links (rows_of new made) ≡ left_from 2 span 1 (links (rows_of mid middle)) → IsRoot new made
+    → KeepsDepth text_widths old root new made
+level_twice old mid new root middle made span first second text link document some =
+    let there : rows_of mid middle ≢ [] = λ none. some_stands (rows_of new made) document.document some (ap (λ xs. xs ++ links (rows_of new made)) (text ∙ ap texts none) ∙ link ∙ ap (λ rows. left_from 2 span 1 (links rows)) none) in
+    second some ∙ first there
+
+pub ruleset deleted = (rows_kept, text_twice, links_twice, level_twice)

@@ -1,5 +1,5 @@
 -- Where the rows of a document end: behind its links, or behind its text where it has none.
-use Rattle.std.proofs.Common.{◌≡◌, ◌≢◌, ℕ, zero, suc, ◌+◌, ◌-◌, ◌<◌, ◌≤◌, List, [], ◌∷◌, ◌++◌, length, get_or, refl, arith, ap, sym, subst, ◌∙◌, append-nil}
+use Rattle.std.proofs.Common.{◌≡◌, ℕ, zero, suc, ◌+◌, ◌-◌, ◌<◌, ◌≤◌, List, [], ◌∷◌, ◌++◌, length, refl, arith, ap, sym, ◌∙◌, append-nil}
 use Rattle.std.specs.List.{All}
 use Rattle.std.proofs.lemmas.List.Elements.{All-head, All-tail}
 use Rattle.tumbler.specs.Places.{IsBefore, place}
@@ -13,7 +13,7 @@ use Rattle.enfilade_core.proofs.Tells.{greatest_end-append}
 use Rattle.poom.specs.declared.piece.Piece.{Piece}
 use Rattle.poom.specs.declared.part.Part.{Part}
 use Rattle.poom.specs.declared.part.Part.TheVariants.{Text, Links}
-use Rattle.poom.specs.Pieces.{IsPiece, laid, total, piece_row, rows_from, pieces_in}
+use Rattle.poom.specs.Pieces.{IsPiece, total, piece_row, rows_from, pieces_in}
 use Rattle.poom.specs.Laid.{part_number, standing_in, IsOneDocument, IsRoot}
 use Rattle.poom.proofs.Back.{length-laid}
 

@@ -1,5 +1,5 @@
 -- The rows of roots, where nodes came in behind the others.
-use Rattle.std.proofs.Common.{◌≡◌, ℕ, ◌<◌, List, [], ◌∷◌, ◌++◌, length, get_or, arith, ap, sym, subst, ◌∙◌}
+use Rattle.std.proofs.Common.{◌≡◌, ℕ, ◌<◌, List, [], ◌∷◌, ◌++◌, length, take, get_or, refl, arith, ap, sym, subst, ◌∙◌}
 use Rattle.std.proofs.lemmas.List.{get_or_push, length-append, append-nil, append_assoc}
 use Rattle.enfilade_core.specs.Rows.{Shape, Rows, rows_in, rows_table, rows_of}
 use Rattle.enfilade_core.proofs.Seen.{rows_stay}
@@ -34,6 +34,17 @@ grows_same old new e = subst (Grows old) (sym e) (grows_itself old)
 
 pub grows_behind : (old new more : List (Shape ℕ)) → new ≡ old ++ more → Grows old new
 grows_behind old new more e = record { more = more; is = e }
+
+-- nodes that came in went again
+pub taken_back : (old mid now : List (Shape ℕ)) (mark : ℕ) → Grows old mid → mark ≡ length old → now ≡ take mark mid → now ≡ old
+taken_back old mid now mark grows is back = back ∙ (λ i. take (is i) (grows.is i)) ∙ front old grows.more
+  where
+    front : (xs ys : List (Shape ℕ)) → take (length xs) (xs ++ ys) ≡ xs
+    front [] ys = refl
+    front (x ∷ xs) ys = ap (λ (zs : List (Shape ℕ)). x ∷ zs) (front xs ys)
+
+pub grows_back : (old mid now : List (Shape ℕ)) (mark : ℕ) → Grows old mid → mark ≡ length old → now ≡ take mark mid → Grows old now
+grows_back old mid now mark grows is back = grows_same old now (taken_back old mid now mark grows is back)
 
 pub ruleset roots = (kept_behind, kept_same, empty_rows, empty_root, grows_same, grows_behind)
 

@@ -1,5 +1,5 @@
 //! What a span picks goes.
-ghost use Rattle.std.specs.Prelude.{◌≡◌, ℕ, ◌+◌, ◌<◌, ◌≤◌, length, IfOk};
+ghost use Rattle.std.specs.Prelude.{◌≡◌, ℕ, ◌+◌, ◌<◌, ◌≤◌, length, IfOk, OnErr};
 ghost use Rattle.tumbler.specs.Span.{SpanFits};
 ghost use Rattle.enfilade_core.specs.Rows.{rows_of};
 ghost use Rattle.enfilade_core.specs.Edits.{KeepsRows};
@@ -7,6 +7,8 @@ ghost use Rattle.enfilade_core.specs.Exchange.{Grows};
 ghost use Rattle.poom.specs.Laid.{IsRoot, part_number, standing_in, other_part, texts, links};
 ghost use Rattle.poom.specs.Picked.{left_from};
 ghost use Rattle.poom.specs.Bounds.{IsBound};
+ghost use Rattle.enfilade_core.specs.Planes.{text_widths};
+ghost use Rattle.enfilade_balance.specs.Depth.{KeepsDepth};
 
 use crate::part::Part;
 use crate::poom::Poom;
@@ -51,8 +53,10 @@ impl Poom {
         ensures kept { KeepsRows self.old self.new }
         ensures grows { Grows self.old self.new }
         ensures document { IfOk result (λ made. IsRoot self.new made.0) }
+        ensures level { IfOk result (λ made. KeepsDepth text_widths self.old root.0 self.new made.0) }
         ensures here { IfOk result (λ made. standing_in part (rows_of self.new made.0) ≡ left_from (part_number part) span.now 1 (standing_in part (rows_of self.old root.0))) }
         ensures there { IfOk result (λ made. standing_in (other_part part) (rows_of self.new made.0) ≡ standing_in (other_part part) (rows_of self.old root.0)) }
+        ensures err { OnErr result (self.new ≡ self.old) }
     {
         let length = self.length_of(root, part);
         let from = bound(part, &span.start, length);
@@ -64,7 +68,8 @@ impl Poom {
         Ok(made)
     }
 
-    /// The document without what the span picks, text and links. What is behind closes up.
+    /// The document without what the span picks, text and links. What is behind closes up. Where memory is refused all is
+    /// as before.
     #[tactic(auto, using(crate::proofs::Deletes::deleted, crate::proofs::Roots::twice))]
     pub fn delete(&mut self, root: Node, span: &Span) -> Result<Node, Memory>
         requires root { IsRoot self.old root.0 }
@@ -73,10 +78,16 @@ impl Poom {
         ensures grows { Grows self.old self.new }
         ensures root { IfOk result (λ made. IsRoot self.new made.0) }
         ensures text { IfOk result (λ made. texts (rows_of self.new made.0) ≡ left_from 1 span.now 1 (texts (rows_of self.old root.0))) }
+        ensures level { IfOk result (λ made. KeepsDepth text_widths self.old root.0 self.new made.0) }
         ensures links { IfOk result (λ made. links (rows_of self.new made.0) ≡ left_from 2 span.now 1 (links (rows_of self.old root.0))) }
+        ensures err { OnErr result (self.new ≡ self.old) }
     {
+        let mark = self.arena.mark();
         let without = self.delete_in(root, Part::Text, span)?;
-        let made = self.delete_in(without, Part::Links, span)?;
+        let Ok(made) = self.delete_in(without, Part::Links, span) else {
+            self.arena.truncate(mark);
+            return Err(Memory);
+        };
         Ok(made)
     }
 }

@@ -1,5 +1,5 @@
 //! Edits of documents.
-ghost use Rattle.std.specs.Prelude.{◌≡◌, ℕ, [], ◌∷◌, ◌+◌, ◌^◌, ◌<◌, ◌≤◌, ◌++◌, length, All, IsOk, IfOk, map};
+ghost use Rattle.std.specs.Prelude.{◌≡◌, ℕ, [], ◌∷◌, ◌+◌, ◌^◌, ◌<◌, ◌≤◌, ◌++◌, length, All, IsOk, IfOk, OnErr, map};
 ghost use Rattle.tumbler.specs.Address.{IsDocument, IsMadeIn};
 ghost use Rattle.tumbler.specs.Places.{IsTumbler};
 ghost use Rattle.enfilade_core.specs.Rows.{rows_of};
@@ -8,12 +8,15 @@ ghost use Rattle.enfilade_core.specs.Exchange.{Grows};
 ghost use Rattle.poom.specs.Pieces.{IsPiece, addresses_from, laid};
 ghost use Rattle.poom.specs.Laid.{IsRoot, texts, links, exchanged_at};
 ghost use Rattle.poom.specs.Edited.{IsContentRun, run_addresses, IsLinkId};
+ghost use Rattle.enfilade_core.specs.Planes.{text_widths};
+ghost use Rattle.enfilade_balance.specs.Depth.{KeepsDepth};
 
 use crate::part::Part;
 use crate::piece::Piece;
 use crate::poom::Poom;
 use crate::put::put;
 use enfilade_core::Node;
+use enfilade_core::laws::is_tumbler;
 use febe_data::Run;
 use std::alloc::Global;
 use tumbler::{List, Memory, Tumbler};
@@ -24,7 +27,7 @@ fn run_piece(run: &Run) -> Piece
     ensures piece { result ≡ record { document = run.now.content; first = run.now.first; count = run.now.length } }
     ensures well_formed { IsPiece result }
 {
-    let _places = run.content.places();
+    is_tumbler(&run.content);
     Piece {
         document: run.content.copy(),
         first: run.first,
@@ -57,7 +60,7 @@ fn link_piece(link: &Tumbler) -> Piece
     let Some(document) = link.document_of() else {
         unreachable!();
     };
-    let _document = document.places();
+    is_tumbler(&document);
     let places = link.places();
     let n = places.len();
     Piece {
@@ -69,7 +72,7 @@ fn link_piece(link: &Tumbler) -> Piece
 
 impl Poom {
     /// Puts `k` bytes of a document's content in, from byte `first` on. The first of them comes to stand at
-    /// position n, and what stood there and behind it makes room.
+    /// position n, and what stood there and behind it makes room. Where memory is refused all is as before.
     #[tactic(auto, using(crate::proofs::Inserts::inserts, crate::proofs::Roots::grown))]
     pub fn insert(
         &mut self,
@@ -89,15 +92,17 @@ impl Poom {
         ensures kept { KeepsRows self.old self.new }
         ensures grows { Grows self.old self.new }
         ensures root { IfOk result (λ made. IsRoot self.new made.0) }
+        ensures level { IfOk result (λ made. KeepsDepth text_widths self.old root.0 self.new made.0) }
         ensures text { IfOk result (λ made. texts (rows_of self.new made.0) ≡ exchanged_at n n (addresses_from 1 document.now first k) (texts (rows_of self.old root.0))) }
         ensures links { IfOk result (λ made. links (rows_of self.new made.0) ≡ links (rows_of self.old root.0)) }
+        ensures err { OnErr result (self.new ≡ self.old) }
         ensures nothing { (k ≡ 0) → IsOk result × (self.new ≡ self.old) }
         ensures same { IfOk result (λ made. (k ≡ 0) → made ≡ root) }
     {
         if k == 0 {
             return Ok(root);
         }
-        let _places = document.places();
+        is_tumbler(document);
         let piece = Piece {
             document: document.copy(),
             first,
@@ -108,7 +113,7 @@ impl Poom {
     }
 
     /// Puts the bytes of runs in, in their order and with repeats. The first of them comes to stand at position n,
-    /// and what stood there and behind it makes room.
+    /// and what stood there and behind it makes room. Where memory is refused all is as before.
     #[tactic(auto, using(crate::proofs::Inserts::copies, crate::proofs::Roots::grown))]
     pub fn copy_in(&mut self, root: Node, n: u32, runs: &List<Run>) -> Result<Node, Memory>
         requires root { IsRoot self.old root.0 }
@@ -119,15 +124,17 @@ impl Poom {
         ensures kept { KeepsRows self.old self.new }
         ensures grows { Grows self.old self.new }
         ensures root { IfOk result (λ made. IsRoot self.new made.0) }
+        ensures level { IfOk result (λ made. KeepsDepth text_widths self.old root.0 self.new made.0) }
         ensures text { IfOk result (λ made. texts (rows_of self.new made.0) ≡ exchanged_at n n (run_addresses runs.now.items) (texts (rows_of self.old root.0))) }
         ensures links { IfOk result (λ made. links (rows_of self.new made.0) ≡ links (rows_of self.old root.0)) }
+        ensures err { OnErr result (self.new ≡ self.old) }
     {
         let pieces = run_pieces(self.allocator(), runs.as_slice())?;
         let made = put(self, root, Part::Text, n, n, pieces.as_slice())?;
         Ok(made)
     }
 
-    /// The document with one link more, which comes behind the others.
+    /// The document with one link more, which comes behind the others. Where memory is refused all is as before.
     #[tactic(auto, using(crate::proofs::Inserts::linked, crate::proofs::Roots::grown))]
     pub fn add_link(&mut self, root: Node, link: &Tumbler) -> Result<Node, Memory>
         requires root { IsRoot self.old root.0 }
@@ -136,8 +143,10 @@ impl Poom {
         ensures kept { KeepsRows self.old self.new }
         ensures grows { Grows self.old self.new }
         ensures root { IfOk result (λ made. IsRoot self.new made.0) }
+        ensures level { IfOk result (λ made. KeepsDepth text_widths self.old root.0 self.new made.0) }
         ensures links { IfOk result (λ made. links (rows_of self.new made.0) ≡ links (rows_of self.old root.0) ++ link.now ∷ []) }
         ensures text { IfOk result (λ made. texts (rows_of self.new made.0) ≡ texts (rows_of self.old root.0)) }
+        ensures err { OnErr result (self.new ≡ self.old) }
     {
         let end = self.links(root) + 1;
         let piece = link_piece(link);

@@ -1,10 +1,12 @@
 //! Pieces of a document are exchanged for others.
-ghost use Rattle.std.specs.Prelude.{◌≡◌, ◌+◌, ◌^◌, ◌<◌, ◌≤◌, [], ◌∷◌, length, All, IfOk};
+ghost use Rattle.std.specs.Prelude.{◌≡◌, ◌+◌, ◌^◌, ◌<◌, ◌≤◌, [], ◌∷◌, length, All, IfOk, OnErr};
 ghost use Rattle.enfilade_core.specs.Rows.{rows_of};
 ghost use Rattle.enfilade_core.specs.Edits.{KeepsRows};
 ghost use Rattle.enfilade_core.specs.Exchange.{Grows};
 ghost use Rattle.poom.specs.Pieces.{IsPiece, laid, total, piece_row, rows_from};
 ghost use Rattle.poom.specs.Laid.{IsRoot, HasBorders, part_number, standing_in, other_part, most_in, exchanged_at};
+ghost use Rattle.enfilade_core.specs.Planes.{text_widths};
+ghost use Rattle.enfilade_balance.specs.Depth.{KeepsDepth};
 
 use crate::part::Part;
 use crate::piece::Piece;
@@ -78,7 +80,7 @@ impl Poom {
     /// Exchanges the pieces of a part from one border up to another, and gives the document as it is then.
     ///
     /// What stands behind them moves so that no gap is left. The path to them is copied once, and the old
-    /// document stays, as all others do, also where memory is refused.
+    /// document stays, as all others do. Where memory is refused the nodes that were made go again.
     pub(crate) fn exchange(
         &mut self,
         root: Node,
@@ -94,8 +96,10 @@ impl Poom {
         ensures kept { KeepsRows self.old self.new }
         ensures grows { Grows self.old self.new }
         ensures document { IfOk result (λ made. IsRoot self.new made.0) }
+        ensures level { IfOk result (λ made. KeepsDepth text_widths self.old root.0 self.new made.0) }
         ensures here { IfOk result (λ made. standing_in part (rows_of self.new made.0) ≡ exchanged_at from to (laid (part_number part) pieces.now) (standing_in part (rows_of self.old root.0))) }
         ensures there { IfOk result (λ made. standing_in (other_part part) (rows_of self.new made.0) ≡ standing_in (other_part part) (rows_of self.old root.0)) }
+        ensures err { OnErr result (self.new ≡ self.old) }
     {
         let laid = lay(self.alloc, part, from, pieces)?;
         let gap = Gap {
@@ -103,7 +107,11 @@ impl Poom {
             to: position(self.alloc, part, to),
             onto: position(self.alloc, part, laid.end),
         };
-        let made = self.arena.exchange(root, &gap, &laid.rows)?;
+        let mark = self.arena.mark();
+        let Ok(made) = self.arena.exchange(root, &gap, &laid.rows) else {
+            self.arena.truncate(mark);
+            return Err(Memory);
+        };
         Ok(made.root)
     }
 }

@@ -1,18 +1,24 @@
 //! The trees of all documents.
-ghost use Rattle.std.specs.Prelude.{◌≡◌, ◌+◌, ◌<◌, ◌≤◌, ◌++◌, [], ◌∷◌, length, take, not, false, IsOk, IfOk, OnOk, OnErr};
+ghost use Rattle.std.specs.Prelude.{◌≡◌, ◌+◌, ◌<◌, ◌≤◌, ◌++◌, [], ◌∷◌, length, map, take, not, false, IsOk, IfOk, OnOk, OnErr};
 ghost use Rattle.enfilade_core.specs.Rows.{Rows, rows_of, node_at};
 ghost use Rattle.enfilade_core.specs.Edits.{KeepsRows};
 ghost use Rattle.enfilade_core.specs.Exchange.{Grows};
 ghost use Rattle.enfilade_core.specs.BalanceState.{tree_debt, tree_allows, has_lone_child};
+ghost use Rattle.enfilade_core.specs.Planes.{text_widths};
+ghost use Rattle.enfilade_balance.specs.OneStep.{IsOneStep};
 ghost use Rattle.enfilade_balance.specs.Steps.{root_after, is_idle, is_dropped};
+ghost use Rattle.enfilade_core.specs.Summary.{depth_of};
+ghost use Rattle.enfilade_sweep.specs.Sweep.{numbers, IsSwept, reached_count, unreached_count};
+ghost use Rattle.enfilade_sweep.specs.Plan.{IsPlanFor};
 ghost use Rattle.poom.specs.declared.part.Part.TheVariants.{Text, Links};
 ghost use Rattle.poom.specs.Laid.{IsRoot, texts, links};
 
 use enfilade_balance::{Balance, balance_step};
 use enfilade_core::{Arena, Node, TextPlane};
+use enfilade_sweep::{SweepPlan, finish_sweep};
 use std::alloc::Global;
 use std::marker::Model;
-use tumbler::Memory;
+use tumbler::{List, Memory};
 
 /// The trees of documents. A document is a root, and documents may share nodes.
 ///
@@ -77,6 +83,7 @@ impl Poom {
         ensures rows { IfOk result (λ made. rows_of self.new (root_after root made).0 ≡ rows_of self.old root.0) }
         ensures document { IsRoot self.old root.0 → IfOk result (λ made. IsRoot self.new (root_after root made).0) }
         ensures lowers { IfOk result (λ made. is_idle made ≡ false → tree_debt self.new (root_after root made).0 + 1 ≤ tree_debt self.old root.0) }
+        ensures one { IfOk result (λ made. IsOneStep text_widths self.new (node_at self.old root.0) made) }
         ensures idle { IfOk result (λ made. is_idle made ≡ not (tree_allows self.old root.0)) }
         ensures dropped { IfOk result (λ made. is_dropped made ≡ has_lone_child (node_at self.old root.0)) }
         ensures succeeds { tree_allows self.old root.0 ≡ false → IsOk result }
@@ -109,6 +116,21 @@ impl Poom {
     /// Where memory comes from.
     pub fn allocator(&self) -> Global {
         self.alloc
+    }
+
+    /// Makes the sweep that was planned: nodes that its roots do not reach are let go. Gives the roots as they are named
+    /// now. It takes no memory.
+    pub fn finish_sweep(&mut self, plan: SweepPlan) -> List<Node>
+        requires { IsPlanFor self.old plan }
+        ensures swept { IsSwept self.old plan.roots self.new (numbers result.items) }
+        ensures rows { map (rows_of self.new) (numbers result.items) ≡ map (rows_of self.old) plan.roots }
+        ensures debts { map (tree_debt self.new) (numbers result.items) ≡ map (tree_debt self.old) plan.roots }
+        ensures allowed { map (tree_allows self.new) (numbers result.items) ≡ map (tree_allows self.old) plan.roots }
+        ensures depths { map (depth_of text_widths self.new) (numbers result.items) ≡ map (depth_of text_widths self.old) plan.roots }
+        ensures count { length self.new ≡ reached_count self.old plan.roots }
+        ensures none_left { unreached_count self.new (numbers result.items) ≡ 0 }
+    {
+        finish_sweep(&mut self.arena, plan)
     }
 
     /// The arena of all trees.

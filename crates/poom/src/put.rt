@@ -1,5 +1,5 @@
 //! Pieces are put in between two positions.
-ghost use Rattle.std.specs.Prelude.{◌≡◌, ℕ, ◌+◌, ◌^◌, ◌<◌, ◌≤◌, ◌++◌, ◌-◌, length, All, Some, None, IfOk, OnOk};
+ghost use Rattle.std.specs.Prelude.{◌≡◌, ℕ, ◌+◌, ◌^◌, ◌<◌, ◌≤◌, ◌++◌, ◌-◌, length, All, Some, None, IfOk, OnOk, OnErr};
 ghost use Rattle.std.specs.Option.{option_to_list};
 ghost use Rattle.enfilade_core.specs.Rows.{rows_of};
 ghost use Rattle.enfilade_core.specs.Edits.{KeepsRows};
@@ -7,6 +7,8 @@ ghost use Rattle.enfilade_core.specs.Exchange.{Grows};
 ghost use Rattle.poom.specs.Pieces.{IsPiece, laid, pieces_in};
 ghost use Rattle.poom.specs.Laid.{IsRoot, part_number, standing_in, other_part, most_in, exchanged_at};
 ghost use Rattle.poom.specs.Cuts.{IsHead, IsTail};
+ghost use Rattle.enfilade_core.specs.Planes.{text_widths};
+ghost use Rattle.enfilade_balance.specs.Depth.{KeepsDepth};
 
 use crate::joined::{continues, push_piece, push_pieces};
 use crate::look::PieceAt;
@@ -188,7 +190,7 @@ fn joined(
     Ok(all)
 }
 
-/// Exchanges what stands in a part from one position up to another for pieces.
+/// Exchanges what stands in a part from one position up to another for pieces. Where memory is refused all is as before.
 #[tactic(auto, using(crate::proofs::Puts::puts))]
 pub(crate) fn put(
     poom: &mut Poom,
@@ -207,8 +209,10 @@ pub(crate) fn put(
     ensures kept { KeepsRows poom.old poom.new }
     ensures grows { Grows poom.old poom.new }
     ensures document { IfOk result (λ made. IsRoot poom.new made.0) }
+    ensures level { IfOk result (λ made. KeepsDepth text_widths poom.old root.0 poom.new made.0) }
     ensures here { IfOk result (λ made. standing_in part (rows_of poom.new made.0) ≡ exchanged_at from to (laid (part_number part) pieces.now) (standing_in part (rows_of poom.old root.0))) }
     ensures there { IfOk result (λ made. standing_in (other_part part) (rows_of poom.new made.0) ≡ standing_in (other_part part) (rows_of poom.old root.0)) }
+    ensures err { OnErr result (poom.new ≡ poom.old) }
 {
     let (front, back) = cuts(poom, root, part, from, to, pieces);
     let all = joined(poom.allocator(), front.kept, pieces, back.kept)?;

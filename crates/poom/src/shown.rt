@@ -11,6 +11,7 @@ ghost use Rattle.poom.specs.Positions.{positions_of, IsInterval, shown_by, shown
 use crate::exchange::position;
 use crate::part::Part;
 use crate::poom::Poom;
+use enfilade_core::laws::is_tumbler;
 use enfilade_core::{Node, Row};
 use enfilade_search::meeting;
 use std::alloc::Global;
@@ -149,7 +150,7 @@ impl Poom {
         requires fits { SpanFits span.now }
         ensures { IfOk result (λ found. found.items ≡ intervals_in span.now (rows_of self.now root.0)) }
     {
-        let _start = span.start.places();
+        is_tumbler(&span.start);
         let rows = meeting(&self.arena, root, span)?;
         let mut spans = List::new(self.alloc);
         show(self.alloc, &mut spans, Part::Text, rows.as_slice(), span)?;

@@ -1,9 +1,11 @@
 //! Blocks of a text change places.
-ghost use Rattle.std.specs.Prelude.{◌≡◌, ◌+◌, ◌≤◌, length, IfOk};
+ghost use Rattle.std.specs.Prelude.{◌≡◌, ◌+◌, ◌≤◌, length, IfOk, OnErr};
 ghost use Rattle.enfilade_core.specs.Rows.{rows_of};
 ghost use Rattle.enfilade_core.specs.Edits.{KeepsRows};
 ghost use Rattle.enfilade_core.specs.Exchange.{Grows};
 ghost use Rattle.poom.specs.Laid.{IsRoot, texts, links, swapped_at, AreCuts, rearranged};
+ghost use Rattle.enfilade_core.specs.Planes.{text_widths};
+ghost use Rattle.enfilade_balance.specs.Depth.{KeepsDepth};
 
 use crate::joined::push_pieces;
 use crate::part::Part;
@@ -32,8 +34,10 @@ impl Poom {
         ensures kept { KeepsRows self.old self.new }
         ensures grows { Grows self.old self.new }
         ensures root { IfOk result (λ made. IsRoot self.new made.0) }
+        ensures level { IfOk result (λ made. KeepsDepth text_widths self.old root.0 self.new made.0) }
         ensures text { IfOk result (λ made. texts (rows_of self.new made.0) ≡ swapped_at first second third fourth (texts (rows_of self.old root.0))) }
         ensures links { IfOk result (λ made. links (rows_of self.new made.0) ≡ links (rows_of self.old root.0)) }
+        ensures err { OnErr result (self.new ≡ self.old) }
     {
         let mut pieces = self.pieces_between(root, Part::Text, third, fourth)?;
         let middle = self.pieces_between(root, Part::Text, second, third)?;
@@ -45,7 +49,8 @@ impl Poom {
     }
 
     /// The text with two blocks in each other's place: between three cuts, each of which stands before the
-    /// text at its position, the two blocks between them; between four the first and the last.
+    /// text at its position, the two blocks between them; between four the first and the last. Where memory is refused
+    /// all is as before.
     #[tactic(auto, using(crate::proofs::Rearranges::cuts))]
     pub fn rearrange(&mut self, root: Node, cuts: &List<u32>) -> Result<Node, Memory>
         requires root { IsRoot self.old root.0 }
@@ -53,8 +58,10 @@ impl Poom {
         ensures kept { KeepsRows self.old self.new }
         ensures grows { Grows self.old self.new }
         ensures root { IfOk result (λ made. IsRoot self.new made.0) }
+        ensures level { IfOk result (λ made. KeepsDepth text_widths self.old root.0 self.new made.0) }
         ensures text { IfOk result (λ made. texts (rows_of self.new made.0) ≡ rearranged cuts.now.items (texts (rows_of self.old root.0))) }
         ensures links { IfOk result (λ made. links (rows_of self.new made.0) ≡ links (rows_of self.old root.0)) }
+        ensures err { OnErr result (self.new ≡ self.old) }
     {
         let cuts = cuts.as_slice();
         if cuts.len() == 3 {

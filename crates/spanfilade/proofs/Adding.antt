@@ -1,10 +1,10 @@
 -- Spans that come in.
-use Rattle.std.proofs.Common.{◌≡◌, ℕ, ◌<◌, ◌^◌, List, [], ◌∷◌, ◌++◌, refl, arith, sym, subst, inl, inr}
+use Rattle.std.proofs.Common.{◌≡◌, ℕ, Bool, true, false, cond, ◌<◌, ◌^◌, List, [], ◌∷◌, ◌++◌, refl, arith, sym, subst, inl, inr}
 use Rattle.std.specs.List.{All}
 use Rattle.std.proofs.lemmas.List.Elements.{All-head, All-tail, All-nil, All-cons, All-weaker, All-append}
 use Rattle.std.proofs.lemmas.Bool.{false≢true}
 use Rattle.tumbler.specs.declared.span.Span.{Span}
-use Rattle.tumbler.specs.Places.{IsTumbler}
+use Rattle.tumbler.specs.Places.{IsTumbler, comes_before}
 use Rattle.tumbler.specs.Span.{SpanFits}
 use Rattle.tumbler.proofs.Order.{upto_upto, upto_or_before, upto_if_before, upto_itself}
 use Rattle.tumbler.proofs.Before.{true_if_before, false_if_up_to, up_to_if_false}
@@ -80,3 +80,12 @@ InOrder-put {L} at new (row ∷ rows) f h = elim (upto_or_before at row.first) [
 -- one row comes in at its own place; the rows are those that a list holds
 pub one_in_order : {L : Type 0} (row : Row L) (rows held : List (Row L)) → held ≡ row ∷ [] → InOrder rows → InOrder (put_before row.first held rows)
 one_in_order row rows held is h = subst (λ (new : List (Row _)). InOrder (put_before row.first new rows)) (sym is) (InOrder-put row.first (row ∷ []) rows (one_fits_in row rows) h)
+
+-- a tree that rows came into has rows
+pub put_some : {L : Type 0} (at : List ℕ) (new : Row L) (more rows : List (Row L)) → put_before at (new ∷ more) rows ≡ [] → ⊥
+put_some at new more [] e = let never : ⊥ = cc in never
+put_some {L} at new more (row ∷ rows) e = by_test (comes_before row.first at) e
+  where
+    by_test : (b : Bool) → cond b (row ∷ put_before at (new ∷ more) rows) ((new ∷ more) ++ row ∷ rows) ≡ [] → ⊥
+    by_test true e = let never : ⊥ = cc in never
+    by_test false e = let never : ⊥ = cc in never

@@ -17,7 +17,7 @@ use Rattle.enfilade_core.specs.Plain.{plain_row}
 use Rattle.spanfilade.specs.Index.{row_of, rows_for}
 use Rattle.spanfilade.specs.Groups.{IsPast, with_group, FitsAsGroup, LeavesRoom}
 use Rattle.spanfilade.proofs.Rows.{plain_rows}
-use Rattle.spanfilade.proofs.Adding.{InOrder-put, one_fits_in}
+use Rattle.spanfilade.proofs.Adding.{InOrder-put, one_fits_in, put_some}
 use Rattle.spanfilade.proofs.OneGap.{put_moves, none_between, fits_more, IsFront}
 
 -- ---- what a group asks
@@ -29,6 +29,11 @@ group_ordered (first ∷ group) rows f = f.ordered
 pub with_group-ordered : {L : Type 0} (group rows : List (Row L)) → FitsAsGroup group rows → InOrder rows → InOrder (with_group group rows)
 with_group-ordered [] rows f h = h
 with_group-ordered (first ∷ group) rows f h = InOrder-put first.first (first ∷ group) rows f h
+
+-- a tree that a group came into has rows
+pub group_some : {L : Type 0} (group rows : List (Row L)) → (length group == 0) ≡ false → with_group group rows ≡ [] → ⊥
+group_some [] rows some e = false≢true (sym some)
+group_some (first ∷ group) rows some e = put_some first.first first group rows e
 
 pub with_group-moves : {L : Type 0} (group rows : List (Row L)) → IsPermutation (group ++ rows) (with_group group rows)
 with_group-moves [] rows = IsPermutation-refl rows

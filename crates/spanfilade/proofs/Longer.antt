@@ -217,8 +217,17 @@ lengthened_is span key made new rows (x ∷ []) after longer held le h long outs
       of_key = longer.of_key;
       begins = subst (λ (f : List ℕ). IsUpTo f span.start) (sym same) le;
       reaches = longer.reaches;
+      inside = longer.inside;
       is = there ∙ put.is ∙ ap (λ (m : Row (List ℕ)). put.front ++ m ∷ put.back) longer.is;
     }
+
+-- a tree of which a row was made longer has rows
+pub lengthened_some : (span : Span) (key : List ℕ) (rows after : List (Row (List ℕ))) → IsLengthened span key rows after → after ≡ [] → ⊥
+lengthened_some span key rows after it none = by_front it.front (sym it.is ∙ none)
+  where
+    by_front : (front : List (Row (List ℕ))) → front ++ lengthened span it.row ∷ it.back ≡ [] → ⊥
+    by_front [] e = let never : ⊥ = cc in never
+    by_front (row ∷ front) e = let never : ⊥ = cc in never
 
 -- the last row before a place comes before it
 pub last_is_before : {L : Type 0} (to : List ℕ) (rows : List (Row L)) (r : Row L) → last_before to rows ≡ Some r → IsBefore r.first to
@@ -259,8 +268,8 @@ same_key a b e = by_order (slice_cmp nat_cmp a b) refl (sym (ap not (texts_ties 
     by_order Greater is h = absurd (false≢true (sym h ∙ ap (λ (o : Ordering). not (is_eq o)) is))
 
 pub longer_is : (span : Span) (key : List ℕ) (rows : List (Row (List ℕ))) (row : Row (List ℕ)) (end other to first second leaf : List ℕ) → last_before span.start rows ≡ Some row → All (IsWellFormedRow key_widths) rows → end ≡ sum row.first row.leaf → other ≡ end_of span
-    → to ≡ later end other → IsTumbler to → not (pointwise nat_eq row.second key) ≡ false → comes_before end span.start ≡ false → first ≡ row.first → second ≡ row.second → leaf ≡ difference to row.first → IsLonger span key rows (record { first = first; second = second; leaf = leaf })
-longer_is span key rows row end other to first second leaf last all ends others is tumbler of_key reaches firsts seconds leaves =
+    → to ≡ later end other → IsTumbler to → not (pointwise nat_eq row.second key) ≡ false → comes_before end span.start ≡ false → (span.width ≡ [] → comes_before span.start end ≡ true) → first ≡ row.first → second ≡ row.second → leaf ≡ difference to row.first → IsLonger span key rows (record { first = first; second = second; leaf = leaf })
+longer_is span key rows row end other to first second leaf last all ends others is tumbler of_key reaches inside firsts seconds leaves =
     let well_formed = last_well_formed span.start rows row last all in
     let up : IsUpTo row.first to = last_reaches span rows row end other to last all ends others is in
     let there : to ≡ later (row_end row) (end_of span) = is ∙ ap (λ (e : List ℕ). later e other) ends ∙ ap (later (row_end row)) others in
@@ -283,6 +292,7 @@ longer_is span key rows row end other to first second leaf last all ends others 
       last = last;
       of_key = same_key row.second key of_key;
       reaches = subst (IsUpTo span.start) ends (up_to_if_false end span.start reaches);
+      inside = λ none. subst (IsBefore span.start) ends (before_if_true span.start end (inside none));
       is = same;
       well_formed = subst (IsWellFormedRow key_widths) (sym (same ∙ ap (λ (x : List ℕ). record { first = row.first; second = row.second; leaf = difference x row.first }) (sym there))) whole;
     }

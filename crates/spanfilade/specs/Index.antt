@@ -1,6 +1,6 @@
 -- What an index of spans holds: a tree of rows, each a span and the key that it was added for.
 use Rattle.std.specs.Prelude.{◌≡◌, ◌⊎◌, ℕ, Some, List, [], ◌∷◌, ◌++◌, length, take, map}
-use Rattle.tumbler.specs.Places.{IsUpTo, difference, sum}
+use Rattle.tumbler.specs.Places.{IsUpTo, IsBefore, difference, sum}
 use Rattle.tumbler.specs.Span.{end_of}
 use Rattle.tumbler.specs.declared.span.Span.{Span}
 use Rattle.enfilade_core.specs.declared.tree.Row.{Row}
@@ -40,7 +40,8 @@ row_end row = sum row.first row.leaf
 abbrev pub lengthened : Span → Row (List ℕ) → Row (List ℕ)
 lengthened span row = record row { leaf = difference (later (row_end row) (end_of span)) row.first }
 
--- one row was made longer: it is of the key, and the span begins in it or where it ends
+-- One row was made longer: it is of the key, and the span begins in it or where it ends. A span of no width is in it, so
+-- that the row has the span's place.
 pub record IsLengthened (span : Span) (key : List ℕ) (old new : List (Row (List ℕ))) : Type 0 where
   pub front : List (Row (List ℕ))
   pub row : Row (List ℕ)
@@ -49,15 +50,17 @@ pub record IsLengthened (span : Span) (key : List ℕ) (old new : List (Row (Lis
   pub of_key : row.second ≡ key
   pub begins : IsUpTo row.first span.start
   pub reaches : IsUpTo span.start (row_end row)
+  pub inside : span.width ≡ [] → IsBefore span.start (row_end row)
   pub is : new ≡ front ++ lengthened span row ∷ back
 
--- The last row before the span's start is of the key, and the span begins in it or where it ends. This is the row
--- in its place.
+-- The last row before the span's start is of the key, and the span begins in it or, if it has a width, where it ends.
+-- This is the row in its place.
 pub record IsLonger (span : Span) (key : List ℕ) (rows : List (Row (List ℕ))) (made : Row (List ℕ)) : Type 0 where
   pub row : Row (List ℕ)
   pub last : last_before span.start rows ≡ Some row
   pub of_key : row.second ≡ key
   pub reaches : IsUpTo span.start (row_end row)
+  pub inside : span.width ≡ [] → IsBefore span.start (row_end row)
   pub is : made ≡ lengthened span row
   pub well_formed : IsWellFormedRow key_widths made
 

@@ -5,6 +5,7 @@ ghost use Rattle.tumbler.specs.Places.{IsUpTo};
 ghost use Rattle.tumbler.specs.Span.{SpanFits};
 ghost use Rattle.enfilade_core.specs.declared.tree.Row.{Row};
 ghost use Rattle.enfilade_core.specs.Rows.{rows_of};
+ghost use Rattle.enfilade_core.specs.Summary.{depth_of};
 ghost use Rattle.enfilade_core.specs.Exchange.{Grows};
 ghost use Rattle.enfilade_core.specs.Edits.{KeepsRows};
 ghost use Rattle.enfilade_core.specs.Axes.{IsWellFormedRow, InOrder};
@@ -13,6 +14,7 @@ ghost use Rattle.spanfilade.specs.Index.{row_of, rows_for};
 ghost use Rattle.spanfilade.specs.Groups.{with_group, FitsAsGroup, LeavesRoom};
 
 use crate::spanfilade::row_of;
+use enfilade_core::laws::nodes_are_well_formed;
 use enfilade_core::{Arena, KeyPlane, Node, Row};
 use tumbler::{List, Memory, Span, Tumbler};
 
@@ -24,7 +26,7 @@ fn goes_on(arena: &Arena<KeyPlane>, root: Node, group: &[Row<Tumbler>], span: &S
     ensures up_to { result ≡ true → All (λ (row : Row (ListOf ℕ)). IsUpTo row.first span.now.start) group.now }
     ensures room { result ≡ true → LeavesRoom span.now.start group.now (rows_of arena.now root.0) }
 {
-    let _well_formed = arena.allocator();
+    nodes_are_well_formed(arena);
     let count = group.len();
     if count == 0 {
         return true;
@@ -52,9 +54,10 @@ fn put_group(
     ensures kept { KeepsRows arena.old arena.new }
     ensures grows { Grows arena.old arena.new }
     ensures below { IfOk result (λ made. made.0 < length arena.new) }
+    ensures level { IfOk result (λ made. depth_of key_widths arena.new made.0 ≡ depth_of key_widths arena.old root.0) }
     ensures rows { IfOk result (λ made. rows_of arena.new made.0 ≡ with_group group.now.items (rows_of arena.old root.0)) }
 {
-    let _well_formed = arena.allocator();
+    nodes_are_well_formed(arena);
     if group.is_empty() {
         return Ok(root);
     }
@@ -81,6 +84,7 @@ fn take_span(
     ensures below { IfOk result (λ made. made.0 < length arena.new) }
     ensures well_formed { OnOk result (All (IsWellFormedRow key_widths) group.new.items) }
     ensures fits { IfOk result (λ made. FitsAsGroup group.new.items (rows_of arena.new made.0)) }
+    ensures level { IfOk result (λ made. depth_of key_widths arena.new made.0 ≡ depth_of key_widths arena.old root.0) }
     ensures rows { IfOk result (λ made. IsPermutation (row_of span.now key.now ∷ (group.old.items ++ rows_of arena.old root.0)) (group.new.items ++ rows_of arena.new made.0)) }
 {
     if goes_on(arena, root, group.as_slice(), span) {
@@ -106,6 +110,7 @@ pub(crate) fn put_all(
     ensures kept { KeepsRows arena.old arena.new }
     ensures grows { Grows arena.old arena.new }
     ensures below { IfOk result (λ made. made.0 < length arena.new) }
+    ensures level { IfOk result (λ made. depth_of key_widths arena.new made.0 ≡ depth_of key_widths arena.old root.0) }
     ensures rows { IfOk result (λ made. IsPermutation (rows_for spans.now key.now ++ rows_of arena.old root.0) (rows_of arena.new made.0)) }
     ensures ordered { IfOk result (λ made. InOrder (rows_of arena.new made.0)) }
 {
@@ -115,6 +120,6 @@ pub(crate) fn put_all(
         root = take_span(arena, root, &mut group, span, key)?;
     }
     let made = put_group(arena, root, &group)?;
-    let _well_formed = arena.allocator();
+    nodes_are_well_formed(arena);
     Ok(made)
 }

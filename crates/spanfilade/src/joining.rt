@@ -8,6 +8,7 @@ ghost use Rattle.enfilade_core.specs.Axes.{later};
 ghost use Rattle.spanfilade.specs.Apart.{AreApart, IsByStart, IsJoined};
 ghost use Rattle.spanfilade.specs.Keys.{is_met, is_met_by};
 
+use enfilade_core::laws::is_tumbler;
 use std::alloc::Global;
 use tumbler::{List, Memory, Span, Tumbler};
 
@@ -34,7 +35,7 @@ fn as_one(first: &Span, second: &Span) -> Option<Span>
         return None;
     }
     let end = later(&end, &second.start.add(&second.width));
-    let _end = end.places();
+    is_tumbler(&end);
     Some(Span {
         start: first.start.copy(),
         width: end.minus(&first.start),
@@ -77,6 +78,7 @@ pub(crate) fn by_start(alloc: Global, spans: &[Span]) -> Result<Vec<Span>, Memor
     ensures sorted { IfOk result (λ made. IsByStart made.items) }
 {
     let mut made = Vec::new(alloc);
+    made.reserve(spans.len())?;
     for span in spans {
         made.push(span.copy())?;
     }

@@ -3,11 +3,15 @@ ghost use Rattle.std.specs.Prelude.{◌≡◌, ◌<◌, ◌≤◌, ◌+◌, [], 
 ghost use Rattle.std.specs.List.Sorted.{IsPermutation};
 ghost use Rattle.tumbler.specs.Span.{SpanFits};
 ghost use Rattle.enfilade_core.specs.Rows.{rows_of, node_at};
+ghost use Rattle.enfilade_core.specs.Summary.{depth_of};
 ghost use Rattle.enfilade_core.specs.Exchange.{Grows};
 ghost use Rattle.enfilade_core.specs.BalanceState.{tree_debt, tree_allows, has_lone_child};
+ghost use Rattle.enfilade_balance.specs.OneStep.{IsOneStep};
 ghost use Rattle.enfilade_balance.specs.Steps.{root_after, is_idle, is_dropped};
 ghost use Rattle.enfilade_core.specs.Axes.{IsWellFormedRow, InOrder};
 ghost use Rattle.enfilade_core.specs.Planes.{key_widths};
+ghost use Rattle.enfilade_sweep.specs.Sweep.{IsSweptTree};
+ghost use Rattle.enfilade_sweep.specs.Plan.{IsPlanFor};
 ghost use Rattle.spanfilade.specs.Index.{IndexTree, rows_in_index, row_of, rows_for, with_span, IsCovered, mark_of, at_mark};
 ghost use Rattle.spanfilade.specs.Keys.{keys_met, count_met};
 
@@ -16,8 +20,10 @@ use crate::joining::{by_start, joined};
 use crate::keys::{listed, take_keys};
 use crate::lengthening::{longer_row, put_longer};
 use enfilade_balance::{Balance, balance_step};
+use enfilade_core::laws::is_tumbler;
 use enfilade_core::{Arena, KeyPlane, Node, Row, TreeMark};
 use enfilade_search::{overlapping, overlapping_up_to};
+use enfilade_sweep::{SweepPlan, finish_tree, plan_tree};
 use std::alloc::Global;
 use std::collections::BTreeSet;
 use std::marker::Model;
@@ -69,6 +75,7 @@ impl Spanfilade {
     pub fn add(&mut self, span: &Span, key: &Tumbler) -> Result<(), Memory>
         requires { SpanFits span.now }
         ensures added { OnOk result (rows_in_index self.new ≡ with_span span.now key.now (rows_in_index self.old)) }
+        ensures level { OnOk result (depth_of key_widths self.new.nodes self.new.root.0 ≡ depth_of key_widths self.old.nodes self.old.root.0) }
         ensures refused { OnErr result (rows_in_index self.new ≡ rows_in_index self.old) }
         ensures stays { OnErr result (self.new.root ≡ self.old.root) }
         ensures grows { Grows self.old.nodes self.new.nodes }
@@ -86,6 +93,7 @@ impl Spanfilade {
         requires { All SpanFits spans.now.items }
         ensures added { OnOk result (IsPermutation (rows_for spans.now.items key.now ++ rows_in_index self.old) (rows_in_index self.new)) }
         ensures ordered { OnOk result (InOrder (rows_in_index self.new)) }
+        ensures level { OnOk result (depth_of key_widths self.new.nodes self.new.root.0 ≡ depth_of key_widths self.old.nodes self.old.root.0) }
         ensures refused { OnErr result (rows_in_index self.new ≡ rows_in_index self.old) }
         ensures stays { OnErr result (self.new.root ≡ self.old.root) }
         ensures grows { Grows self.old.nodes self.new.nodes }
@@ -95,14 +103,16 @@ impl Spanfilade {
         Ok(())
     }
 
-    /// Adds a span for a key, or makes a row of that key longer in which the span begins or where the row ends.
+    /// Adds a span for a key, or makes a row of that key longer in which the span begins, or where the row ends and the
+    /// span has a width.
     ///
     /// It is for text that is typed: each piece goes on where the one before it ended, and one row covers them
-    /// all. The places that the spans of the key cover are the same as after `add`; a span without any, where a row
-    /// of the key ends, adds nothing. Where it is refused the spans are as before, though the arena may hold more nodes.
+    /// all. The places that the spans of the key cover are the same as after `add`, also where the span has no width: then
+    /// a row has its place already, or it comes in. Where it is refused the spans are as before, though the arena may hold more nodes.
     pub fn cover(&mut self, span: &Span, key: &Tumbler) -> Result<(), Memory>
         requires { SpanFits span.now }
         ensures covered { OnOk result (IsCovered span.now key.now (rows_in_index self.old) (rows_in_index self.new)) }
+        ensures level { OnOk result (depth_of key_widths self.new.nodes self.new.root.0 ≡ depth_of key_widths self.old.nodes self.old.root.0) }
         ensures refused { OnErr result (rows_in_index self.new ≡ rows_in_index self.old) }
         ensures stays { OnErr result (self.new.root ≡ self.old.root) }
         ensures grows { Grows self.old.nodes self.new.nodes }
@@ -172,6 +182,7 @@ impl Spanfilade {
         ensures grows { Grows self.old.nodes self.new.nodes }
         ensures root { IfOk result (λ made. self.new.root ≡ root_after self.old.root made) }
         ensures lowers { IfOk result (λ made. is_idle made ≡ false → tree_debt self.new.nodes self.new.root.0 + 1 ≤ tree_debt self.old.nodes self.old.root.0) }
+        ensures one { IfOk result (λ made. IsOneStep key_widths self.new.nodes (node_at self.old.nodes self.old.root.0) made) }
         ensures idle { IfOk result (λ made. is_idle made ≡ not (tree_allows self.old.nodes self.old.root.0)) }
         ensures dropped { IfOk result (λ made. is_dropped made ≡ has_lone_child (node_at self.old.nodes self.old.root.0)) }
         ensures succeeds { tree_allows self.old.nodes self.old.root.0 ≡ false → IsOk result }
@@ -209,6 +220,23 @@ impl Spanfilade {
         self.root = mark.root;
     }
 
+    /// Finds which nodes a sweep keeps. It takes all the memory that the sweep needs, and the index stays as it is.
+    pub fn plan_sweep(&self) -> Result<SweepPlan, Memory>
+        ensures made { IfOk result (IsPlanFor self.now.nodes) }
+        ensures root { IfOk result (λ plan. plan.roots ≡ self.now.root.0 ∷ []) }
+    {
+        plan_tree(&self.arena, self.root)
+    }
+
+    /// Makes the sweep that was planned: nodes that the index does not reach are let go. It takes no memory.
+    pub fn finish_sweep(&mut self, plan: SweepPlan)
+        requires made { IsPlanFor self.old.nodes plan }
+        requires root { plan.roots ≡ self.old.root.0 ∷ [] }
+        ensures { IsSweptTree key_widths self.old.nodes self.old.root.0 self.new.nodes self.new.root.0 }
+    {
+        self.root = finish_tree(&mut self.arena, plan);
+    }
+
     /// The arena and the root of the tree in it. It takes no memory.
     pub fn parts(&self) -> (&Arena<KeyPlane>, Node)
         ensures arena { result.0.now ≡ self.now.nodes }
@@ -225,9 +253,9 @@ pub(crate) fn row_of(span: &Span, key: &Tumbler) -> Row<Tumbler>
     ensures value { result ≡ row_of span.now key.now }
     ensures well_formed { IsWellFormedRow key_widths (row_of span.now key.now) }
 {
-    let _start = span.start.places();
-    let _width = span.width.places();
-    let _key = key.places();
+    is_tumbler(&span.start);
+    is_tumbler(&span.width);
+    is_tumbler(key);
     Row {
         first: span.start.copy(),
         second: key.copy(),

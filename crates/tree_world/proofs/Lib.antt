@@ -22,6 +22,7 @@ pub mod Holds
 pub mod SameRows
 pub mod Balanced
 pub mod Marked
+pub mod Rerooted
 pub mod Swept
 pub mod Conditions
 pub mod Made

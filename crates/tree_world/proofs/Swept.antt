@@ -1,4 +1,4 @@
--- What trees hold after each was copied into an arena of its own.
+-- What trees hold after a sweep.
 use Rattle.std.proofs.Common.{◌≡◌, ◌∙◌, ℕ, zero, suc, ◌+◌, ◌<◌, ◌||◌, Bool, true, false, cond, List, [], ◌∷◌, ◌++◌, length, take, map, get_or, slice_get, max, fold, Option, Some, None, refl, sym, ap, subst, true≢false, arith}
 use Rattle.std.specs.Prelude.{All}
 use Rattle.std.specs.List.{find, list_any, Contains}
@@ -12,7 +12,8 @@ use Rattle.enfilade_core.specs.Rows.{Shape, rows_of}
 use Rattle.enfilade_core.specs.Planes.{text_widths, key_widths}
 use Rattle.enfilade_core.specs.BalanceState.{tree_debt, tree_allows}
 use Rattle.enfilade_core.specs.Summary.{depth_of}
-use Rattle.enfilade_sweep.specs.Sweep.{is_root, IsSwept, numbers, reached_count, unreached_count}
+use Rattle.enfilade_sweep.proofs.OneTree.{roots_below}
+use Rattle.enfilade_sweep.specs.Sweep.{IsSwept, numbers, reached_count, unreached_count}
 use Rattle.granfilade.specs.Content.{ContentTree}
 use Rattle.spanfilade.specs.Index.{IndexTree, rows_in_index}
 use Rattle.links.specs.LinkLists.{LinkLists}
@@ -79,19 +80,9 @@ roots_there nodes arena rows roots same are stand =
     (All-map (λ (root : Node). root.0 < length arena) (λ (row : DocumentRow Node). row.root) rows
     (All-weaker (λ (row : DocumentRow Node). IsRoot nodes row.root.0) (λ (row : DocumentRow Node). row.root.0 < length arena) (λ row h. subst (λ xs. row.root.0 < length xs) (sym same) h.there) rows stand))
 
-numbers_taken : (rows : List (DocumentRow Node)) → numbers (roots_taken rows) ≡ roots_in rows
+pub numbers_taken : (rows : List (DocumentRow Node)) → numbers (roots_taken rows) ≡ roots_in rows
 numbers_taken [] = refl
 numbers_taken (row ∷ rows) = ap (λ ks. row.root.0 ∷ ks) (numbers_taken rows)
-
--- each is one of the new nodes
-pub roots_below : {L : Type 0} (old new : List (Shape L)) (roots made : List ℕ) → IsSwept old roots new made → All (λ k. k < length new) made
-roots_below old new roots made swept =
-    subst (All (λ k. k < length new)) (sym swept.at)
-    (All-map (λ k. k < length new) swept.place roots (All-weaker (Contains roots) (λ k. swept.place k < length new) (λ k has. swept.there k (is_root has)) roots (All-contains_itself roots)))
-
-pub first_below : (n : ℕ) (roots : List Node) (root : Node) → Some root ≡ slice_get roots 0 → All (λ k. k < n) (numbers roots) → root.0 < n
-first_below n [] root e all = absurd (some_none root e)
-first_below n (r ∷ roots) root e all = subst (λ (k : Node). k.0 < n) (sym (ap (value_of r) e)) (All-head (λ k. k < n) r.0 (numbers roots) all)
 
 -- ---- lists of the same rows
 
@@ -125,21 +116,21 @@ same_roots old new (row ∷ rows) (m ∷ made) same stand below =
     (record { there = All-head (λ k. k < length new) m.0 (numbers made) below; document = subst IsOneDocument (sym (ap head_rows same)) (All-head (λ (r : DocumentRow Node). IsRoot old r.root.0) row rows stand).document })
     (same_roots old new rows made (ap tail_rows same) (All-tail (λ (r : DocumentRow Node). IsRoot old r.root.0) row rows stand) (All-tail (λ k. k < length new) m.0 (numbers made) below))
 
--- the same, as `swept_pooms` has it
-pub copied_documents : (old arena new poom : List (Shape ℕ)) (rows : List (DocumentRow Node)) (roots made : List Node) → arena ≡ old → poom ≡ new → roots ≡ roots_taken rows → map (rows_of new) (numbers made) ≡ map (rows_of arena) (numbers roots)
-    → map (tree_debt new) (numbers made) ≡ map (tree_debt arena) (numbers roots) → map (tree_allows new) (numbers made) ≡ map (tree_allows arena) (numbers roots)
-    → map (depth_of text_widths new) (numbers made) ≡ map (depth_of text_widths arena) (numbers roots) → IsSwept arena (numbers roots) new (numbers made) → length new ≡ reached_count arena (numbers roots) → unreached_count new (numbers made) ≡ 0 → RootsStand old rows → AreSweptDocuments old rows poom made
-copied_documents old arena new poom rows roots made lent installed are same owes allows deep swept count none_left stand =
-    let each : SameEach old poom rows made = ap (λ ns. map (rows_of ns) (numbers made)) installed ∙ same ∙ (λ i. map (rows_of (lent i)) ((ap numbers are ∙ numbers_taken rows) i)) in
+-- the same, as the sweep of the documents' trees has it
+pub swept_documents : (old new : List (Shape ℕ)) (rows : List (DocumentRow Node)) (roots : List ℕ) (made : List Node) → roots ≡ roots_in rows → map (rows_of new) (numbers made) ≡ map (rows_of old) roots
+    → map (tree_debt new) (numbers made) ≡ map (tree_debt old) roots → map (tree_allows new) (numbers made) ≡ map (tree_allows old) roots
+    → map (depth_of text_widths new) (numbers made) ≡ map (depth_of text_widths old) roots → IsSwept old roots new (numbers made) → length new ≡ reached_count old roots → unreached_count new (numbers made) ≡ 0 → RootsStand old rows → AreSweptDocuments old rows new made
+swept_documents old new rows roots made are same owes allows deep swept count none_left stand =
+    let each : SameEach old new rows made = same ∙ ap (map (rows_of old)) are in
     record {
-      long = same_long old poom rows made each;
-      each = same_roots old poom rows made each stand (subst (λ ns. All (λ k. k < length ns) (numbers made)) (sym installed) (roots_below arena new (numbers roots) (numbers made) swept));
+      long = same_long old new rows made each;
+      each = same_roots old new rows made each stand (roots_below old new roots (numbers made) swept);
       rows = each;
-      owed = ap (λ ns. map (tree_debt ns) (numbers made)) installed ∙ owes ∙ (λ i. map (tree_debt (lent i)) ((ap numbers are ∙ numbers_taken rows) i));
-      deep = ap (λ ns. map (depth_of text_widths ns) (numbers made)) installed ∙ deep ∙ (λ i. map (depth_of text_widths (lent i)) ((ap numbers are ∙ numbers_taken rows) i));
-      allowed = ap (λ ns. map (tree_allows ns) (numbers made)) installed ∙ allows ∙ (λ i. map (tree_allows (lent i)) ((ap numbers are ∙ numbers_taken rows) i));
-      count = ap length installed ∙ count ∙ (λ i. reached_count (lent i) ((ap numbers are ∙ numbers_taken rows) i));
-      none_left = ap (λ ns. unreached_count ns (numbers made)) installed ∙ none_left;
+      owed = owes ∙ ap (map (tree_debt old)) are;
+      deep = deep ∙ ap (map (depth_of text_widths old)) are;
+      allowed = allows ∙ ap (map (tree_allows old)) are;
+      count = count ∙ ap (reached_count old) are;
+      none_left = none_left;
     }
 
 -- ---- the table with the new roots
@@ -204,6 +195,10 @@ shape_from before old after is shape = subst (λ (t : Trees). StaysInShape (cond
 
 pub count_from : (before old : Trees) (now : ℕ) → before ≡ old → now ≡ (condition_of before).reached → now ≡ (condition_of old).reached
 count_from before old now is count = subst (λ (t : Trees). now ≡ (condition_of t).reached) is count
+
+-- the links stay, and the indexes are those that there are now
+pub with_links : (old new : LinkLists) → new.links ≡ old.links → new ≡ record { links = old.links; from = new.from; to = new.to; three = new.three }
+with_links old new same = λ i. record { links = same i; from = new.from; to = new.to; three = new.three }
 
 -- as `set_roots` has it
 pub rooted_as : (rows : List (DocumentRow Node)) (made slice : List Node) (now : List (DocumentRow Node)) → now ≡ with_roots slice rows → slice ≡ made → now ≡ with_roots made rows

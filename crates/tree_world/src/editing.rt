@@ -1,12 +1,6 @@
 //! Changes of what stands in a document.
-ghost use Rattle.std.specs.Prelude.{◌≡◌, ℕ, ◌+◌, ◌≤◌, length, map, All, IsTrue, IfOk, OnOk, OnErr};
-ghost use Rattle.tumbler.specs.Span.{SpanFits};
-ghost use Rattle.enfilade_core.specs.Rows.{rows_of};
-ghost use Rattle.enfilade_core.specs.Edits.{KeepsRows};
-ghost use Rattle.enfilade_core.specs.Exchange.{Grows};
-ghost use Rattle.poom.specs.Laid.{IsRoot, texts, links, exchanged_at, AreCuts, rearranged};
-ghost use Rattle.poom.specs.Edited.{IsContentRun, run_addresses};
-ghost use Rattle.poom.specs.Picked.{left_from};
+ghost use Rattle.std.specs.Prelude.{◌≡◌, ℕ, ◌+◌, ◌≤◌, map, IsTrue, OnOk, OnErr};
+ghost use Rattle.poom.specs.Laid.{AreCuts};
 ghost use Rattle.febe_data.specs.Plain.{plain_spec, span_deleted, blocks_swapped, specs_copied};
 ghost use Rattle.world_rules.specs.FlatView.{FlatView};
 ghost use Rattle.tree_world.specs.Standing.{Stands};
@@ -17,51 +11,11 @@ use crate::counts::one_more;
 use crate::indexing::{index_runs, total_bytes};
 use crate::marking::set_root;
 use crate::world::TreeWorld;
-use enfilade_core::Node;
-use febe_data::{List, Memory, Run, Span, Spec, Tumbler};
-use poom::Poom;
+use febe_data::{List, Memory, Span, Spec, Tumbler};
 use std::alloc::Global;
 
 /// The most text that a document has.
 const MOST_TEXT: u32 = 1_073_741_824;
-
-/// The document without what the span picks. Where it is refused all nodes are as before.
-fn deleted(pooms: &mut Poom, root: Node, span: &Span) -> Result<Node, Memory>
-    requires root { IsRoot pooms.old root.0 }
-    requires fits { SpanFits span.now }
-    ensures kept { KeepsRows pooms.old pooms.new }
-    ensures grows { Grows pooms.old pooms.new }
-    ensures root { IfOk result (λ made. IsRoot pooms.new made.0) }
-    ensures text { IfOk result (λ made. texts (rows_of pooms.new made.0) ≡ left_from 1 span.now 1 (texts (rows_of pooms.old root.0))) }
-    ensures links { IfOk result (λ made. links (rows_of pooms.new made.0) ≡ left_from 2 span.now 1 (links (rows_of pooms.old root.0))) }
-    ensures refused { OnErr result (pooms.new ≡ pooms.old) }
-{
-    let mark = pooms.mark();
-    let Ok(made) = pooms.delete(root, span) else {
-        pooms.back(mark);
-        return Err(Memory);
-    };
-    Ok(made)
-}
-
-/// The document whose blocks between the cuts change places. Where it is refused all nodes are as before.
-fn swapped(pooms: &mut Poom, root: Node, cuts: &List<u32>) -> Result<Node, Memory>
-    requires root { IsRoot pooms.old root.0 }
-    requires cuts { AreCuts cuts.now.items (1 + length (texts (rows_of pooms.old root.0))) }
-    ensures kept { KeepsRows pooms.old pooms.new }
-    ensures grows { Grows pooms.old pooms.new }
-    ensures root { IfOk result (λ made. IsRoot pooms.new made.0) }
-    ensures text { IfOk result (λ made. texts (rows_of pooms.new made.0) ≡ rearranged cuts.now.items (texts (rows_of pooms.old root.0))) }
-    ensures links { IfOk result (λ made. links (rows_of pooms.new made.0) ≡ links (rows_of pooms.old root.0)) }
-    ensures refused { OnErr result (pooms.new ≡ pooms.old) }
-{
-    let mark = pooms.mark();
-    let Ok(made) = pooms.rearrange(root, cuts) else {
-        pooms.back(mark);
-        return Err(Memory);
-    };
-    Ok(made)
-}
 
 /// Whether these are three cuts or four, none before the one in front of it, from 1 up to the end.
 fn are_cuts(cuts: &[u32], end: u32) -> bool
@@ -92,7 +46,7 @@ impl TreeWorld {
             return Err(Memory);
         }
         self.due.reserve(1)?;
-        let made = deleted(&mut self.pooms, root, span)?;
+        let made = self.pooms.delete(root, span)?;
         set_root(
             &mut self.due,
             &self.pooms,
@@ -120,7 +74,7 @@ impl TreeWorld {
             return Err(Memory);
         }
         self.due.reserve(1)?;
-        let made = swapped(&mut self.pooms, root, cuts)?;
+        let made = self.pooms.rearrange(root, cuts)?;
         set_root(
             &mut self.due,
             &self.pooms,
@@ -132,28 +86,6 @@ impl TreeWorld {
         self.counted = counted;
         Ok(())
     }
-}
-
-/// The document with the bytes of runs at a position. Where it is refused all nodes are as before.
-fn copied(pooms: &mut Poom, root: Node, at: u32, runs: &List<Run>) -> Result<Node, Memory>
-    requires root { IsRoot pooms.old root.0 }
-    requires from_one { 1 ≤ at }
-    requires to_end { at ≤ 1 + length (texts (rows_of pooms.old root.0)) }
-    requires runs { All IsContentRun runs.now.items }
-    requires room { length (texts (rows_of pooms.old root.0)) + length (run_addresses runs.now.items) ≤ 1073741824 }
-    ensures kept { KeepsRows pooms.old pooms.new }
-    ensures grows { Grows pooms.old pooms.new }
-    ensures root { IfOk result (λ made. IsRoot pooms.new made.0) }
-    ensures text { IfOk result (λ made. texts (rows_of pooms.new made.0) ≡ exchanged_at at at (run_addresses runs.now.items) (texts (rows_of pooms.old root.0))) }
-    ensures links { IfOk result (λ made. links (rows_of pooms.new made.0) ≡ links (rows_of pooms.old root.0)) }
-    ensures refused { OnErr result (pooms.new ≡ pooms.old) }
-{
-    let mark = pooms.mark();
-    let Ok(made) = pooms.copy_in(root, at, runs) else {
-        pooms.back(mark);
-        return Err(Memory);
-    };
-    Ok(made)
 }
 
 /// Whether so many bytes may come into a text at this position.
@@ -201,7 +133,7 @@ impl TreeWorld {
         }
         self.due.reserve(1)?;
         let mark = self.pooms.mark();
-        let made = copied(&mut self.pooms, root, at, &runs)?;
+        let made = self.pooms.copy_in(root, at, &runs)?;
         let Ok(()) = index_runs(alloc, &mut self.index, runs.as_slice(), document) else {
             self.pooms.back(mark);
             return Err(Memory);

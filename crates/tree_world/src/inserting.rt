@@ -1,16 +1,12 @@
 //! Text comes in.
-ghost use Rattle.std.specs.Prelude.{◌≡◌, ℕ, ◌+◌, ◌^◌, ◌<◌, ◌≤◌, length, IsTrue, IfOk, IfSome, OnOk, OnErr};
+ghost use Rattle.std.specs.Prelude.{◌≡◌, ℕ, ◌+◌, ◌^◌, ◌<◌, ◌≤◌, length, IfSome, OnOk, OnErr};
 ghost use Rattle.tumbler.specs.Address.{IsDocument};
 ghost use Rattle.tumbler.specs.Places.{place_bound};
 ghost use Rattle.tumbler.specs.Span.{SpanFits};
-ghost use Rattle.enfilade_core.specs.Rows.{rows_of};
-ghost use Rattle.enfilade_core.specs.Edits.{KeepsRows};
 ghost use Rattle.enfilade_core.specs.Exchange.{Grows};
 ghost use Rattle.granfilade.specs.Content.{laid, content, tree_rows};
 ghost use Rattle.granfilade.specs.Steps.{last_of};
 ghost use Rattle.granfilade.specs.Puts.{IsNext, IsContent, put_in};
-ghost use Rattle.poom.specs.Laid.{IsRoot, texts, links, exchanged_at};
-ghost use Rattle.poom.specs.Pieces.{addresses_from};
 ghost use Rattle.links.specs.LinkLists.{run_span};
 ghost use Rattle.febe_data.specs.Plain.{text_inserted};
 ghost use Rattle.world_rules.specs.FlatView.{FlatView};
@@ -22,16 +18,12 @@ ghost use Rattle.spanfilade.specs.Index.{rows_in_index};
 ghost use Rattle.spanfilade.specs.Index.{IsCovered as IsIndexed};
 
 use crate::counts::one_more;
+use crate::editing::has_place;
 use crate::marking::set_root;
 use crate::world::TreeWorld;
-use enfilade_core::Node;
 use febe_data::{Memory, Span, Tumbler};
 use granfilade::Granfilade;
-use poom::Poom;
 use spanfilade::Spanfilade;
-
-/// The most text that a document has.
-const MOST_TEXT: u32 = 1_073_741_824;
 
 /// The bytes come in at their address. Where it is refused the contents are as before.
 fn put_text(contents: &mut Granfilade, start: &Tumbler, text: &[u8]) -> Result<(), Memory>
@@ -49,37 +41,6 @@ fn put_text(contents: &mut Granfilade, start: &Tumbler, text: &[u8]) -> Result<(
         return Err(Memory);
     };
     Ok(())
-}
-
-/// The document with so many bytes of its content at a position. Where it is refused all nodes are as before.
-fn shown_at(
-    pooms: &mut Poom,
-    root: Node,
-    at: u32,
-    document: &Tumbler,
-    first: u32,
-    count: u32,
-) -> Result<Node, Memory>
-    requires root { IsRoot pooms.old root.0 }
-    requires from_one { 1 ≤ at }
-    requires to_end { at ≤ 1 + length (texts (rows_of pooms.old root.0)) }
-    requires document { IsDocument document.now }
-    requires first { 1 ≤ first }
-    requires numbers { first + count < 2 ^ 32 }
-    requires room { length (texts (rows_of pooms.old root.0)) + count ≤ 1073741824 }
-    ensures kept { KeepsRows pooms.old pooms.new }
-    ensures grows { Grows pooms.old pooms.new }
-    ensures root { IfOk result (λ made. IsRoot pooms.new made.0) }
-    ensures text { IfOk result (λ made. texts (rows_of pooms.new made.0) ≡ exchanged_at at at (addresses_from 1 document.now first count) (texts (rows_of pooms.old root.0))) }
-    ensures links { IfOk result (λ made. links (rows_of pooms.new made.0) ≡ links (rows_of pooms.old root.0)) }
-    ensures refused { OnErr result (pooms.new ≡ pooms.old) }
-{
-    let mark = pooms.mark();
-    let Ok(made) = pooms.insert(root, at, document, first, count) else {
-        pooms.back(mark);
-        return Err(Memory);
-    };
-    Ok(made)
 }
 
 /// The span is covered for the document. Where it is refused the index is as before.
@@ -127,24 +88,6 @@ fn numbered(content: u32, first: u32, long: usize) -> Option<u32>
     Some(count)
 }
 
-/// Whether so many bytes may come into a text of this length at the position.
-fn has_room(length: u32, at: u32, count: u32) -> bool
-    ensures from_one { IsTrue result → 1 ≤ at }
-    ensures to_end { IsTrue result → at ≤ 1 + length }
-    ensures room { IsTrue result → length + count ≤ 1073741824 }
-{
-    if at == 0 {
-        return false;
-    }
-    if at - 1 > length {
-        return false;
-    }
-    match length.checked_add(count) {
-        Some(total) => total <= MOST_TEXT,
-        None => false,
-    }
-}
-
 impl TreeWorld {
     /// The text's bytes come into the document's content, and are shown at a position.
     pub(crate) fn insert(
@@ -166,7 +109,7 @@ impl TreeWorld {
         let Some(count) = numbered(self.documents.content(document), first, text.len()) else {
             return Err(Memory);
         };
-        if !has_room(self.pooms.length(root), at, count) {
+        if !has_place(self.pooms.length(root), at, count) {
             return Err(Memory);
         }
         let Some(total) = self.content.checked_add(text.len()) else {
@@ -177,7 +120,7 @@ impl TreeWorld {
         let contents = self.contents.mark();
         let nodes = self.pooms.mark();
         put_text(&mut self.contents, &span.start, text)?;
-        let Ok(made) = shown_at(&mut self.pooms, root, at, document, first, count) else {
+        let Ok(made) = self.pooms.insert(root, at, document, first, count) else {
             self.contents.back(&contents);
             return Err(Memory);
         };

@@ -44,26 +44,6 @@ fn has_room(links: &Links) -> bool
     links.nth(4_294_967_293).is_none()
 }
 
-/// The document with one link more. Where it is refused all nodes are as before.
-fn listed(pooms: &mut Poom, root: Node, id: &Tumbler) -> Result<Node, Memory>
-    requires root { IsRoot pooms.old root.0 }
-    requires link { IsLinkId id.now }
-    requires room { length (links_laid (rows_of pooms.old root.0)) < 4294967294 }
-    ensures kept { KeepsRows pooms.old pooms.new }
-    ensures grows { Grows pooms.old pooms.new }
-    ensures root { IfOk result (λ made. IsRoot pooms.new made.0) }
-    ensures text { IfOk result (λ made. texts (rows_of pooms.new made.0) ≡ texts (rows_of pooms.old root.0)) }
-    ensures links { IfOk result (λ made. links_laid (rows_of pooms.new made.0) ≡ links_laid (rows_of pooms.old root.0) ++ id.now ∷ []) }
-    ensures refused { OnErr result (pooms.new ≡ pooms.old) }
-{
-    let mark = pooms.mark();
-    let Ok(made) = pooms.add_link(root, id) else {
-        pooms.back(mark);
-        return Err(Memory);
-    };
-    Ok(made)
-}
-
 /// The links with one more, and the ends of all.
 fn linked(alloc: Global, links: &mut Links, link: LinkRow) -> Result<(), Memory>
     requires absent { has_in links.old.links link.id ≡ false }
@@ -109,7 +89,7 @@ fn come_in(
 {
     let mark = pooms.mark();
     let id = link.id.copy();
-    let made = listed(pooms, root, &id)?;
+    let made = pooms.add_link(root, &id)?;
     let Ok(()) = linked(alloc, links, link) else {
         pooms.back(mark);
         return Err(Memory);

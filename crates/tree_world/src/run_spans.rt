@@ -25,6 +25,7 @@ pub(crate) fn run_spans(alloc: Global, runs: &[Run]) -> Result<List<Span>, Memor
     ensures fit { IfOk result (λ made. All SpanFits made.items) }
 {
     let mut made = List::new(alloc);
+    made.reserve(runs.len())?;
     for run in runs {
         made.push(run_span(run))?;
     }

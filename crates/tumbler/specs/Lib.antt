@@ -5,3 +5,4 @@ pub mod Span
 pub mod Address
 pub mod Laws
 pub mod Padded
+pub mod ListLends

@@ -7,6 +7,8 @@ ghost use Rattle.std.specs.Iterator.Runs.{EveryRun, ItemsMapTo};
 ghost use Rattle.std.specs.Iterator.Adapters.{IterYieldsInOrder};
 ghost use Rattle.std.specs.List.Retain.{IsFiltered};
 ghost use Rattle.std.specs.Fn.{CalledAt};
+ghost use Rattle.std.specs.Borrow.{sem};
+ghost use Rattle.tumbler.specs.ListLends.{lends_slice};
 
 use crate::memory::Memory;
 use std::alloc::Global;
@@ -94,6 +96,14 @@ impl<T> List<T> {
         ensures { result.now ≡ self.now.items }
     {
         self.held.as_slice()
+    }
+
+    /// The items as a slice, to be changed in place. The spare stays.
+    pub fn as_mut_slice(&mut self) -> &mut [T]
+        ensures* writes_back { sem 𝓛 (lends_slice T.row self.entry result) }
+        ensures value { result.now ≡ self.old.items }
+    {
+        self.held.as_mut_slice()
     }
 
     /// The items, one after another.

@@ -54,7 +54,7 @@ KeepsTree old new = (new.root ≡ old.root) × (rows_in_index new ≡ rows_in_in
 
 -- ---- ids that can be found
 
--- these are the ids of links among which all are that are wanted
+-- ids of links, with each that is wanted among them
 pub record Hold (links : List LinkRow) (ends : WantedEnds) (ids : List (List ℕ)) : Type 0 where
   pub can_be : LinkRow → Bool
   pub are : ids ≡ ids_in (filter can_be links)

@@ -22,7 +22,7 @@ pub returns-then-stands_at_zero-clause-root : goal.returns-then-stands_at_zero-c
 returns-then-stands_at_zero-clause-root g c = zero-root g.P.Plane.widths c.args.arena.now c.args.branch.now c.requires (c.stands_at_zero.ensures.first c.if-stands_at_zero.true) (c.stands_at_zero.ensures.second c.if-stands_at_zero.true)
 
 pub returns-then-stands_at_zero-clause-owes : goal.returns-then-stands_at_zero-clause-owes
-returns-then-stands_at_zero-clause-owes g c = node-owes g.P.Plane.widths c.args.arena.now c.args.branch.now.node.0 c.allocator-well_formed.ensures.well_formed c.requires.branch.below
+returns-then-stands_at_zero-clause-owes g c = node-owes g.P.Plane.widths c.args.arena.now c.args.branch.now.node.0 c.nodes_are_well_formed.ensures c.requires.branch.below
 
 pub returns-clause-is : goal.returns-clause-is
 returns-clause-is g c =

@@ -15,4 +15,4 @@ add-there-requires g c =
 pub returns : goal.returns
 returns g c =
     shifted-back g.P.Plane.plain c.args.row.now c.args.first.now c.args.second.now c.args.gap.now.to c.args.gap.now.onto c.add-coordinate.result c.minus-distance.result c.add-there.result c.minus.result c.copy.result c.in_ok-copy_leaf.field-0
-    c.places-second.ensures.tumbler.ends c.requires.past c.add-coordinate.ensures c.minus-distance.ensures c.add-there.ensures c.minus.ensures c.copy.ensures c.in_ok-copy_leaf.ensures
+    c.is_tumbler.ensures.ends c.requires.past c.add-coordinate.ensures c.minus-distance.ensures c.add-there.ensures c.minus.ensures c.copy.ensures c.in_ok-copy_leaf.ensures

@@ -9,4 +9,4 @@ loop-row-preserved g c =
 pub returns : goal.returns
 returns g c =
     let all = least-all (λ row. IsUpTo c.loop-row.least row.second) c.args.rows.now c.loop-row.row-index c.loop-row-test.false c.loop-row.invariant in
-    before_plain g.P.Plane.plain c.args.rows.now c.just_before.result (just_before_all (λ row. row.second) c.args.rows.now c.loop-row.least c.just_before.result c.places-least.ensures.tumbler c.just_before.ensures all)
+    before_plain g.P.Plane.plain c.args.rows.now c.just_before.result (just_before_all (λ row. row.second) c.args.rows.now c.loop-row.least c.just_before.result c.is_tumbler.ensures c.just_before.ensures all)

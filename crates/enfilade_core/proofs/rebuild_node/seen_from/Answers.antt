@@ -12,4 +12,4 @@ minus-seen-requires c = up_to_if_false c.args.at.now c.args.base.now (sym c.is_b
 
 pub returns : goal.returns
 returns c =
-    seen-minus c.args.at.now c.args.base.now c.minus-seen.result (up_to_if_false c.args.at.now c.args.base.now (sym c.is_before.ensures.value ∙ c.if-is_before.false)) c.places-seen.ensures.tumbler.ends c.minus-seen.ensures
+    seen-minus c.args.at.now c.args.base.now c.minus-seen.result (up_to_if_false c.args.at.now c.args.base.now (sym c.is_before.ensures.value ∙ c.if-is_before.false)) c.is_tumbler.ensures.ends c.minus-seen.ensures

@@ -94,16 +94,16 @@ gather_child_up_to-add-second-requires g t c = fits_if_tumbler c.args.second.now
 
 pub gather_child_up_to-can_be_below-requires-clause-first_fits : goal.gather_child_up_to-can_be_below-requires-clause-first_fits
 gather_child_up_to-can_be_below-requires-clause-first_fits g t c =
-    child_extent_fits g.P.Plane.widths g.met.P.Plane.widths_stay c.args.arena.now c.allocator-alloc.ensures.well_formed First c.args.child.now c.args.first.now c.args.second.now c.add-first.result (sum c.args.second.now c.args.child.now.second) c.requires c.add-first.ensures refl
+    child_extent_fits g.P.Plane.widths g.met.P.Plane.widths_stay c.args.arena.now c.nodes_are_well_formed.ensures First c.args.child.now c.args.first.now c.args.second.now c.add-first.result (sum c.args.second.now c.args.child.now.second) c.requires c.add-first.ensures refl
 
 pub gather_child_up_to-can_be_below-requires-clause-second_fits : goal.gather_child_up_to-can_be_below-requires-clause-second_fits
 gather_child_up_to-can_be_below-requires-clause-second_fits g t c =
-    child_extent_fits g.P.Plane.widths g.met.P.Plane.widths_stay c.args.arena.now c.allocator-alloc.ensures.well_formed Second c.args.child.now c.args.first.now c.args.second.now c.add-first.result (sum c.args.second.now c.args.child.now.second) c.requires c.add-first.ensures refl
+    child_extent_fits g.P.Plane.widths g.met.P.Plane.widths_stay c.args.arena.now c.nodes_are_well_formed.ensures Second c.args.child.now c.args.first.now c.args.second.now c.add-first.result (sum c.args.second.now c.args.child.now.second) c.requires c.add-first.ensures refl
 
 pub gather_child_up_to-returns-then-not-can_be_below-clause-gathered : goal.gather_child_up_to-returns-then-not-can_be_below-clause-gathered
 gather_child_up_to-returns-then-not-can_be_below-clause-gathered g t c =
     all_held c.args.limit _ (map (plain_row g.P.Plane.plain) c.args.out.now.items)
-    (child_skipped g.P.Plane.widths g.met.P.Plane.widths_stay c.args.arena.now c.allocator-alloc.ensures.well_formed c.args.sought.now c.args.child.now c.args.first.now c.args.second.now c.add-first.result (sum c.args.second.now c.args.child.now.second) c.can_be_below.result
+    (child_skipped g.P.Plane.widths g.met.P.Plane.widths_stay c.args.arena.now c.nodes_are_well_formed.ensures c.args.sought.now c.args.child.now c.args.first.now c.args.second.now c.add-first.result (sum c.args.second.now c.args.child.now.second) c.can_be_below.result
     (map (plain_row g.P.Plane.plain) c.args.out.now.items) c.requires c.add-first.ensures refl c.can_be_below.ensures c.if-not-can_be_below.true)
 
 pub gather_child_up_to-returns-then-not-can_be_below-clause-goes_on : goal.gather_child_up_to-returns-then-not-can_be_below-clause-goes_on
@@ -115,7 +115,7 @@ gather_child_up_to-returns-clause-goes_on g t c = goes_on c.args.sought.now c.ad
 pub gather_child_up_to-returns-then-is_past-clause-gathered : goal.gather_child_up_to-returns-then-is_past-clause-gathered
 gather_child_up_to-returns-then-is_past-clause-gathered g t c =
     all_held c.args.limit _ (map (plain_row g.P.Plane.plain) c.args.out.now.items)
-    (child_past g.P.Plane.widths c.args.arena.now c.args.sought.now c.args.child.now c.args.first.now c.args.second.now c.add-first.result c.is_past.result (map (plain_row g.P.Plane.plain) c.args.out.now.items) c.allocator-alloc.ensures.well_formed c.requires
+    (child_past g.P.Plane.widths c.args.arena.now c.args.sought.now c.args.child.now c.args.first.now c.args.second.now c.add-first.result c.is_past.result (map (plain_row g.P.Plane.plain) c.args.out.now.items) c.nodes_are_well_formed.ensures c.requires
     c.add-first.ensures c.is_past.ensures c.if-is_past.true)
 
 pub gather_child_up_to-returns-then-is_past-clause-goes_on : goal.gather_child_up_to-returns-then-is_past-clause-goes_on

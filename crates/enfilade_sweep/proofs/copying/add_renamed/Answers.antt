@@ -2,7 +2,7 @@ use Rattle.std.proofs.Common.{◌∷◌, ◌++◌, [], ℕ, map, get_or, ap, ◌
 use Rattle.enfilade_core.specs.Rows.{Shape, Branches}
 use Rattle.enfilade_core.specs.WellFormed.{IsWellFormed}
 use Rattle.enfilade_core.specs.Plain.{shape}
-use Rattle.enfilade_sweep.specs.Sweep.{renamed_branch, renamed}
+use Rattle.enfilade_core.specs.NewNumbers.{renamed_branch, renamed}
 use Rattle.enfilade_sweep.proofs.copying.add_renamed.Goals as goal
 
 pub add_node-requires : goal.add_node-requires

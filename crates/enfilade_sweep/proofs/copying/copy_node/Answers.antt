@@ -3,8 +3,8 @@ use Rattle.std.specs.Prelude.{All}
 use Rattle.enfilade_core.specs.declared.tree.Branch.{Branch}
 use Rattle.enfilade_core.specs.Rows.{Shape, node_at, branches_under}
 use Rattle.enfilade_core.specs.WellFormed.{IsWellFormed}
-use Rattle.enfilade_sweep.specs.Sweep.{renamed}
-use Rattle.enfilade_sweep.proofs.Copies.{places_there, well_formed_there, named_alike, copied_next}
+use Rattle.enfilade_core.specs.NewNumbers.{renamed}
+use Rattle.enfilade_core.proofs.AtRanks.{places_there, well_formed_there, named_alike, copied_next}
 use Rattle.enfilade_sweep.proofs.copying.copy_node.Goals as goal
 
 pub add_renamed-requires-clause-there : goal.add_renamed-requires-clause-there

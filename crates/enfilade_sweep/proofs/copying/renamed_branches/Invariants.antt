@@ -1,5 +1,5 @@
 use Rattle.std.proofs.Common.{◌≡◌, take, map, get_or}
-use Rattle.enfilade_sweep.specs.Sweep.{renamed_branch}
+use Rattle.enfilade_core.specs.NewNumbers.{renamed_branch}
 use Rattle.enfilade_sweep.proofs.copying.renamed_branches.Given as goal
 
 abbrev pub invariant-loop-branch : goal.invariant-loop-branch

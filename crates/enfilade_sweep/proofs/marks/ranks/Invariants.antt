@@ -1,5 +1,5 @@
 use Rattle.std.proofs.Common.{◌≡◌, ℕ, ◌<◌, length, get_or}
-use Rattle.enfilade_sweep.specs.Marks.{rank}
+use Rattle.enfilade_core.specs.NewNumbers.{rank}
 use Rattle.enfilade_sweep.proofs.marks.ranks.Given as goal
 
 abbrev pub invariant-loop-mark : goal.invariant-loop-mark

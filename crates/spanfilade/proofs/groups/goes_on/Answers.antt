@@ -17,7 +17,7 @@ pub returns-in-Some-clause-room : goal.returns-in-Some-clause-room
 returns-in-Some-clause-room c h =
     let some : 0 < length c.args.group.now = search rules in
     let rows = rows_of c.args.arena.now c.args.root.0 in
-    leaves_room c.args.span.now.start c.args.group.now rows c.index-group-0.result c.index-group-0.is some (rows-ordered key_widths c.args.arena.now c.args.root.0 c.allocator-well_formed.ensures.well_formed c.requires.below)
+    leaves_room c.args.span.now.start c.args.group.now rows c.index-group-0.result c.index-group-0.is some (rows-ordered key_widths c.args.arena.now c.args.root.0 c.nodes_are_well_formed.ensures c.requires.below)
     (row_front c.index-group-0.result.first c.args.span.now.start rows (found_row (λ width. width) c.in-Some.row) c.in-Some.ensures.found (sym c.is_before-in-Some.ensures.value ∙ h))
 
 pub returns-in-None-clause-up_to : goal.returns-in-None-clause-up_to
@@ -30,5 +30,5 @@ pub returns-in-None-clause-room : goal.returns-in-None-clause-room
 returns-in-None-clause-room c h =
     let some : 0 < length c.args.group.now = search rules in
     let rows = rows_of c.args.arena.now c.args.root.0 in
-    leaves_room c.args.span.now.start c.args.group.now rows c.index-group-0.result c.index-group-0.is some (rows-ordered key_widths c.args.arena.now c.args.root.0 c.allocator-well_formed.ensures.well_formed c.requires.below)
+    leaves_room c.args.span.now.start c.args.group.now rows c.index-group-0.result c.index-group-0.is some (rows-ordered key_widths c.args.arena.now c.args.root.0 c.nodes_are_well_formed.ensures c.requires.below)
     (no_row_front c.index-group-0.result.first c.args.span.now.start rows c.in-None.ensures.none)

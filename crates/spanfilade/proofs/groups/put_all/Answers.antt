@@ -1,5 +1,5 @@
 use Rattle.enfilade_core.specs.Rows.{rows_of}
-use Rattle.std.proofs.Common.{◌++◌}
+use Rattle.std.proofs.Common.{◌++◌, ◌∙◌}
 use Rattle.enfilade_core.specs.Planes.{key_widths}
 use Rattle.enfilade_core.proofs.Parts.{rows-ordered}
 use Rattle.spanfilade.proofs.Rows.{grows_again, keeps_again}
@@ -15,6 +15,7 @@ loop-span-preserved c = (
   c.in_ok-root.ensures.fits,
   rows_more c.args.spans.now c.args.key.now c.loop-span.span-index c.span-item.result (rows_of c.args.arena.now c.args.root.0) (c.loop-span.group.items ++ rows_of c.loop-span.arena c.loop-span.root.0) (c.take_span.new.group.items ++ rows_of c.take_span.new.arena c.in_ok-root.root.0)
       c.loop-span-test.true c.span-item.is c.loop-span.invariant.5 c.in_ok-root.ensures.rows,
+  c.in_ok-root.ensures.level ∙ c.loop-span.invariant.6,
 )
 
 pub returns-clause-rows : goal.returns-clause-rows
@@ -23,4 +24,7 @@ returns-clause-rows c =
     c.in_ok-made.ensures.rows
 
 pub returns-clause-ordered : goal.returns-clause-ordered
-returns-clause-ordered c = rows-ordered key_widths c.put_group.new.arena c.in_ok-made.made.0 c.allocator-well_formed.ensures.well_formed c.in_ok-made.ensures.below
+returns-clause-ordered c = rows-ordered key_widths c.put_group.new.arena c.in_ok-made.made.0 c.nodes_are_well_formed.ensures c.in_ok-made.ensures.below
+
+pub returns-clause-level : goal.returns-clause-level
+returns-clause-level c = c.in_ok-made.ensures.level ∙ c.loop-span.invariant.6

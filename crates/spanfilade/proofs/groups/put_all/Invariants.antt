@@ -1,6 +1,7 @@
-use Rattle.std.proofs.Common.{◌<◌, ◌++◌, length, take, All}
+use Rattle.std.proofs.Common.{◌≡◌, ◌<◌, ◌++◌, length, take, All}
 use Rattle.std.specs.List.Sorted.{IsPermutation}
 use Rattle.enfilade_core.specs.Rows.{rows_of}
+use Rattle.enfilade_core.specs.Summary.{depth_of}
 use Rattle.enfilade_core.specs.Exchange.{Grows}
 use Rattle.enfilade_core.specs.Edits.{KeepsRows}
 use Rattle.enfilade_core.specs.Axes.{IsWellFormedRow}
@@ -17,3 +18,4 @@ invariant-loop-span l =
     × All (IsWellFormedRow key_widths) l.group.items
     × FitsAsGroup l.group.items (rows_of l.arena l.root.0)
     × IsPermutation (rows_for (take l.span-index l.spans) l.key ++ rows_of l.fn.arena l.fn.root.0) (l.group.items ++ rows_of l.arena l.root.0)
+    × (depth_of key_widths l.arena l.root.0 ≡ depth_of key_widths l.fn.arena l.fn.root.0)

@@ -11,7 +11,7 @@ returns-clause-fits c =
     joined_fits c.args.first.now c.args.second.now (record { start = c.copy.result; width = c.minus.result }) c.later-end.result
     (touch c.args.first.now c.args.second.now c.add-end.result c.add.result c.later-end.result c.is_before.result c.add-end.ensures c.add.ensures c.later-end.ensures
     c.requires.order c.is_before.ensures.value c.if-is_before.false)
-    c.copy.ensures c.minus.ensures c.places-end.ensures.tumbler
+    c.copy.ensures c.minus.ensures c.is_tumbler.ensures
 
 pub returns-clause-met : goal.returns-clause-met
 returns-clause-met c =

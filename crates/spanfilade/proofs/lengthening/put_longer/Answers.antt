@@ -3,7 +3,7 @@ use Rattle.enfilade_core.specs.Rows.{rows_of}
 use Rattle.enfilade_core.specs.Plain.{plain_row}
 use Rattle.enfilade_core.specs.Planes.{key_widths}
 use Rattle.enfilade_core.proofs.Parts.{rows-well_formed, rows-ordered}
-use Rattle.spanfilade.proofs.Longer.{longer_front, exchange_well_formed, one_held, plain_long, lengthened_is}
+use Rattle.spanfilade.proofs.Longer.{longer_front, exchange_well_formed, one_held, plain_long, lengthened_is, lengthened_some}
 use Rattle.spanfilade.proofs.lengthening.put_longer.Goals as goal
 
 pub exchange-requires-clause-up_to : goal.exchange-requires-clause-up_to
@@ -25,3 +25,6 @@ returns-clause-rows c =
     (one_held c.push.new.self.items c.new-rows.result.items c.args.row c.in_ok-push.ensures.ok c.new-rows.ensures.items) (longer_front c.args.span.now c.args.key.now rows c.args.row c.requires.longer)
     (rows-ordered key_widths c.args.arena.now c.args.root.0 c.allocator-alloc.ensures.well_formed c.requires.below) (plain_long c.in_ok-made.made.out.items c.len.result c.len.ensures one)
     (c.in_ok-made.ensures.out ∙ rw (c.copy.ensures, c.copy-2.ensures) refl) (c.in_ok-made.ensures.rows ∙ rw (c.copy.ensures, c.copy-2.ensures, c.copy-3.ensures) refl)
+
+pub returns-clause-level : goal.returns-clause-level
+returns-clause-level c = c.in_ok-made.ensures.level (lengthened_some c.args.span.now c.args.key.now (rows_of c.args.arena.now c.args.root.0) (rows_of c.exchange.new.self c.in_ok-made.made.root.0) (returns-clause-rows c))

@@ -1,16 +1,18 @@
-use Rattle.std.proofs.Common.{◌≡◌, ◌<◌, ◌++◌, ◌∙◌, List, map, IfOk, OnOk, arith, ap, sym, subst}
+use Rattle.std.proofs.Common.{◌≡◌, ◌<◌, ◌++◌, ◌∙◌, List, get_or, map, IfOk, OnOk, refl, arith, ap, sym, subst}
 use Rattle.std.proofs.lemmas.Result.{IfOk-weaker}
-use Rattle.enfilade_core.specs.Rows.{Shape, Branches, moved, rows_of, branch_rows, rows_table, node_at, branches_under}
+use Rattle.enfilade_core.specs.Rows.{Shape, Branches, moved, rows_of, branch_rows, rows_in, rows_table, node_at, branches_under}
 use Rattle.enfilade_core.specs.Touched.{branches_at, with_middle, MayBePacked}
+use Rattle.std.specs.List.{All}
+use Rattle.enfilade_core.specs.WellFormed.{IsWellFormed}
 use Rattle.enfilade_core.specs.Axes.{IsWellFormedRows}
 use Rattle.enfilade_core.specs.Summary.{height_of}
 use Rattle.enfilade_core.specs.Plain.{plain_row}
 use Rattle.enfilade_core.specs.Edits.{taken_out}
-use Rattle.enfilade_core.specs.Exchange.{exchanged, MayHaveRows, IsWhole}
+use Rattle.enfilade_core.specs.Exchange.{exchanged, MayHaveRows, IsWhole, LevelRows, branches_if}
 use Rattle.enfilade_core.proofs.OpenedAt.{at-of_part}
 use Rattle.enfilade_core.proofs.GoneThrough.{item-well_formed}
 use Rattle.enfilade_core.proofs.ExchangeGrown.{grows-same, grows-more, part-grown}
-use Rattle.enfilade_core.proofs.ExchangeBranches.{RestAt, rest-start, rest-part, rest-well_formed, rest-more, rest-all, BranchesAt, chosen-part, chosen-well_formed, chosen-rest, branches-made, branches-taken}
+use Rattle.enfilade_core.proofs.ExchangeBranches.{RestAt, rest-start, rest-part, rest-well_formed, rest-more, rest-all, BranchesAt, chosen-part, chosen-well_formed, chosen-rest, branches-made, branches-taken, lone-chosen, lone-made, lone-taken}
 use Rattle.enfilade_core.proofs.RestBehind.{moved-well_formed}
 use Rattle.enfilade_core.proofs.ExchangeNodes.{mapped-none}
 use Rattle.enfilade_core.proofs.ExchangeMiddle.{node-ready, node-rows, node-taken, may-packed}
@@ -177,41 +179,106 @@ pub node_exchanged-touched-requires-clause-rows : goal.node_exchanged-touched-re
 node_exchanged-touched-requires-clause-rows g t c =
     moved-well_formed g.P.Plane.widths c.args.gap.now (map (plain_row g.P.Plane.plain) c.args.rows.now) (map (moved c.args.first.now c.args.second.now) (rows_of c.args.self.now c.args.node.0)) c.requires.well_formed
 
-pub node_exchanged-branches_exchanged-requires : goal.node_exchanged-branches_exchanged-requires
-node_exchanged-branches_exchanged-requires g t c κs within =
-    let ready = node-ready g.P.Plane.widths c.args.self.now c.args.gap.now (map (plain_row g.P.Plane.plain) c.args.rows.now) c.args.node.0 c.args.first.now c.args.second.now c.in_ok-touched.touched c.as_slice.result.now record {
-      nodes_well_formed = c.allocator-well_formed.ensures.well_formed;
+pub lone_exchanged-branch_exchanged-requires : goal.lone_exchanged-branch_exchanged-requires
+lone_exchanged-branch_exchanged-requires g t c κs within =
+    let w = g.P.Plane.widths in
+    let rows = map (plain_row g.P.Plane.plain) c.args.rows.now in
+    let branches = c.args.branches.items in
+    let at : BranchesAt w c.args.gap.now rows c.args.self.now branches 0 c.copy-branch.result = (record { up_to = c.requires.up_to; node = c.requires.node; well_formed = c.requires.well_formed; chosen = lone-chosen c.args.self.now c.args.branches.items c.args.gap.now.from c.requires.lone; is = c.copy-branch.ensures ∙ c.index-as_slice-0.is ∙ ap (λ (bs : List _). get_or bs 0 c.index-as_slice-0.result) c.as_slice.ensures ∙ ap (get_or c.args.branches.items 0) (sym c.copy-branch.ensures) }) in
+    let lower = item-well_formed (λ branch. branch.node.0 < c.args.below.0) branches 0 c.copy-branch.result at.chosen.there at.is c.requires.named in
+    (omega (arith, lower, c.decreases), (within.0, (within.1, (c.requires.up_to, (chosen-part w c.args.gap.now rows c.args.self.now branches 0 c.copy-branch.result at, chosen-well_formed w c.args.gap.now rows c.args.self.now branches 0 c.copy-branch.result at)))))
+
+pub lone_exchanged-returns-in_err-left-clause-grows : goal.lone_exchanged-returns-in_err-left-clause-grows
+lone_exchanged-returns-in_err-left-clause-grows g t c =
+    c.branch_exchanged.ensures.grows
+
+pub lone_exchanged-returns-in_err-append_branch-clause-grows : goal.lone_exchanged-returns-in_err-append_branch-clause-grows
+lone_exchanged-returns-in_err-append_branch-clause-grows g t c =
+    c.branch_exchanged.ensures.grows
+
+pub lone_exchanged-returns-clause-grows : goal.lone_exchanged-returns-clause-grows
+lone_exchanged-returns-clause-grows g t c =
+    c.branch_exchanged.ensures.grows
+
+pub lone_exchanged-returns-clause-rows : goal.lone_exchanged-returns-clause-rows
+lone_exchanged-returns-clause-rows g t c =
+    lone-made g.P.Plane.widths c.args.gap.now (map (plain_row g.P.Plane.plain) c.args.rows.now) c.args.self.now c.branch_exchanged.new.self c.args.branches.items c.copy-branch.result c.append_branch.new.into.items c.in_ok-left.left
+    (record { up_to = c.requires.up_to; node = c.requires.node; well_formed = c.requires.well_formed; chosen = lone-chosen c.args.self.now c.args.branches.items c.args.gap.now.from c.requires.lone; is = c.copy-branch.ensures ∙ c.index-as_slice-0.is ∙ ap (λ (bs : List _). get_or bs 0 c.index-as_slice-0.result) c.as_slice.ensures ∙ ap (get_or c.args.branches.items 0) (sym c.copy-branch.ensures) }) c.requires.lone c.branch_exchanged.ensures.grows c.in_ok-left.ensures.rows (c.in_ok-append_branch.ensures ∙ ap (λ (bs : List _). bs ++ branches_if c.in_ok-left.left) c.truncate.ensures.items)
+
+pub lone_exchanged-returns-clause-out : goal.lone_exchanged-returns-clause-out
+lone_exchanged-returns-clause-out g t c =
+    lone-taken g.P.Plane.widths c.args.gap.now (map (plain_row g.P.Plane.plain) c.args.rows.now) c.args.self.now c.branch_exchanged.new.self c.args.branches.items c.copy-branch.result (map (plain_row g.P.Plane.plain) c.args.out.now.items) (map (plain_row g.P.Plane.plain) c.branch_exchanged.new.out.items)
+    (record { up_to = c.requires.up_to; node = c.requires.node; well_formed = c.requires.well_formed; chosen = lone-chosen c.args.self.now c.args.branches.items c.args.gap.now.from c.requires.lone; is = c.copy-branch.ensures ∙ c.index-as_slice-0.is ∙ ap (λ (bs : List _). get_or bs 0 c.index-as_slice-0.result) c.as_slice.ensures ∙ ap (get_or c.args.branches.items 0) (sym c.copy-branch.ensures) }) c.requires.lone c.branch_exchanged.ensures.grows c.in_ok-left.ensures.out
+
+pub middle_exchanged-lone_exchanged-requires : goal.middle_exchanged-lone_exchanged-requires
+middle_exchanged-lone_exchanged-requires g t c κs within =
+    (omega (arith, c.decreases), (within.0, (within.1, (c.requires.up_to, (sym c.len.ensures ∙ c.if-len-eq1.true, (c.requires.named, (c.requires.node, c.requires.well_formed)))))))
+
+pub middle_exchanged-branches_exchanged-requires : goal.middle_exchanged-branches_exchanged-requires
+middle_exchanged-branches_exchanged-requires g t c κs within =
+    let same = sym c.as_slice.ensures in (
+      omega (arith, c.decreases),
+      (
+        within.0,
+        (
+          within.1,
+          (
+            c.requires.up_to,
+            (
+              subst (All (λ branch. branch.node.0 < c.args.below.0)) same c.requires.named,
+              (
+                subst (λ (bs : List _). IsWellFormed g.P.Plane.widths c.args.self.now (Branches bs)) same c.requires.node,
+                subst (λ (bs : List _). IsWellFormedRows g.P.Plane.widths (exchanged c.args.gap.now (map (plain_row g.P.Plane.plain) c.args.rows.now) (rows_in (rows_table c.args.self.now) (Branches bs)))) same c.requires.well_formed,
+              ),
+            ),
+          ),
+        ),
+      ),
+    )
+
+pub middle_exchanged-returns-clause-rows : goal.middle_exchanged-returns-clause-rows
+middle_exchanged-returns-clause-rows g t c =
+    subst (λ (bs : List _). IfOk c.branches_exchanged.result (λ made. LevelRows g.P.Plane.widths c.args.self.now c.branches_exchanged.new.self bs (exchanged c.args.gap.now (map (plain_row g.P.Plane.plain) c.args.rows.now) (rows_in (rows_table c.args.self.now) (Branches bs))) made.items)) c.as_slice.ensures c.branches_exchanged.ensures.rows
+
+pub middle_exchanged-returns-clause-out : goal.middle_exchanged-returns-clause-out
+middle_exchanged-returns-clause-out g t c =
+    subst (λ (bs : List _). OnOk c.branches_exchanged.result (map (plain_row g.P.Plane.plain) c.branches_exchanged.new.out.items ≡ map (plain_row g.P.Plane.plain) c.args.out.now.items ++ taken_out c.args.gap.now.from c.args.gap.now.to (rows_in (rows_table c.args.self.now) (Branches bs)))) c.as_slice.ensures c.branches_exchanged.ensures.out
+
+pub node_exchanged-middle_exchanged-requires : goal.node_exchanged-middle_exchanged-requires
+node_exchanged-middle_exchanged-requires g t c κs within =
+    let ready = node-ready g.P.Plane.widths c.args.self.now c.args.gap.now (map (plain_row g.P.Plane.plain) c.args.rows.now) c.args.node.0 c.args.first.now c.args.second.now c.in_ok-touched.touched c.in_ok-touched.touched.branches.items record {
+      nodes_well_formed = c.nodes_are_well_formed.ensures;
       up_to = c.requires.up_to;
       at = c.requires.at;
       inner = c.requires.inner;
       well_formed = c.requires.well_formed;
       is = c.in_ok-touched.ensures;
-      middle_is = c.as_slice.ensures;
+      middle_is = refl;
     } in
     (omega (arith, c.decreases), (within.0, (within.1, (c.requires.up_to, (ready.named, (ready.node, ready.well_formed))))))
 
 pub node_exchanged-returns-clause-rows : goal.node_exchanged-returns-clause-rows
 node_exchanged-returns-clause-rows g t c =
-    node-rows g.P.Plane.widths c.args.self.now c.branches_exchanged.new.self c.args.gap.now (map (plain_row g.P.Plane.plain) c.args.rows.now) c.args.node.0 c.args.first.now c.args.second.now c.in_ok-touched.touched c.as_slice.result.now c.in_ok-branches.branches record {
-      nodes_well_formed = c.allocator-well_formed.ensures.well_formed;
+    node-rows g.P.Plane.widths c.args.self.now c.middle_exchanged.new.self c.args.gap.now (map (plain_row g.P.Plane.plain) c.args.rows.now) c.args.node.0 c.args.first.now c.args.second.now c.in_ok-touched.touched c.in_ok-touched.touched.branches.items c.in_ok-branches.branches record {
+      nodes_well_formed = c.nodes_are_well_formed.ensures;
       up_to = c.requires.up_to;
       at = c.requires.at;
       inner = c.requires.inner;
       well_formed = c.requires.well_formed;
       is = c.in_ok-touched.ensures;
-      middle_is = c.as_slice.ensures;
+      middle_is = refl;
     } c.in_ok-branches.ensures.grows c.in_ok-branches.ensures.rows
 
 pub node_exchanged-returns-clause-out : goal.node_exchanged-returns-clause-out
 node_exchanged-returns-clause-out g t c =
-    node-taken g.P.Plane.widths c.args.self.now c.args.gap.now (map (plain_row g.P.Plane.plain) c.args.rows.now) c.args.node.0 c.args.first.now c.args.second.now c.in_ok-touched.touched c.as_slice.result.now (map (plain_row g.P.Plane.plain) c.args.out.now.items) (map (plain_row g.P.Plane.plain) c.branches_exchanged.new.out.items) record {
-      nodes_well_formed = c.allocator-well_formed.ensures.well_formed;
+    node-taken g.P.Plane.widths c.args.self.now c.args.gap.now (map (plain_row g.P.Plane.plain) c.args.rows.now) c.args.node.0 c.args.first.now c.args.second.now c.in_ok-touched.touched c.in_ok-touched.touched.branches.items (map (plain_row g.P.Plane.plain) c.args.out.now.items) (map (plain_row g.P.Plane.plain) c.middle_exchanged.new.out.items) record {
+      nodes_well_formed = c.nodes_are_well_formed.ensures;
       up_to = c.requires.up_to;
       at = c.requires.at;
       inner = c.requires.inner;
       well_formed = c.requires.well_formed;
       is = c.in_ok-touched.ensures;
-      middle_is = c.as_slice.ensures;
+      middle_is = refl;
     } c.in_ok-branches.ensures.out
 
 pub parts_exchanged-repacked-requires-clause-part : goal.parts_exchanged-repacked-requires-clause-part

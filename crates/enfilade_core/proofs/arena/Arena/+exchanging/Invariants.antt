@@ -4,13 +4,19 @@ use Rattle.enfilade_core.proofs.ExchangeBranches.{RestSoFar}
 use Rattle.enfilade_core.proofs.arena.Arena.+exchanging.Given as goal
 
 abbrev pub decreases-branch_exchanged : goal.decreases-branch_exchanged
-decreases-branch_exchanged g l = 8 * l.branch.now.node.0 + 4
+decreases-branch_exchanged g l = 8 * l.branch.now.node.0 + 5
 
 abbrev pub decreases-parts_exchanged : goal.decreases-parts_exchanged
-decreases-parts_exchanged g l = 8 * l.branch.now.node.0 + 3
+decreases-parts_exchanged g l = 8 * l.branch.now.node.0 + 4
 
 abbrev pub decreases-node_exchanged : goal.decreases-node_exchanged
-decreases-node_exchanged g l = 8 * l.node.0 + 2
+decreases-node_exchanged g l = 8 * l.node.0 + 3
+
+abbrev pub decreases-middle_exchanged : goal.decreases-middle_exchanged
+decreases-middle_exchanged g l = 8 * l.below.0 + 2
+
+abbrev pub decreases-lone_exchanged : goal.decreases-lone_exchanged
+decreases-lone_exchanged g l = 8 * l.below.0 + 1
 
 abbrev pub decreases-branches_exchanged : goal.decreases-branches_exchanged
 decreases-branches_exchanged g l = 8 * l.below.0 + 1

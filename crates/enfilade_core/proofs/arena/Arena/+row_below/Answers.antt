@@ -17,7 +17,7 @@ last_row-requires-clause-well_formed g t c =
     let b = c.args.second.now in
     let nodes = c.args.self.now in
     let rows = map f c.as_slice.result.now in
-    let seen = bottom-seen g.P.Plane.widths nodes c.args.node.0 a b rows c.allocator.ensures.well_formed c.requires
+    let seen = bottom-seen g.P.Plane.widths nodes c.args.node.0 a b rows c.nodes_are_well_formed.ensures c.requires
     (bottom-is g.P.Plane.plain nodes c.args.node.0 c.node.result.now c.in-Bottom.rows c.as_slice.result.now c.node.ensures c.in-Bottom.is c.as_slice.ensures) in
     seen.well_formed
 
@@ -28,7 +28,7 @@ last_row-requires-clause-own g t c =
     let b = c.args.second.now in
     let nodes = c.args.self.now in
     let rows = map f c.as_slice.result.now in
-    let seen = bottom-seen g.P.Plane.widths nodes c.args.node.0 a b rows c.allocator.ensures.well_formed c.requires
+    let seen = bottom-seen g.P.Plane.widths nodes c.args.node.0 a b rows c.nodes_are_well_formed.ensures c.requires
     (bottom-is g.P.Plane.plain nodes c.args.node.0 c.node.result.now c.in-Bottom.rows c.as_slice.result.now c.node.ensures c.in-Bottom.is c.as_slice.ensures) in
     seen.own
 
@@ -38,7 +38,7 @@ last_branch-requires-clause-parts g t c =
     let b = c.args.second.now in
     let nodes = c.args.self.now in
     let branches = c.as_slice-in-Inner.result.now in
-    let seen = inner-seen g.P.Plane.widths nodes c.args.node.0 a b branches c.allocator.ensures.well_formed c.requires
+    let seen = inner-seen g.P.Plane.widths nodes c.args.node.0 a b branches c.nodes_are_well_formed.ensures c.requires
     (inner-is g.P.Plane.plain nodes c.args.node.0 c.node.result.now c.in-Inner.branches branches c.node.ensures c.in-Inner.is c.as_slice-in-Inner.ensures) in
     seen.parts
 
@@ -48,7 +48,7 @@ last_branch-requires-clause-well_formed g t c =
     let b = c.args.second.now in
     let nodes = c.args.self.now in
     let branches = c.as_slice-in-Inner.result.now in
-    let seen = inner-seen g.P.Plane.widths nodes c.args.node.0 a b branches c.allocator.ensures.well_formed c.requires
+    let seen = inner-seen g.P.Plane.widths nodes c.args.node.0 a b branches c.nodes_are_well_formed.ensures c.requires
     (inner-is g.P.Plane.plain nodes c.args.node.0 c.node.result.now c.in-Inner.branches branches c.node.ensures c.in-Inner.is c.as_slice-in-Inner.ensures) in
     seen.well_formed
 
@@ -58,7 +58,7 @@ returns-in_err-branch-in-Inner-clause-none g t c =
     let b = c.args.second.now in
     let nodes = c.args.self.now in
     let branches = c.as_slice-in-Inner.result.now in
-    let seen = inner-seen g.P.Plane.widths nodes c.args.node.0 a b branches c.allocator.ensures.well_formed c.requires
+    let seen = inner-seen g.P.Plane.widths nodes c.args.node.0 a b branches c.nodes_are_well_formed.ensures c.requires
     (inner-is g.P.Plane.plain nodes c.args.node.0 c.node.result.now c.in-Inner.branches branches c.node.ensures c.in-Inner.is c.as_slice-in-Inner.ensures) in
     let at = c.args.at.now in
     let whole = last_before at (map (moved a b) (rows_of nodes c.args.node.0)) in
@@ -71,7 +71,7 @@ row_below-requires g t c κs within =
     let b = c.args.second.now in
     let nodes = c.args.self.now in
     let branches = c.as_slice-in-Inner.result.now in
-    let seen = inner-seen g.P.Plane.widths nodes c.args.node.0 a b branches c.allocator.ensures.well_formed c.requires
+    let seen = inner-seen g.P.Plane.widths nodes c.args.node.0 a b branches c.nodes_are_well_formed.ensures c.requires
     (inner-is g.P.Plane.plain nodes c.args.node.0 c.node.result.now c.in-Inner.branches branches c.node.ensures c.in-Inner.is c.as_slice-in-Inner.ensures) in
     let below = one-below g.P.Plane.widths nodes c.args.node.0 a b branches c.in_ok-branch-in-Inner.branch seen c.in_ok-branch-in-Inner.ensures.one in
     (omega (arith, below.lower, c.decreases), (within.0, (within.1, below.at)))
@@ -83,7 +83,7 @@ returns-in-Bottom-clause-found g t c =
     let b = c.args.second.now in
     let nodes = c.args.self.now in
     let rows = map f c.as_slice.result.now in
-    let seen = bottom-seen g.P.Plane.widths nodes c.args.node.0 a b rows c.allocator.ensures.well_formed c.requires
+    let seen = bottom-seen g.P.Plane.widths nodes c.args.node.0 a b rows c.nodes_are_well_formed.ensures c.requires
     (bottom-is g.P.Plane.plain nodes c.args.node.0 c.node.result.now c.in-Bottom.rows c.as_slice.result.now c.node.ensures c.in-Bottom.is c.as_slice.ensures) in
     let at = c.args.at.now in
     let whole = last_before at (map (moved a b) (rows_of nodes c.args.node.0)) in
@@ -96,7 +96,7 @@ returns-in-Bottom-clause-none g t c =
     let b = c.args.second.now in
     let nodes = c.args.self.now in
     let rows = map f c.as_slice.result.now in
-    let seen = bottom-seen g.P.Plane.widths nodes c.args.node.0 a b rows c.allocator.ensures.well_formed c.requires
+    let seen = bottom-seen g.P.Plane.widths nodes c.args.node.0 a b rows c.nodes_are_well_formed.ensures c.requires
     (bottom-is g.P.Plane.plain nodes c.args.node.0 c.node.result.now c.in-Bottom.rows c.as_slice.result.now c.node.ensures c.in-Bottom.is c.as_slice.ensures) in
     let at = c.args.at.now in
     let whole = last_before at (map (moved a b) (rows_of nodes c.args.node.0)) in
@@ -108,7 +108,7 @@ returns-in_ok-branch-in-Inner-clause-found g t c =
     let b = c.args.second.now in
     let nodes = c.args.self.now in
     let branches = c.as_slice-in-Inner.result.now in
-    let seen = inner-seen g.P.Plane.widths nodes c.args.node.0 a b branches c.allocator.ensures.well_formed c.requires
+    let seen = inner-seen g.P.Plane.widths nodes c.args.node.0 a b branches c.nodes_are_well_formed.ensures c.requires
     (inner-is g.P.Plane.plain nodes c.args.node.0 c.node.result.now c.in-Inner.branches branches c.node.ensures c.in-Inner.is c.as_slice-in-Inner.ensures) in
     let at = c.args.at.now in
     let whole = last_before at (map (moved a b) (rows_of nodes c.args.node.0)) in
@@ -122,7 +122,7 @@ returns-in_ok-branch-in-Inner-clause-none g t c =
     let b = c.args.second.now in
     let nodes = c.args.self.now in
     let branches = c.as_slice-in-Inner.result.now in
-    let seen = inner-seen g.P.Plane.widths nodes c.args.node.0 a b branches c.allocator.ensures.well_formed c.requires
+    let seen = inner-seen g.P.Plane.widths nodes c.args.node.0 a b branches c.nodes_are_well_formed.ensures c.requires
     (inner-is g.P.Plane.plain nodes c.args.node.0 c.node.result.now c.in-Inner.branches branches c.node.ensures c.in-Inner.is c.as_slice-in-Inner.ensures) in
     let at = c.args.at.now in
     let whole = last_before at (map (moved a b) (rows_of nodes c.args.node.0)) in
@@ -137,7 +137,7 @@ returns-in-Bottom-clause-visits g t c =
     let b = c.args.second.now in
     let nodes = c.args.self.now in
     let rows = map f c.as_slice.result.now in
-    let seen = bottom-seen g.P.Plane.widths nodes c.args.node.0 a b rows c.allocator.ensures.well_formed c.requires
+    let seen = bottom-seen g.P.Plane.widths nodes c.args.node.0 a b rows c.nodes_are_well_formed.ensures c.requires
     (bottom-is g.P.Plane.plain nodes c.args.node.0 c.node.result.now c.in-Bottom.rows c.as_slice.result.now c.node.ensures c.in-Bottom.is c.as_slice.ensures) in
     visits-in_bottom (λ f. f.visits) c.last_row.result c.args.visits c.saturating_add-visits.result (height_of g.P.Plane.widths nodes c.args.node.0) c.saturating_add-visits.ensures seen.level c.last_row.ensures.visits
 
@@ -147,7 +147,7 @@ returns-in_ok-branch-in-Inner-clause-visits g t c =
     let b = c.args.second.now in
     let nodes = c.args.self.now in
     let branches = c.as_slice-in-Inner.result.now in
-    let seen = inner-seen g.P.Plane.widths nodes c.args.node.0 a b branches c.allocator.ensures.well_formed c.requires
+    let seen = inner-seen g.P.Plane.widths nodes c.args.node.0 a b branches c.nodes_are_well_formed.ensures c.requires
     (inner-is g.P.Plane.plain nodes c.args.node.0 c.node.result.now c.in-Inner.branches branches c.node.ensures c.in-Inner.is c.as_slice-in-Inner.ensures) in
     let branch = c.in_ok-branch-in-Inner.branch in
     let below = one-below g.P.Plane.widths nodes c.args.node.0 a b branches branch seen c.in_ok-branch-in-Inner.ensures.one in

@@ -34,14 +34,14 @@ moved-requires g c =
     let room = subst (HasRoom c.args.branch.now.first) c.reach_below-reach.ensures.first (c.has_room.ensures.0 c.if-not-has_room.false) in
     let room2 = subst (HasRoom c.args.branch.now.second) c.reach_below-reach.ensures.second (c.has_room-2.ensures.0 c.if-not-has_room-2.false) in
     let m = moves-there g.P.Plane.widths g.met.P.Plane.widths_stay c.args.self.now c.summary-summary.ensures.well_formed c.args.branch.now.node.0 c.args.branch.now.first c.args.branch.now.second c.summary-summary.result.now
-    c.summary-summary.ensures.told below c.places-first.ensures.tumbler c.places-second.ensures.tumbler room room2 in
+    c.summary-summary.ensures.told below c.is_tumbler.ensures c.is_tumbler-2.ensures room room2 in
     record { first = m.first; last = m.last; first_extent = m.first_extent; second_extent = m.second_extent }
 
 pub returns-clause-some : goal.returns-clause-some
 returns-clause-some g c =
     let below = subst (λ n. c.args.branch.now.node.0 < n) c.count.ensures c.if-branch-count.false in (
       part-tested g.P.Plane.widths g.met.P.Plane.widths_stay c.args.self.now c.summary-summary.ensures.well_formed c.args.branch.now c.summary-summary.result.now c.summary-summary.ensures.told
-          c.places-first.ensures.tumbler c.places-second.ensures.tumbler below record {
+          c.is_tumbler.ensures c.is_tumbler-2.ensures below record {
             leaves = c.if-summary-eq0.false;
             first_extent = c.is_same.ensures.0 c.if-not-is_same.false;
             second_extent = c.is_same-2.ensures.0 c.if-not-is_same-2.false;

@@ -7,7 +7,7 @@ use Rattle.enfilade_core.proofs.arena.Arena.kept_packed.Goals as goal
 pub placed-requires : goal.placed-requires
 placed-requires g c =
     rw (c.copy.ensures, c.copy-2.ensures) (around-may_stand g.P.Plane.widths g.met.P.Plane.widths_stay c.args.self.now c.args.branch.now c.args.touched.now c.in_ok-children.children.items c.is_empty.result record {
-      nodes_well_formed = c.allocator-well_formed.ensures.well_formed;
+      nodes_well_formed = c.nodes_are_well_formed.ensures;
       part = c.requires.part;
       inner = c.requires.inner;
       well_formed = c.requires.well_formed;
@@ -20,7 +20,7 @@ placed-requires g c =
 pub returns-then-is_empty-clause-packed : goal.returns-then-is_empty-clause-packed
 returns-then-is_empty-clause-packed g c =
     around-none g.P.Plane.widths c.args.self.now c.args.branch.now c.args.touched.now c.in_ok-children.children.items c.is_empty.result record {
-      nodes_well_formed = c.allocator-well_formed.ensures.well_formed;
+      nodes_well_formed = c.nodes_are_well_formed.ensures;
       part = c.requires.part;
       inner = c.requires.inner;
       well_formed = c.requires.well_formed;
@@ -35,7 +35,7 @@ returns-clause-packed g c =
     let w = g.P.Plane.widths in
     let children = c.in_ok-children.children.items in
     around-packed w c.args.self.now c.placed.new.self c.args.branch.now c.args.touched.now children c.in_ok-made.made record {
-      nodes_well_formed = c.allocator-well_formed.ensures.well_formed;
+      nodes_well_formed = c.nodes_are_well_formed.ensures;
       part = c.requires.part;
       inner = c.requires.inner;
       well_formed = c.requires.well_formed;

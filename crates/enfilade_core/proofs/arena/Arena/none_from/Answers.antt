@@ -27,5 +27,5 @@ loop-near-preserved g c =
       some = omega (arith, so.some, c.loop-near-test.true);
       none = chosen-high g.P.Plane.widths c.args.self.now c.args.branches.now c.args.at.now 0 c.loop-near.far middle branch so.none (omega (arith, so.some, c.loop-near-test.true))
           record { well_formed = c.requires.well_formed; short = short; is = c.index-branches-middle.is; filled = part-some g.P.Plane.widths c.args.self.now branch part }
-          (origin-past g.P.Plane.widths c.args.self.now c.allocator-well_formed.ensures.well_formed branch c.args.at.now part (ap (λ (b : Branch). comes_before b.first c.args.at.now) c.index-branches-middle.is ∙ sym c.is_before.ensures.value ∙ c.if-is_before.false));
+          (origin-past g.P.Plane.widths c.args.self.now c.nodes_are_well_formed.ensures branch c.args.at.now part (ap (λ (b : Branch). comes_before b.first c.args.at.now) c.index-branches-middle.is ∙ sym c.is_before.ensures.value ∙ c.if-is_before.false));
     }

@@ -11,8 +11,8 @@ exchange-requires g c =
     let w = g.P.Plane.widths in
     let old = rows_of c.args.self.now c.args.root.0 in
     let new = map (plain_row g.P.Plane.plain) c.args.rows.now.items in
-    let well_formed = rows-well_formed w c.args.self.now c.args.root.0 c.allocator-well_formed.ensures.well_formed c.requires.below in
-    let order = rows-ordered w c.args.self.now c.args.root.0 c.allocator-well_formed.ensures.well_formed c.requires.below in
+    let well_formed = rows-well_formed w c.args.self.now c.args.root.0 c.nodes_are_well_formed.ensures c.requires.below in
+    let order = rows-ordered w c.args.self.now c.args.root.0 c.nodes_are_well_formed.ensures c.requires.below in
     rw (c.copy.ensures, c.copy-2.ensures, c.copy-3.ensures) record {
       below = c.requires.below;
       up_to = upto_itself c.args.at.now;
@@ -24,5 +24,5 @@ returns-clause-rows g c =
     let w = g.P.Plane.widths in
     let old = rows_of c.args.self.now c.args.root.0 in
     let new = map (plain_row g.P.Plane.plain) c.args.rows.now.items in
-    let order = rows-ordered w c.args.self.now c.args.root.0 c.allocator-well_formed.ensures.well_formed c.requires.below in
+    let order = rows-ordered w c.args.self.now c.args.root.0 c.nodes_are_well_formed.ensures c.requires.below in
     c.in_ok-made.ensures.rows ∙ rw (c.copy.ensures, c.copy-2.ensures, c.copy-3.ensures) (sym (put_is c.args.at.now new old order))

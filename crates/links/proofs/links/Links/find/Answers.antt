@@ -39,7 +39,7 @@ returns c =
     IfOk-weaker c.found_among.result (λ (found : ListView (List ℕ)). found.items ≡ take c.args.limit (flat_map (taken_at c.self.inside.table homes c.in_ok-wanted.wanted c.args.after.now) c.as_slice.result.now))
     (λ (found : ListView (List ℕ)). found.items ≡ found_in c.args.self.now.links c.args.homes.now.items c.args.ends.now c.args.after.now c.args.limit)
     (λ found is.
-    found_by_ids homes c.in_ok-wanted.wanted c.args.after.now c.args.limit c.self.inside.table c.in-Some.ids.items found.items c.links-ascend.ensures.ascends hold
+    found_by_ids homes c.in_ok-wanted.wanted c.args.after.now c.args.limit c.self.inside.table c.in-Some.ids.items found.items c.ids_ascend.ensures hold
     (is ∙ ap (λ (ids : List (List ℕ)). take c.args.limit (flat_map (taken_at c.self.inside.table homes c.in_ok-wanted.wanted c.args.after.now) ids)) c.as_slice.ensures)
     ∙ ap (λ (v : LinkLists). found_in v.links homes c.in_ok-wanted.wanted c.args.after.now c.args.limit) c.self.view_is
     ∙ ap (λ (hs : List Span). found_in c.args.self.now.links hs c.in_ok-wanted.wanted c.args.after.now c.args.limit) c.as_slice-homes.ensures

@@ -10,4 +10,4 @@ show-requires-2-clause-rows c = rows_found c.args.self.now c.self.inside.arena c
 pub returns : goal.returns
 returns c =
     both_shown c.args.self.now c.self.inside.arena c.args.root.0 c.args.span.now c.in_ok-rows.rows.items c.as_slice.result.now c.as_slice-2.result.now c.new-spans.result.items c.show.new.spans.items c.show-2.new.spans.items c.self.view_is c.requires.root
-    c.places-start.ensures.tumbler c.in_ok-rows.ensures c.new-spans.ensures.items c.as_slice.ensures c.as_slice-2.ensures c.in_ok-show.ensures c.in_ok-show-2.ensures
+    c.is_tumbler.ensures c.in_ok-rows.ensures c.new-spans.ensures.items c.as_slice.ensures c.as_slice-2.ensures c.in_ok-show.ensures c.in_ok-show-2.ensures

@@ -1,15 +1,15 @@
-use Rattle.std.proofs.Common.{◌∙◌, ℕ, ◌+◌, map, ap, refl, sym, subst}
+use Rattle.std.proofs.Common.{◌∙◌, ℕ, ◌+◌, map, ap, sym, subst}
 use Rattle.febe_data.specs.Plain.{plain_spec, plain_specs}
 use Rattle.links.specs.LinkLists.{plain_link}
 use Rattle.world_rules.specs.Apply.{link_between}
 use Rattle.tree_world.specs.Standing.{Stands}
 use Rattle.tree_world.proofs.Roots.{root_stands, root_grows}
-use Rattle.tree_world.proofs.Holds.{unmarked, with_due, holds_same, holds_rooted}
 use Rattle.tree_world.proofs.LinkMade.{made_in, lacks_it}
 use Rattle.tree_world.specs.Undone.{LinkCame}
 use Rattle.world_rules.specs.World.{link_address}
 use Rattle.tree_world.proofs.EntryCounted.{with_marks}
-use Rattle.tree_world.proofs.Marked.{room_for_mark, stay_from, due_same, due_grown}
+use Rattle.tree_world.proofs.Marked.{room_for_mark, stay_from}
+use Rattle.tree_world.proofs.Rerooted.{rerooted}
 use Rattle.tree_world.proofs.Undone.{of_old, link_came}
 use Rattle.tree_world.proofs.world.TreeWorld.make_link.Goals as goal
 
@@ -33,12 +33,8 @@ set_root-requires-clause-old c = root_grows c.self.inside.pooms c.come_in.new.po
 
 pub invariant_of-self-2 : goal.invariant_of-self-2
 invariant_of-self-2 c =
-    with_due _ _ c.self.inside.contents c.set_root.new.due.items
-    (holds_same c.come_in.new.pooms _ _ _ c.self.inside.contents refl c.set_root.ensures.documents
-    (holds_rooted c.self.inside.pooms c.come_in.new.pooms c.self.inside.documents c.self.inside.contents (unmarked c.self.inside.pooms c.self.inside.documents c.self.inside.contents c.self.inside.due.items c.self.invariant) c.come_in.ensures.kept c.come_in.ensures.grows c.args.home.now c.in_ok-made.made c.in_ok-made.ensures.root))
-    (c.set_root.ensures.due
-    (due_grown c.self.inside.pooms c.come_in.new.pooms c.self.inside.documents c.reserve.new.self.items c.come_in.ensures.grows c.self.invariant.0
-    (due_same c.self.inside.pooms c.self.inside.pooms c.self.inside.documents c.self.inside.documents c.self.inside.due.items c.reserve.new.self.items refl refl c.reserve.ensures.items c.self.invariant.4)))
+    rerooted c.self.inside.pooms c.come_in.new.pooms c.self.inside.documents c.set_root.new.documents c.self.inside.contents c.self.inside.due.items c.reserve.new.self.items c.set_root.new.due.items c.args.home.now c.in_ok-made.made c.self.invariant c.come_in.ensures.kept c.come_in.ensures.grows c.in_ok-made.ensures.root
+    c.set_root.ensures.documents c.reserve.ensures.items c.set_root.ensures.due
 
 pub returns-clause-ok : goal.returns-clause-ok
 returns-clause-ok c view session stands =

@@ -1,11 +1,11 @@
 use Rattle.std.proofs.Common.{refl, sym, subst, arith}
 use Rattle.tree_world.specs.Standing.{Stands}
 use Rattle.tree_world.proofs.Roots.{root_stands, root_grows}
-use Rattle.tree_world.proofs.Holds.{unmarked, with_due, holds_same, holds_rooted}
 use Rattle.tree_world.proofs.Edited.{swapped_as, cuts_seen}
 use Rattle.tree_world.specs.Undone.{DocumentEdited}
 use Rattle.tree_world.proofs.EntryCounted.{with_marks}
-use Rattle.tree_world.proofs.Marked.{room_for_mark, stay_from, due_same, due_grown}
+use Rattle.tree_world.proofs.Marked.{room_for_mark, stay_from}
+use Rattle.tree_world.proofs.Rerooted.{rerooted}
 use Rattle.tree_world.proofs.Undone.{of_old, was_edited, grown_none}
 use Rattle.tree_world.proofs.world.TreeWorld.rearrange.Goals as goal
 
@@ -15,8 +15,8 @@ length-requires c = record { document = root_stands c.self.inside.pooms c.self.i
 pub overflow_add-length : goal.overflow_add-length
 overflow_add-length c = let fits = (root_stands c.self.inside.pooms c.self.inside.documents c.args.document.now c.in-Some.root c.self.invariant.0 (sym c.in-Some.ensures)).document.text_fits in let is = c.length.ensures in omega (arith, fits, is)
 
-pub swapped-requires-clause-root : goal.swapped-requires-clause-root
-swapped-requires-clause-root c = root_stands c.self.inside.pooms c.self.inside.documents c.args.document.now c.in-Some.root c.self.invariant.0 (sym c.in-Some.ensures)
+pub rearrange-requires-clause-root : goal.rearrange-requires-clause-root
+rearrange-requires-clause-root c = root_stands c.self.inside.pooms c.self.inside.documents c.args.document.now c.in-Some.root c.self.invariant.0 (sym c.in-Some.ensures)
 
 pub set_root-requires-clause-room : goal.set_root-requires-clause-room
 set_root-requires-clause-room c = room_for_mark c.self.inside.due.spare c.reserve.new.self.spare c.in_ok-reserve.ensures.ok
@@ -25,24 +25,20 @@ pub set_root-requires-clause-was : goal.set_root-requires-clause-was
 set_root-requires-clause-was c = sym c.in-Some.ensures
 
 pub set_root-requires-clause-old : goal.set_root-requires-clause-old
-set_root-requires-clause-old c = root_grows c.self.inside.pooms c.swapped.new.pooms c.in-Some.root.0 c.swapped.ensures.kept c.swapped.ensures.grows (root_stands c.self.inside.pooms c.self.inside.documents c.args.document.now c.in-Some.root c.self.invariant.0 (sym c.in-Some.ensures))
+set_root-requires-clause-old c = root_grows c.self.inside.pooms c.rearrange.new.self c.in-Some.root.0 c.rearrange.ensures.kept c.rearrange.ensures.grows (root_stands c.self.inside.pooms c.self.inside.documents c.args.document.now c.in-Some.root c.self.invariant.0 (sym c.in-Some.ensures))
 
 pub invariant_of-self-2 : goal.invariant_of-self-2
 invariant_of-self-2 c =
-    with_due _ _ c.self.inside.contents c.set_root.new.due.items
-    (holds_same c.swapped.new.pooms _ _ _ c.self.inside.contents refl c.set_root.ensures.documents
-    (holds_rooted c.self.inside.pooms c.swapped.new.pooms c.self.inside.documents c.self.inside.contents (unmarked c.self.inside.pooms c.self.inside.documents c.self.inside.contents c.self.inside.due.items c.self.invariant) c.swapped.ensures.kept c.swapped.ensures.grows c.args.document.now c.in_ok-made.made c.in_ok-made.ensures.root))
-    (c.set_root.ensures.due
-    (due_grown c.self.inside.pooms c.swapped.new.pooms c.self.inside.documents c.reserve.new.self.items c.swapped.ensures.grows c.self.invariant.0
-    (due_same c.self.inside.pooms c.self.inside.pooms c.self.inside.documents c.self.inside.documents c.self.inside.due.items c.reserve.new.self.items refl refl c.reserve.ensures.items c.self.invariant.4)))
+    rerooted c.self.inside.pooms c.rearrange.new.self c.self.inside.documents c.set_root.new.documents c.self.inside.contents c.self.inside.due.items c.reserve.new.self.items c.set_root.new.due.items c.args.document.now c.in_ok-made.made c.self.invariant c.rearrange.ensures.kept c.rearrange.ensures.grows c.in_ok-made.ensures.root
+    c.set_root.ensures.documents c.reserve.ensures.items c.set_root.ensures.due
 
 pub returns-clause-ok : goal.returns-clause-ok
 returns-clause-ok c view session stands =
     with_marks _ _ c.set_root.new.due.items
-    (swapped_as _ view (subst (λ t. Stands t view) (sym c.self.view_is) stands) c.self.invariant.0 c.args.document.now c.in-Some.root c.in-Some.ensures c.swapped.new.pooms c.swapped.ensures.kept c.swapped.ensures.grows c.in_ok-made.made c.in_ok-made.ensures.root
+    (swapped_as _ view (subst (λ t. Stands t view) (sym c.self.view_is) stands) c.self.invariant.0 c.args.document.now c.in-Some.root c.in-Some.ensures c.rearrange.new.self c.rearrange.ensures.kept c.rearrange.ensures.grows c.in_ok-made.made c.in_ok-made.ensures.root
     c.set_root.new.documents _ c.set_root.ensures.documents c.in_ok-counted.ensures session c.args.cuts.now.items (cuts_seen c.as_slice.result.now c.args.cuts.now.items c.length.result _ (c.if-not-are_cuts.ensures refl) c.as_slice.ensures c.length.ensures) c.in_ok-made.ensures.text c.in_ok-made.ensures.links)
 
 pub returns-clause-came : goal.returns-clause-came
 returns-clause-came c =
     of_old (DocumentEdited c.args.document.now) _ _ _ c.self.view_is
-    (was_edited _ c.args.document.now c.in-Some.root (sym c.in-Some.ensures) c.in_ok-made.made c.swapped.new.pooms c.self.inside.index c.set_root.new.documents _ c.set_root.new.due.items (stay_from c.self.inside.due.items c.reserve.new.self.items c.set_root.new.due.items c.reserve.ensures.items c.set_root.ensures.stay) c.swapped.ensures.grows (grown_none c.self.inside.index.nodes) c.set_root.ensures.documents)
+    (was_edited _ c.args.document.now c.in-Some.root (sym c.in-Some.ensures) c.in_ok-made.made c.rearrange.new.self c.self.inside.index c.set_root.new.documents _ c.set_root.new.due.items (stay_from c.self.inside.due.items c.reserve.new.self.items c.set_root.new.due.items c.reserve.ensures.items c.set_root.ensures.stay) c.rearrange.ensures.grows (grown_none c.self.inside.index.nodes) c.set_root.ensures.documents)

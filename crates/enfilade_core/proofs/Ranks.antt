@@ -4,7 +4,7 @@ use Rattle.std.specs.Prelude.{count_by}
 use Rattle.std.proofs.lemmas.List.{take_all, get_or_past}
 use Rattle.std.proofs.lemmas.List.Sums.{count_by_more_yes, count_by_more_no}
 use Rattle.std.proofs.lemmas.Bool.{cases_lt}
-use Rattle.enfilade_sweep.specs.Marks.{is_marked, rank}
+use Rattle.enfilade_core.specs.NewNumbers.{is_marked, rank}
 
 pub marked_within : (marks : List Bool) (k : ℕ) → is_marked marks k ≡ true → k < length marks
 marked_within marks k h = elim (cases_lt k (length marks)) [
@@ -35,6 +35,12 @@ rank_on marks k (suc n) =
     let rest = rank_on marks k n in
     let step = rank_step marks (k + n) in
     omega (arith, rest, step, ap (rank marks) same)
+
+pub rank_up_to : (marks : List Bool) (j k : ℕ) → j ≤ k → rank marks j ≤ rank marks k
+rank_up_to marks j k le =
+    let same : j + (k - j) ≡ k = omega (arith, le) in
+    let on = rank_on marks j (k - j) in
+    omega (arith, on, ap (rank marks) same)
 
 pub rank_less : (marks : List Bool) (j k : ℕ) → is_marked marks j ≡ true → j < k → rank marks j < rank marks k
 rank_less marks j k h lt =

@@ -1,4 +1,4 @@
--- A copied node has well formed children, and says what the old one said.
+-- A node under its new number has well formed children, and what is said of it is what the old one said.
 use Rattle.std.proofs.Common.{◌≡◌, ◌≢◌, ◌∙◌, inl, inr, ℕ, zero, suc, ◌+◌, ◌<◌, ◌≤◌, Bool, true, false, List, [], ◌∷◌, ◌++◌, length, take, map, get_or, sym, ap, subst, refl, arith, true≢false}
 use Rattle.std.specs.Prelude.{IsTrue, All}
 use Rattle.std.proofs.lemmas.List.{get_or-map, length-map, length_push, get_or_push, get_or_append_left}
@@ -14,10 +14,9 @@ use Rattle.enfilade_core.specs.Summary.{summary_in, no_summary, height_of}
 use Rattle.enfilade_core.proofs.Tables.{IsLocal, Agrees-take, table-said}
 use Rattle.enfilade_core.proofs.Locals.{rows_local, origins_local, summary_local}
 use Rattle.enfilade_core.proofs.Parts.{names_below}
-use Rattle.enfilade_sweep.specs.Sweep.{renamed_branch, renamed}
-use Rattle.enfilade_sweep.specs.Marks.{is_marked, rank, AreCopied, IsClosed, AreRanks}
-use Rattle.enfilade_sweep.proofs.Naming.{IsNatural, SaidThere, rows_natural, origins_natural, summary_natural, renamed_alike}
-use Rattle.enfilade_sweep.proofs.Ranks.{rank_yes, rank_no, rank_less}
+use Rattle.enfilade_core.specs.NewNumbers.{renamed_branch, renamed, is_marked, rank, AreAtRanks, IsClosed, AreRanks}
+use Rattle.enfilade_core.proofs.Naming.{IsNatural, SaidThere, rows_natural, origins_natural, summary_natural, renamed_alike}
+use Rattle.enfilade_core.proofs.Ranks.{rank_yes, rank_no, rank_less}
 
 pub named_all : {L : Type 0} (n : ℕ) (node : Shape L) → NamesBelow n node → All (λ (branch : Branch). branch.node.0 < n) (branches_under node)
 named_all n (Rows rows) h = λ k d lt. absurd (omega (arith, lt))
@@ -35,7 +34,7 @@ under_marked w marks old k well_formed closed lt here i d within =
       closed k (get_or branches i d).node.0 here (i, omega (arith, within, length-map branches name), get_or-map name branches i d (get_or branches i d).node.0 within),
     )
 
-module _ {L : Type 0} (w : Widths L) (marks : List Bool) (old new : List (Shape L)) (n : ℕ) (well_formed_old : AreWellFormed w old) (well_formed_new : AreWellFormed w new) (closed : IsClosed old marks) (copied : AreCopied marks old new n) (few : n ≤ length old) where
+module _ {L : Type 0} (w : Widths L) (marks : List Bool) (old new : List (Shape L)) (n : ℕ) (well_formed_old : AreWellFormed w old) (well_formed_new : AreWellFormed w new) (closed : IsClosed old marks) (copied : AreAtRanks marks old new n) (few : n ≤ length old) where
   pub inside : (k : ℕ) → k < n → is_marked marks k ≡ true → rank marks k < length new
   inside k lt here = let less = rank_less marks k n here lt in omega (arith, less, copied.long)
 
@@ -82,7 +81,7 @@ well_formed_branches w place before new (Branches branches) well_formed there = 
 }
 
 -- the marked node k, copied behind those before it
-module _ {L : Type 0} (w : Widths L) (marks : List Bool) (old new : List (Shape L)) (k : ℕ) (well_formed_old : AreWellFormed w old) (well_formed_new : AreWellFormed w new) (closed : IsClosed old marks) (copied : AreCopied marks old new k) (lt : k < length old)
+module _ {L : Type 0} (w : Widths L) (marks : List Bool) (old new : List (Shape L)) (k : ℕ) (well_formed_old : AreWellFormed w old) (well_formed_new : AreWellFormed w new) (closed : IsClosed old marks) (copied : AreAtRanks marks old new k) (lt : k < length old)
     (here : is_marked marks k ≡ true) where
   all : All (IsBeforeAndMarked marks k) (branches_under (node_at old k))
   all = under_marked w marks old k well_formed_old closed lt here
@@ -134,8 +133,8 @@ module _ {L : Type 0} (w : Widths L) (marks : List Bool) (old new : List (Shape 
   named_alike ranks exact long =
       renamed_alike (λ m. get_or ranks m 0) (rank marks) (node_at old k) (λ i b within. let c = all i b within in exact.1 (get_or (branches_under (node_at old k)) i b).node.0 (omega (arith, c.0, lt, long)))
 
-  pub copied_next : (node : Shape L) (after : List (Shape L)) → after ≡ new ++ node ∷ [] → node ≡ renamed (rank marks) (node_at old k) → AreCopied marks old after (k + 1)
-  copied_next node after is made = subst (λ (ns : List (Shape L)). AreCopied marks old ns (k + 1)) (sym is) (record {
+  pub copied_next : (node : Shape L) (after : List (Shape L)) → after ≡ new ++ node ∷ [] → node ≡ renamed (rank marks) (node_at old k) → AreAtRanks marks old after (k + 1)
+  copied_next node after is made = subst (λ (ns : List (Shape L)). AreAtRanks marks old ns (k + 1)) (sym is) (record {
     long = length_push new node ∙ omega (arith, copied.long, rank_yes marks k here);
     same = λ j le h. elim (cases_lt j k) [
       | inl less ↦ get_or_append_left new (node ∷ []) (Rows []) (rank marks j) (inside w marks old new k well_formed_old well_formed_new closed copied (omega (arith, lt)) j less h) ∙ copied.same j less h
@@ -146,7 +145,7 @@ module _ {L : Type 0} (w : Widths L) (marks : List Bool) (old new : List (Shape 
   })
 
 -- a node that is not marked is passed over
-pub copied_skip : {L : Type 0} (marks : List Bool) (old new : List (Shape L)) (k : ℕ) → AreCopied marks old new k → is_marked marks k ≡ false → AreCopied marks old new (k + 1)
+pub copied_skip : {L : Type 0} (marks : List Bool) (old new : List (Shape L)) (k : ℕ) → AreAtRanks marks old new k → is_marked marks k ≡ false → AreAtRanks marks old new (k + 1)
 copied_skip marks old new k copied here = record {
   long = copied.long ∙ sym (rank_no marks k here);
   same = λ j le h. elim (cases_lt j k) [

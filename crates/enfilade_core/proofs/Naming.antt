@@ -14,7 +14,7 @@ use Rattle.enfilade_core.specs.WellFormed.{branch_origins, origins_in}
 use Rattle.enfilade_core.specs.declared.balance_state.BalanceState.{BalanceState}
 use Rattle.enfilade_core.specs.BalanceState.{no_balance_state, balance_states_below, balance_state_in, node_debt, split_above, most_children, lone_child_debt, has_merge, root_debt, has_lone_child}
 use Rattle.enfilade_core.specs.Summary.{summary_in, branch_summary, summary_moved, summary_joined, no_summary, raised}
-use Rattle.enfilade_sweep.specs.Sweep.{renamed_branch, renamed}
+use Rattle.enfilade_core.specs.NewNumbers.{renamed_branch, renamed}
 
 -- what was said of each branch's node is said of the one at its place
 abbrev pub SaidThere : {T : Type 0} → (ℕ → ℕ) → T → (there here : List T) → Branch → Type 0
