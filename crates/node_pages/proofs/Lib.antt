@@ -1,0 +1,2 @@
+pub mod NodeCodecs
+pub mod Streaming

@@ -1,0 +1,34 @@
+use Rattle.std.proofs.Common.{length, arith}
+use Rattle.disk_fields.proofs.FieldLaws.{are_bytes}
+use Rattle.enfilade_core.specs.Plain.{shape}
+use Rattle.node_pages.proofs.Streaming.{none_read, one_more, none_next, none_formed, all_read, shorter, some_left, none_left, not_so}
+use Rattle.node_pages.proofs.streams.read_nodes.Goals as goal
+
+pub loop-rest-init : goal.loop-rest-init
+loop-rest-init g c =
+    none_read g.P.Plane.widths g.P.PagedPlane.is_row g.P.PagedPlane.row_bytes c.args.bytes.now _ c.new-arena.ensures (are_bytes c.args.bytes.now (λ i. omega (arith, c.type_inv.bytes i)))
+
+pub returns-in_default : goal.returns-in_default
+returns-in_default g c =
+    none_next g.P.Plane.widths g.met.P.PagedPlane.rows_read_as_written c.args.bytes.now c.loop-rest.arena c.loop-rest.rest.now c.loop-rest.invariant (some_left c.loop-rest.rest.now _ c.is_empty.ensures c.loop-rest-test.true)
+    (rw c.in_default.is at c.in_ok-children.ensures)
+
+pub returns-then-not-is_well_formed : goal.returns-then-not-is_well_formed
+returns-then-not-is_well_formed g c =
+    none_formed g.P.Plane.widths g.met.P.PagedPlane.rows_read_as_written c.args.bytes.now c.loop-rest.arena c.loop-rest.rest.now (shape g.P.Plane.plain c.in-Some.children) c.in-Some.behind.now c.loop-rest.invariant
+    (some_left c.loop-rest.rest.now _ c.is_empty.ensures c.loop-rest-test.true) (rw c.in-Some.is at c.in_ok-children.ensures) (not_so _ c.is_well_formed-is_well_formed.ensures c.if-not-is_well_formed.true)
+
+pub loop-rest-smaller : goal.loop-rest-smaller
+loop-rest-smaller g c =
+    shorter g.met.P.PagedPlane.rows_read_as_written (length c.loop-rest.arena) c.loop-rest.rest.now (shape g.P.Plane.plain c.in-Some.children) c.in-Some.behind.now c.loop-rest.invariant.are (rw c.in-Some.is at c.in_ok-children.ensures)
+
+pub loop-rest-preserved : goal.loop-rest-preserved
+loop-rest-preserved g c =
+    rw c.in_ok-add_node.ensures.ok
+    (one_more g.P.Plane.widths g.met.P.PagedPlane.rows_read_as_written c.args.bytes.now c.loop-rest.arena c.loop-rest.rest.now (shape g.P.Plane.plain c.in-Some.children) c.in-Some.behind.now c.loop-rest.invariant
+    (some_left c.loop-rest.rest.now _ c.is_empty.ensures c.loop-rest-test.true) (rw c.in-Some.is at c.in_ok-children.ensures))
+
+pub returns : goal.returns
+returns g c =
+    all_read g.P.Plane.widths g.P.PagedPlane.is_row g.P.PagedPlane.row_bytes c.args.bytes.now c.loop-rest.arena c.loop-rest.rest.now c.loop-rest.invariant
+    (none_left c.loop-rest.rest.now _ c.is_empty.ensures c.loop-rest-test.false) c.allocator-alloc.ensures.well_formed
