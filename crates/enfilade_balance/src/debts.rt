@@ -8,7 +8,7 @@ ghost use Rattle.enfilade_balance.specs.Path.{debt_below, own_debt};
 use enfilade_core::laws::nodes_are_well_formed;
 use enfilade_core::{Arena, Branch, Children, Node, Plane};
 
-/// Over this many children a root has debt.
+/// The most children that a root has without debt.
 const MOST_CHILDREN: u64 = 12;
 
 /// What a root owes whose one child is a node.

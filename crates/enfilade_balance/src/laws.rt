@@ -4,8 +4,8 @@ ghost use Rattle.enfilade_balance.specs.Laws.{BalanceStatesOfChildren, DebtsStay
 use enfilade_core::laws::nodes_are_well_formed;
 use enfilade_core::{Arena, Plane};
 
-/// What a node owes where it is not the root, and whether a step is allowed at it or under it, follows from its children
-/// and what is so of them.
+/// What a node owes where it is not the root, and whether a step is allowed at it or under it, follows from how many
+/// children it has and from what those owe and allow.
 pub fn balance_states_of_children<P: Plane>(arena: &Arena<P>)
     ensures { BalanceStatesOfChildren arena.now }
 {

@@ -9,6 +9,7 @@ pub mod Told
 pub mod Orders
 pub mod Fronts
 pub mod ReachBelow
+pub mod ToldReach
 pub mod PartTests
 pub mod Nodes
 pub mod Rooms

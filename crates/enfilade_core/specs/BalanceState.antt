@@ -51,7 +51,7 @@ balance_state_below told branches = record {
   allows = nat_lt split_above (length branches) || list_any (λ s. s.allows) (balance_states_below told branches) || has_merge (balance_states_below told branches);
 }
 
--- the same of any node
+-- the balance state of a node with these children
 abbrev pub balance_state_in : {L : Type 0} → List BalanceState → Shape L → BalanceState
 balance_state_in told (Rows rows) = record { children = length rows; debt = node_debt (length rows); allows = nat_lt split_above (length rows) }
 balance_state_in told (Branches branches) = balance_state_below told branches
@@ -80,6 +80,6 @@ tree_debt nodes k = root_debt (balance_states nodes) (node_at nodes k)
 abbrev pub tree_allows : {L : Type 0} → List (Shape L) → ℕ → Bool
 tree_allows nodes k = (balance_state_of nodes k).allows || has_lone_child (node_at nodes k)
 
--- a standing as it is kept: the debt stops at the most that it can be
+-- a balance state as it is kept with a node: the debt stops at the most that it can be
 abbrev pub kept_balance_state : BalanceState → BalanceState
 kept_balance_state s = record s { debt = min s.debt most_count }

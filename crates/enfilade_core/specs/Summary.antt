@@ -16,7 +16,7 @@ most_count = 18446744073709551615
 abbrev pub no_summary : Summary
 no_summary = record { height = 0; leaves = 0; first = []; last = []; first_extent = []; second_extent = [] }
 
--- of a row that stands at these places and is this wide
+-- the summary of one row that stands at these places and is this wide
 abbrev pub placed_summary : List ℕ → List ℕ → List ℕ → List ℕ → Summary
 placed_summary first first_width second second_width = record {
   height = 0;
@@ -41,7 +41,7 @@ summary_moved a b s = record {
   second_extent = sum b s.second_extent;
 }
 
--- of two neighbours, of which the first may be nothing
+-- the summary of two neighbours together, of which the first may have no rows
 abbrev pub summary_joined : Summary → Summary → Summary
 summary_joined a b = record {
   height = b.height;
@@ -55,7 +55,7 @@ summary_joined a b = record {
 abbrev pub branch_summary : List Summary → Branch → Summary
 branch_summary told branch = summary_moved branch.first branch.second (slice_index_or told branch.node.0 no_summary)
 
--- one level higher
+-- the summary of the same rows, for a node one level higher
 abbrev pub raised : Summary → Summary
 raised s = record s { height = s.height + 1 }
 

@@ -11,10 +11,10 @@ use crate::arena::Arena;
 use crate::plane::Plane;
 use crate::tree::{Branch, Children};
 
-/// Over this many children a node has debt.
+/// The most children that a node has without debt.
 const MOST_CHILDREN: u64 = 12;
 
-/// Under this many children a node that is not the root has debt.
+/// The fewest children that a node has without debt, where it is not the root.
 const FEWEST_CHILDREN: u64 = 5;
 
 /// A node with more children than this may be split.
@@ -23,7 +23,8 @@ const SPLIT_ABOVE: u64 = 16;
 /// Neighbours with this many children together, or fewer, may be merged.
 const MERGE_UP_TO: u64 = 6;
 
-/// Of a node and those below it, as nodes that are not the root.
+/// How near a node and those below it are to balance, where it is not the root. It is kept with the node, so that the
+/// balancer goes down one path.
 #[derive(Clone, Copy, Debug, PartialEq, Eq)]
 pub struct BalanceState {
     pub children: u64,
@@ -43,7 +44,7 @@ fn node_debt(children: u64) -> u64
     2 * FEWEST_CHILDREN.saturating_sub(children)
 }
 
-/// A bottom node with so many rows.
+/// The balance state of a bottom node with so many rows.
 fn bottom(rows: usize) -> BalanceState
     ensures { result ≡ record { children = rows; debt = node_debt rows; allows = nat_lt 16 rows } }
 {
@@ -119,7 +120,7 @@ impl<P: Plane> Arena<P> {
         self.has_merge(branches)
     }
 
-    /// What stands below branches, and their node itself.
+    /// The balance state of an inner node with these branches.
     fn inner(&self, branches: &[Branch]) -> BalanceState
         requires { All (λ branch. branch.node.0 < length self.now) branches.now }
         ensures { result ≡ kept_balance_state (balance_state_below (balance_states self.now) branches.now) }
@@ -132,7 +133,7 @@ impl<P: Plane> Arena<P> {
         }
     }
 
-    /// What stands below children.
+    /// The balance state of a node with these children.
     pub(crate) fn children_balance_state(&self, children: &Children<P::Leaf>) -> BalanceState
         requires { NamesBelow (length self.now) (shape P.plain children.now) }
         ensures { result ≡ kept_balance_state (balance_state_in (balance_states self.now) (shape P.plain children.now)) }

@@ -6,14 +6,16 @@ ghost use Rattle.enfilade_core.specs.Axes.{IsWellFormedRow, IsWellFormedRows, fi
 ghost use Rattle.enfilade_core.specs.WellFormed.{IsWellFormed, AreWellFormed, IsWellFormedPart};
 ghost use Rattle.enfilade_core.specs.Summary.{row_summary, branch_summary, summary_in, summary_of, summaries, kept, depth_of, most_count};
 ghost use Rattle.enfilade_core.specs.Plain.{shape, plain_row};
+ghost use Rattle.enfilade_core.specs.Reach.{AreReaches};
 
 use crate::arena::Arena;
-use crate::laws::is_tumbler;
 use crate::plane::Plane;
+use crate::reach::Reach;
 use crate::summary::Summary;
 use crate::tree::{Branch, Children, Node, Row};
 use std::alloc::Global;
 use tumbler::Tumbler;
+use tumbler::laws::is_tumbler;
 
 /// Whether coordinate and width add up to a tumbler.
 #[tactic(auto, using(crate::proofs::Rooms::fitting))]
@@ -34,7 +36,7 @@ pub(crate) fn is_same(a: &Tumbler, b: &Tumbler) -> bool
     a == b
 }
 
-/// What is told of a row, if it may hang in a bottom node.
+/// The summary of one row, if a bottom node may have it.
 #[tactic(auto, using(crate::proofs::Rooms::fitting))]
 fn row_part<P: Plane>(row: &Row<P::Leaf>) -> Option<Summary>
     ensures some { IfSome result (λ s. IsWellFormedRow P.widths (plain_row P.plain row.now) × (s ≡ row_summary P.widths (plain_row P.plain row.now))) }
@@ -61,7 +63,7 @@ fn row_part<P: Plane>(row: &Row<P::Leaf>) -> Option<Summary>
     })
 }
 
-/// What is told of rows together, if a bottom node may have them.
+/// The summary of rows, if a bottom node may have them.
 fn rows_summary<P: Plane>(alloc: Global, rows: &[Row<P::Leaf>]) -> Option<Summary>
     ensures some { IfSome result (λ s. IsWellFormedRows P.widths (map (plain_row P.plain) rows.now) × (s ≡ kept (summary_in P.widths [] (Rows (map (plain_row P.plain) rows.now))))) }
     ensures none { IfNone result (¬ IsWellFormedRows P.widths (map (plain_row P.plain) rows.now)) }
@@ -75,8 +77,9 @@ fn rows_summary<P: Plane>(alloc: Global, rows: &[Row<P::Leaf>]) -> Option<Summar
 }
 
 impl<P: Plane> Arena<P> {
-    /// What is told of a branch, if it may stand in an inner node.
-    fn branch_part(&self, branch: &Branch) -> Option<Summary>
+    /// The summary of a branch's rows, from its inner node's origin, if that node may have the branch.
+    fn branch_part(&self, branch: &Branch, told: Option<&[Reach]>) -> Option<Summary>
+        requires { IfSome told (λ reaches. AreReaches P.widths self.now reaches.now) }
         ensures some { IfSome result (λ s. IsWellFormedPart P.widths self.now branch.now × (s ≡ kept (branch_summary (summaries P.widths self.now) branch.now))) }
         ensures none { IfNone result (¬ IsWellFormedPart P.widths self.now branch.now) }
     {
@@ -95,7 +98,7 @@ impl<P: Plane> Arena<P> {
         if !is_same(&branch.second_extent, &summary.second_extent) {
             return None;
         }
-        let reach = self.reach_below(branch.node);
+        let reach = self.reach(branch.node, told);
         if !branch.first.has_room(&reach.first) {
             return None;
         }
@@ -105,14 +108,15 @@ impl<P: Plane> Arena<P> {
         Some(summary.moved(&branch.first, &branch.second))
     }
 
-    /// What is told of branches together, if an inner node may have them.
-    fn branches_summary(&self, branches: &[Branch]) -> Option<Summary>
+    /// The summary of branches, if an inner node may have them.
+    fn branches_summary(&self, branches: &[Branch], told: Option<&[Reach]>) -> Option<Summary>
+        requires { IfSome told (λ reaches. AreReaches P.widths self.now reaches.now) }
         ensures some { IfSome result (λ s. IsWellFormed P.widths self.now (Branches branches.now) × (s ≡ kept (summary_in P.widths (summaries P.widths self.now) (Branches branches.now)))) }
         ensures none { IfNone result (¬ IsWellFormed P.widths self.now (Branches branches.now)) }
     {
         let mut summary = Summary::none(self.allocator());
         for branch in branches {
-            let part = self.branch_part(branch)?;
+            let part = self.branch_part(branch, told)?;
             summary.append(part)?;
         }
         if branches.is_empty() {
@@ -121,14 +125,19 @@ impl<P: Plane> Arena<P> {
         Some(summary.raised())
     }
 
-    /// What is told of children together, if a node may have them.
-    pub(crate) fn children_summary(&self, children: &Children<P::Leaf>) -> Option<Summary>
+    /// The summary of children, if a node may have them.
+    fn children_summary(
+        &self,
+        children: &Children<P::Leaf>,
+        told: Option<&[Reach]>,
+    ) -> Option<Summary>
+        requires { IfSome told (λ reaches. AreReaches P.widths self.now reaches.now) }
         ensures some { IfSome result (λ s. IsWellFormed P.widths self.now (shape P.plain children.now) × (s ≡ kept (summary_in P.widths (summaries P.widths self.now) (shape P.plain children.now)))) }
         ensures none { IfNone result (¬ IsWellFormed P.widths self.now (shape P.plain children.now)) }
     {
         match children {
             Children::Bottom(rows) => rows_summary::<P>(self.allocator(), rows.as_slice()),
-            Children::Inner(branches) => self.branches_summary(branches.as_slice()),
+            Children::Inner(branches) => self.branches_summary(branches.as_slice(), told),
         }
     }
 
@@ -136,7 +145,16 @@ impl<P: Plane> Arena<P> {
     pub fn is_well_formed(&self, children: &Children<P::Leaf>) -> bool
         ensures { IsTrue result ↔ IsWellFormed P.widths self.now (shape P.plain children.now) }
     {
-        self.children_summary(children).is_some()
+        self.children_summary(children, None).is_some()
+    }
+
+    /// Whether a node may have these children, where the reaches of the arena's nodes are at hand. It goes through the
+    /// children alone, however often trees share nodes, and takes no memory.
+    pub fn is_well_formed_by(&self, children: &Children<P::Leaf>, reaches: &[Reach]) -> bool
+        requires { AreReaches P.widths self.now reaches.now }
+        ensures { IsTrue result ↔ IsWellFormed P.widths self.now (shape P.plain children.now) }
+    {
+        self.children_summary(children, Some(reaches)).is_some()
     }
 
     /// How many levels of nodes a tree has, up to 2^32 - 1. It takes no memory.

@@ -21,12 +21,12 @@ use crate::tree::{Branch, Children, Node, Row};
 use std::alloc::Global;
 use tumbler::{List, Memory, Tumbler};
 
-/// What comes of a branch where no new rows come in.
+/// A branch after an exchange whose new rows come in elsewhere.
 #[derive(Drop)]
 enum Whole {
-    /// All its rows stand on one side of the gap, and this is left of it.
+    /// All its rows stand before the gap, in it or behind it, so that the branch is kept, taken out or moved as a whole.
     Left(Option<Branch>),
-    /// It has to be taken apart.
+    /// Its node has to be opened.
     Parts,
 }
 
@@ -254,7 +254,7 @@ impl<P: Plane> Arena<P> {
         }
     }
 
-    /// The same, where the branch is taken apart.
+    /// A branch, with what stands in a gap exchanged, if any row is left, where its node has to be opened.
     #[cycle(exchanging)]
     fn parts_exchanged(
         &mut self,

@@ -16,7 +16,6 @@ use crate::arena::Arena;
 use crate::check_children::is_same;
 use crate::exchange::{append_copies, count_before, rows_exchanged};
 use crate::gap::Gap;
-use crate::laws::is_tumbler;
 use crate::list_rows::append_moved;
 use crate::move_children::rows_moved;
 use crate::pack_children::row_back;
@@ -24,6 +23,7 @@ use crate::plane::Plane;
 use crate::rebuild_node::seen_from;
 use crate::tree::{Branch, Children, Row};
 use std::alloc::Global;
+use tumbler::laws::is_tumbler;
 use tumbler::{List, Memory, Tumbler};
 
 /// Whether an origin comes before a coordinate, or is zero.
@@ -136,7 +136,8 @@ fn append_shifted_back<P: Plane>(
     Ok(())
 }
 
-/// The same, where perhaps nothing moves: then the rows are copied as they are.
+/// Rows of a bottom node behind a gap go behind others, where they come to stand. Where the gap moves nothing they are
+/// copied as they are.
 fn append_past<P: Plane>(
     alloc: Global,
     rows: &[Row<P::Leaf>],
@@ -191,7 +192,8 @@ fn rows_kept<P: Plane>(
 }
 
 impl<P: Plane> Arena<P> {
-    /// The same, where the new node has an origin of its own.
+    /// A branch to a bottom node, with what stands in a gap exchanged, if any row is left. The new node has an origin of
+    /// its own.
     fn bottom_opened(
         &mut self,
         branch: &Branch,
@@ -222,7 +224,8 @@ impl<P: Plane> Arena<P> {
         Ok(Some(branch))
     }
 
-    /// The same, where the new node has the old one's origin.
+    /// A branch to a bottom node, with what stands in a gap exchanged, if any row is left. The new node has the old one's
+    /// origin.
     fn bottom_kept(
         &mut self,
         branch: &Branch,

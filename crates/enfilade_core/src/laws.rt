@@ -1,6 +1,5 @@
-//! The laws of rows, of nodes and of their places. Each is a function that does nothing, whose contract says the law.
+//! The laws of rows and of nodes. Each is a function that does nothing, whose contract says the law.
 ghost use Rattle.std.specs.Prelude.{◌<◌, ◌^◌, length};
-ghost use Rattle.tumbler.specs.Places.{IsTumbler};
 ghost use Rattle.enfilade_core.specs.Rows.{rows_of};
 ghost use Rattle.enfilade_core.specs.WellFormed.{AreWellFormed};
 ghost use Rattle.enfilade_core.specs.Laws.{RowsOfChildren, RowsStay, ExchangeIsThreeEdits, DepthsCountLevels};
@@ -8,7 +7,6 @@ ghost use Rattle.enfilade_core.specs.Laws.{RowsOfChildren, RowsStay, ExchangeIsT
 use crate::arena::Arena;
 use crate::plane::Plane;
 use crate::tree::Node;
-use tumbler::Tumbler;
 
 /// The rows of a tree from any base are those of its root's children, one after another: a leaf at the
 /// base plus its displacement, and a node's rows from the base plus the node's displacement.
@@ -53,11 +51,4 @@ pub fn depths_count_levels<P: Plane>(arena: &Arena<P>)
     ensures { DepthsCountLevels P.widths arena.now }
 {
     nodes_are_well_formed(arena);
-}
-
-/// A tumbler has no more places than it may, each is below the bound of places, and the last one is not zero.
-pub fn is_tumbler(tumbler: &Tumbler)
-    ensures { IsTumbler tumbler.now }
-{
-    let _ = tumbler.places();
 }

@@ -33,4 +33,5 @@ pub use gap::Gap;
 pub use move_children::{branches_moved, rows_moved};
 pub use plane::Plane;
 pub use planes::{ContentPlane, KeyPlane, TextPlane};
+pub use reach::Reach;
 pub use tree::{Branch, Children, Node, Row, TreeMark};

@@ -11,10 +11,10 @@ ghost use Rattle.enfilade_core.specs.Packing.{back, branch_back, MayStandAt, IsP
 ghost use Rattle.enfilade_core.specs.BalanceState.{balance_states, balance_state_in, balance_state_below, balance_state_of};
 
 use crate::arena::Arena;
-use crate::laws::is_tumbler;
 use crate::plane::Plane;
 use crate::tree::{Branch, Children, Row};
 use std::alloc::Global;
+use tumbler::laws::is_tumbler;
 use tumbler::{List, Memory, Tumbler};
 
 /// The one of two places that comes first.

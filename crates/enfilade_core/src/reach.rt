@@ -1,27 +1,27 @@
 //! How far what is below a node reaches. It is asked where a node's children are tested, and by no edit.
-ghost use Rattle.std.specs.Prelude.{◌≡◌, ◌<◌, [], map, length, All};
+ghost use Rattle.std.specs.Prelude.{◌≡◌, ◌<◌, ◌+◌, [], map, take, length, All, IfSome, OnOk, OnErr};
 ghost use Rattle.tumbler.specs.Places.{IsTumbler, sum};
 ghost use Rattle.tumbler.specs.Reach.{lead, greater, HasRoom};
 ghost use Rattle.enfilade_core.specs.Axes.{first_axis, second_axis, IsWellFormedRow};
 ghost use Rattle.enfilade_core.specs.Plain.{plain_row};
-ghost use Rattle.enfilade_core.specs.Reach.{reach_of, reach_below};
+ghost use Rattle.enfilade_core.specs.Reach.{reach_of, reach_below, AreReaches};
 
 use crate::arena::Arena;
 use crate::plane::Plane;
 use crate::tree::{Children, Node, Row};
 use std::alloc::Global;
-use tumbler::Tumbler;
+use tumbler::{List, Memory, Tumbler};
 
 /// How far a node's origin may move on each axis so that all below it fits: at each index the most that an
 /// origin, a coordinate or an end below adds to the coordinate there.
-#[derive(Clone, Copy)]
+#[derive(Clone, Copy, Debug)]
 pub struct Reach {
     pub first: Tumbler,
     pub second: Tumbler,
 }
 
 impl Reach {
-    /// Of nothing.
+    /// The reach of a node with nothing below it.
     fn none(alloc: Global) -> Reach
         ensures first { result.first ≡ [] }
         ensures second { result.second ≡ [] }
@@ -102,5 +102,53 @@ impl<P: Plane> Arena<P> {
                 reach
             }
         }
+    }
+
+    /// How far what is below a node reaches, looked up where the reaches of all nodes are at hand.
+    pub(crate) fn reach(&self, node: Node, told: Option<&[Reach]>) -> Reach
+        requires below { node.0 < length self.now }
+        requires told { IfSome told (λ reaches. AreReaches P.widths self.now reaches.now) }
+        ensures first { result.first ≡ reach_below (first_axis P.widths) self.now node.0 }
+        ensures second { result.second ≡ reach_below (second_axis P.widths) self.now node.0 }
+    {
+        match told {
+            Some(reaches) => reaches[node.0 as usize],
+            None => self.reach_below(node),
+        }
+    }
+
+    /// The reach of the arena's last node, where the reaches of all nodes before it are at hand. It goes through the
+    /// node's own children alone, and takes no memory.
+    fn last_reach(&self, node: Node, reaches: &[Reach]) -> Reach
+        requires last { length self.now ≡ node.0 + 1 }
+        requires before { AreReaches P.widths (take node.0 self.now) reaches.now }
+        ensures first { result.first ≡ reach_below (first_axis P.widths) self.now node.0 }
+        ensures second { result.second ≡ reach_below (second_axis P.widths) self.now node.0 }
+    {
+        let alloc = self.allocator();
+        match self.node(node) {
+            Children::Bottom(rows) => rows_reach::<P>(alloc, rows.as_slice()),
+            Children::Inner(branches) => {
+                let mut reach = Reach::none(alloc);
+                for branch in branches.as_slice() {
+                    let below = &reaches[branch.node.0 as usize];
+                    reach.join_moved(&branch.first, &branch.second, below);
+                }
+                reach
+            }
+        }
+    }
+
+    /// Adds the reach of the arena's last node to those of all nodes before it, so that the next node's children can be
+    /// tested by them.
+    pub fn add_reach(&self, node: Node, reaches: &mut List<Reach>) -> Result<(), Memory>
+        requires last { length self.now ≡ node.0 + 1 }
+        requires before { AreReaches P.widths (take node.0 self.now) reaches.old.items }
+        ensures ok { OnOk result (AreReaches P.widths self.now reaches.new.items) }
+        ensures err { OnErr result (reaches.new ≡ reaches.old) }
+    {
+        let reach = self.last_reach(node, reaches.as_slice());
+        reaches.push(reach)?;
+        Ok(())
     }
 }

@@ -12,13 +12,14 @@ ghost use Rattle.enfilade_core.specs.Touched.{branches_at, IsSeenFrom, StandBefo
 
 use crate::arena::Arena;
 use crate::gap::Gap;
-use crate::laws::{is_tumbler, nodes_are_well_formed};
+use crate::laws::nodes_are_well_formed;
 use crate::move_children::branches_moved;
 use crate::pack_children::branch_back;
 use crate::plane::Plane;
 use crate::siblings::Behind;
 use crate::tree::{Branch, Children, Node, Row};
 use std::alloc::Global;
+use tumbler::laws::is_tumbler;
 use tumbler::{List, Memory, Tumbler};
 
 /// The children of a node that an exchange touches, or what came of them, at places from the node's base on.

@@ -11,10 +11,10 @@ ghost use Rattle.enfilade_core.specs.Touched.{branches_at, EndsBoth, StandPast, 
 use crate::arena::Arena;
 use crate::check_children::is_same;
 use crate::gap::Gap;
-use crate::laws::is_tumbler;
 use crate::plane::Plane;
 use crate::rebuild_node::{append_branches, seen_from};
 use crate::tree::Branch;
+use tumbler::laws::is_tumbler;
 use tumbler::{List, Memory, Tumbler};
 
 /// Children of a node that an exchange leaves or moves as a whole, as the node sees them then.
@@ -44,7 +44,8 @@ fn origins_in_front(branches: &[Branch], at: &Tumbler, gap: &Gap) -> usize
 }
 
 impl<P: Plane> Arena<P> {
-    /// A child with its displacement moved as a gap's end moves that the node sees, if all below it fits there.
+    /// A child behind a gap, moved with the gap's end by its displacement alone, if all below it fits there. Its node sees
+    /// that end at `to` before, and at `onto` after.
     fn moved_seen(
         &self,
         branch: &Branch,

@@ -12,7 +12,7 @@ use crate::summary::Summary;
 use crate::tree::{Branch, Children, Row};
 use std::alloc::Global;
 
-/// What is told of rows together.
+/// The summary of a bottom node with these rows.
 fn rows_told<P: Plane>(alloc: Global, rows: &[Row<P::Leaf>]) -> Summary
     requires { All (IsWellFormedRow P.widths) (map (plain_row P.plain) rows.now) }
     ensures { result ≡ kept (summary_in P.widths [] (Rows (map (plain_row P.plain) rows.now))) }
@@ -33,7 +33,7 @@ fn rows_told<P: Plane>(alloc: Global, rows: &[Row<P::Leaf>]) -> Summary
 }
 
 impl<P: Plane> Arena<P> {
-    /// What is told of branches together.
+    /// The summary of an inner node with these branches.
     fn branches_told(&self, branches: &[Branch]) -> Summary
         requires { IsWellFormed P.widths self.now (Branches branches.now) }
         ensures { result ≡ kept (summary_in P.widths (summaries P.widths self.now) (Branches branches.now)) }
@@ -48,7 +48,7 @@ impl<P: Plane> Arena<P> {
         summary.raised()
     }
 
-    /// What is told of children together.
+    /// The summary of a node with these children.
     pub(crate) fn children_told(&self, children: &Children<P::Leaf>) -> Summary
         requires { IsWellFormed P.widths self.now (shape P.plain children.now) }
         ensures { result ≡ kept (summary_in P.widths (summaries P.widths self.now) (shape P.plain children.now)) }

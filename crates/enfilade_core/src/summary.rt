@@ -6,7 +6,8 @@ ghost use Rattle.enfilade_core.specs.Axes.{later};
 use std::alloc::Global;
 use tumbler::Tumbler;
 
-/// Of the rows below a node.
+/// A summary of the rows below a node, kept beside its children so that no call walks a whole tree for it. All places
+/// are from the node's origin.
 #[derive(Clone, Copy)]
 pub struct Summary {
     /// How many levels of nodes are below.
@@ -23,7 +24,7 @@ pub struct Summary {
     pub second_extent: Tumbler,
 }
 
-/// From now on an extent is up to an end too.
+/// Raises an extent to an end that comes after it.
 fn extend(extent: &mut Tumbler, end: Tumbler)
     ensures { extent.new ≡ later extent.old end }
 {
@@ -36,7 +37,7 @@ impl Summary {
     ghost use Rattle.enfilade_core.specs.Summary.{no_summary, placed_summary, summary_moved, summary_joined, raised, kept};
     ghost use Rattle.enfilade_core.specs.Following.{Follows, with_last};
 
-    /// Of no rows.
+    /// The summary of no rows.
     pub(crate) fn none(alloc: Global) -> Summary
         ensures { result ≡ no_summary }
     {
@@ -51,14 +52,14 @@ impl Summary {
         }
     }
 
-    /// The same.
+    /// A copy of this summary.
     pub(crate) fn copy(&self) -> Summary
         ensures { result ≡ self.now }
     {
         *self
     }
 
-    /// Of these rows, moved on both axes.
+    /// The summary of the same rows, moved on both axes.
     pub(crate) fn moved(&self, first: &Tumbler, second: &Tumbler) -> Summary
         requires first { Fits first.now self.now.first }
         requires last { Fits first.now self.now.last }
@@ -76,7 +77,7 @@ impl Summary {
         }
     }
 
-    /// One level higher.
+    /// The summary of the same rows, for a node one level higher.
     pub(crate) fn raised(self) -> Summary
         requires { self.height + 1 < 2 ^ 64 }
         ensures { result ≡ raised self }

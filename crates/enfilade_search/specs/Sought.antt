@@ -24,7 +24,7 @@ side_by Place first second = first
 side_by First first second = first
 side_by Second first second = second
 
--- how wide a row counts: not at all where its place alone does
+-- the width by which a search compares a row with its range: none where it goes by the row's place alone
 abbrev pub width_by : {L : Type 0} → Widths L → By → Row L → List ℕ
 width_by w Place row = []
 width_by w First row = w.first row

@@ -11,9 +11,10 @@ ghost use Rattle.enfilade_search.specs.declared.sought.By.TheVariants.{Second};
 ghost use Rattle.enfilade_search.specs.Sought.{is_sought, is_past, FitsAt, ChildFits};
 
 use crate::sought::{By, Sought};
-use enfilade_core::laws::{is_tumbler, nodes_are_well_formed};
+use enfilade_core::laws::nodes_are_well_formed;
 use enfilade_core::{Arena, Branch, Children, Node, Plane, Row};
 use std::alloc::Global;
+use tumbler::laws::is_tumbler;
 use tumbler::{List, Memory, Tumbler};
 
 /// The row from a base, if it is sought, behind `out`. The answer is whether rows behind it can be sought too.

@@ -19,11 +19,12 @@ use crate::leaves::{leaves, leaves_of};
 use crate::lengthened::{Lengthened, last_lengthened};
 use crate::reading::append_node;
 use enfilade_balance::{Balance, balance_step};
-use enfilade_core::laws::{is_tumbler, nodes_are_well_formed};
+use enfilade_core::laws::nodes_are_well_formed;
 use enfilade_core::{Arena, ContentPlane, Gap, Node, TreeMark};
 use enfilade_sweep::{SweepPlan, finish_tree, plan_tree};
 use std::alloc::Global;
 use std::marker::Model;
+use tumbler::laws::is_tumbler;
 use tumbler::{Memory, Span, Text, Tumbler};
 
 /// The bytes of all documents, each at its address, in one tree.

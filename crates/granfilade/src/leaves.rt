@@ -10,7 +10,7 @@ ghost use Rattle.granfilade.specs.Leaves.{AreLeaves};
 
 use crate::parts::so_far_on;
 use enfilade_core::Row;
-use enfilade_core::laws::is_tumbler;
+use tumbler::laws::is_tumbler;
 use tumbler::{List, Memory, Text, Tumbler};
 
 /// The most bytes that a row may have.

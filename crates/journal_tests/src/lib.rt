@@ -1,4 +1,5 @@
-//! Pages on a disk in memory: what a crash leaves of two commits, of which a fault stops the first, and of openings.
+//! Pages on a disk in memory: what a crash leaves of two commits, of which a fault stops the first, of openings, and of
+//! saves.
 #![tactic(auto)]
 
 #[cfg(test)]
@@ -7,3 +8,5 @@ mod commits;
 mod gates;
 #[cfg(test)]
 mod pages;
+#[cfg(test)]
+mod saves;

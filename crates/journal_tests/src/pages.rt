@@ -58,6 +58,17 @@ pub(crate) fn first_pages(alloc: Global) -> Result<List<PageWrite>, Memory>
     Ok(pages)
 }
 
+/// The pages 1 and 2.
+pub(crate) fn next_pages(alloc: Global) -> Result<List<PageWrite>, Memory>
+    ensures { IfOk result (λ pages. AreWrites (writes_of pages.items)) }
+{
+    let mut pages = List::new(alloc);
+    pages.reserve(2)?;
+    pages.push_reserved(page_write(alloc, 1)?);
+    pages.push_reserved(page_write(alloc, 2)?);
+    Ok(pages)
+}
+
 /// One page.
 pub(crate) fn one_page(alloc: Global, number: u64) -> Result<List<PageWrite>, Memory>
     requires { number < 1099511627776 }

@@ -7,7 +7,7 @@ use crate::nodes::{append_children, children_at};
 use crate::planes::PagedPlane;
 use enfilade_core::Arena;
 use std::alloc::Global;
-use tumbler::{Memory, Text};
+use tumbler::{List, Memory, Text};
 
 /// Writes the nodes of an arena at the end of a text, in the order of their numbers, from a number on. Nodes that were
 /// added since can be written behind a stream so. What cannot be written is refused, as if memory ran out: a node with
@@ -32,21 +32,24 @@ pub fn append_nodes<P: PagedPlane>(
 
 /// The arena whose stream the bytes are. `None` exactly where they are no arena's: one byte less, one more, a node that
 /// names itself or a later one, places, widths, extents or depths that no arena has, or any field out of its bounds.
-/// Memory is taken for what the bytes hold, whatever the counts in them say.
+/// Memory is taken for what the bytes hold, whatever the counts in them say, and time goes by the bytes alone, however
+/// often nodes name the same one.
 pub fn read_nodes<P: PagedPlane>(alloc: Global, bytes: &[u8]) -> Result<Option<Arena<P>>, Memory>
     ensures { IfOk result (λ read. IsReadArena P.widths P.is_row P.row_bytes bytes.now read) }
 {
     let mut arena = Arena::new(alloc);
+    let mut reaches = List::new(alloc);
     let mut rest = bytes;
     while !rest.is_empty() {
         let Some((children, behind)) = children_at(alloc, &arena, rest)? else {
             return Ok(None);
         };
-        let is_well_formed = arena.is_well_formed(&children);
+        let is_well_formed = arena.is_well_formed_by(&children, reaches.as_slice());
         if !is_well_formed {
             return Ok(None);
         }
-        arena.add_node(children)?;
+        let node = arena.add_node(children)?;
+        arena.add_reach(node, &mut reaches)?;
         rest = behind;
     }
     let _alloc = arena.allocator();

@@ -1,5 +1,11 @@
+pub mod ChainReads
 pub mod Chaining
+pub mod FrontFields
+pub mod Gathering
+pub mod HeaderReads
 pub mod Heading
 pub mod Lists
+pub mod Meeting
 pub mod SpelledPages
+pub mod Walking
 pub mod Writing

@@ -1,5 +1,11 @@
+pub use Rattle.green_io.specs.Areas
+pub use Rattle.green_io.specs.Disk
+pub use Rattle.green_io.specs.Outside
+pub use Rattle.page_journal.specs.Answers
 pub use Rattle.page_journal.specs.Pages
 pub mod Chains
 pub mod Headers
+pub mod inside
 pub mod Laws
+pub mod Reading
 pub mod Spelled

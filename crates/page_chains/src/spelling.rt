@@ -18,7 +18,7 @@ const PAGE_BYTES: usize = 4096;
 const BODY_BYTES: usize = 4088;
 
 /// The first bytes of a header: `GREENPG1`.
-const MARK: [u8; 8] = [71, 82, 69, 69, 78, 80, 71, 49];
+pub(crate) const MARK: [u8; 8] = [71, 82, 69, 69, 78, 80, 71, 49];
 
 /// Fills the page up with zeros.
 fn pad(page: &mut Text) -> Result<(), Memory>

@@ -218,7 +218,7 @@ take-nothing zero = refl
 take-nothing (suc n) = refl
 
 -- addresses that begin at position n: those from position `from` on and before position `to`
-abbrev middle : ℕ → ℕ → ℕ → List (List ℕ) → List (List ℕ)
+abbrev pub middle : ℕ → ℕ → ℕ → List (List ℕ) → List (List ℕ)
 middle from to n xs = take (to - (n + (from - n))) (drop (from - n) xs)
 
 length-dropped : {X : Type 0} (i : ℕ) (a : List X) → length (drop i a) ≡ length a - i
@@ -226,7 +226,7 @@ length-dropped zero a = omega arith
 length-dropped (suc i) [] = omega arith
 length-dropped (suc i) (x ∷ a) = let rest = length-dropped i a in omega arith
 
-middle-over : (from to n m : ℕ) (a b : List (List ℕ)) → m ≡ n + length a → middle from to n (a ++ b) ≡ middle from to n a ++ middle from to m b
+pub middle-over : (from to n m : ℕ) (a b : List (List ℕ)) → m ≡ n + length a → middle from to n (a ++ b) ≡ middle from to n a ++ middle from to m b
 middle-over from to n m a b e =
     let j = to - (n + (from - n)) in
     let i = from - n in
@@ -239,7 +239,7 @@ middle-over from to n m a b e =
     ∙ (ap (λ (k : ℕ). take j D ++ take k (drop (i - length a) b)) rest ∙ ap (λ (k : ℕ). take j D ++ take (to - (m + (from - m))) (drop k b)) next))
 
 -- of one piece
-middle-own : (part from to n : ℕ) (x : Piece) → from < to → n < to → from < n + x.count → middle from to n (piece_addresses part x) ≡ piece_addresses part (clip from to (piece_row part n x))
+pub middle-own : (part from to n : ℕ) (x : Piece) → from < to → n < to → from < n + x.count → middle from to n (piece_addresses part x) ≡ piece_addresses part (clip from to (piece_row part n x))
 middle-own part from to n x h b e =
     let j = to - (n + (from - n)) in
     let i = from - n in
@@ -256,11 +256,14 @@ middle-own part from to n x h b e =
           take_all j (addresses_from part x.document (x.first + i) left) (omega arith) ∙ ap (addresses_from part x.document (x.first + i)) count
     ] ∙ sym clipped)
 
-middle-late : (from to n : ℕ) (xs : List (List ℕ)) → to ≤ n → middle from to n xs ≡ []
+pub middle-late : (from to n : ℕ) (xs : List (List ℕ)) → to ≤ n → middle from to n xs ≡ []
 middle-late from to n xs h = let none : to - (n + (from - n)) ≡ 0 = omega arith in ap (λ (k : ℕ). take k (drop (from - n) xs)) none
 
-middle-early : (from to n : ℕ) (xs : List (List ℕ)) → n + length xs ≤ from → middle from to n xs ≡ []
+pub middle-early : (from to n : ℕ) (xs : List (List ℕ)) → n + length xs ≤ from → middle from to n xs ≡ []
 middle-early from to n xs h = ap (take (to - (n + (from - n)))) (drop-past-all (from - n) xs (omega arith)) ∙ take-nothing (to - (n + (from - n)))
+
+pub no-middle : (from to n : ℕ) → middle from to n [] ≡ []
+no-middle from to n = ap (take (to - (n + (from - n)))) (drop-past-all (from - n) [] (omega arith)) ∙ take-nothing (to - (n + (from - n)))
 
 -- of all pieces of a part
 kept_one : (part from to n : ℕ) (x : Piece) (rows : List (Row ℕ)) (b : Bool) → overlaps part from to (piece_row part n x) ≡ b
@@ -268,7 +271,7 @@ kept_one : (part from to n : ℕ) (x : Piece) (rows : List (Row ℕ)) (b : Bool)
 kept_one part from to n x rows b e = ap (λ (t : Bool). laid_between part from to (if t then piece_row part n x ∷ filter (overlaps part from to) rows else filter (overlaps part from to) rows)) e
 
 own_between_rows : (part from to n : ℕ) (xs : List Piece) → from < to → All IsPiece xs → laid_between part from to (filter (overlaps part from to) (rows_from part n xs)) ≡ middle from to n (laid part xs)
-own_between_rows part from to n [] h each = sym (ap (take (to - (n + (from - n)))) (drop-past-all (from - n) [] (omega arith)) ∙ take-nothing (to - (n + (from - n))))
+own_between_rows part from to n [] h each = sym (no-middle from to n)
 own_between_rows part from to n (x ∷ xs) h each =
     let is = All-head IsPiece x xs each in
     let filled = is.filled in

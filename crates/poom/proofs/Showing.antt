@@ -154,7 +154,7 @@ standing_shown Links span rows one = ap (shown_by_all 2 span) one.gapless ∙ do
 only_meeting : (part : ℕ) (span : Span) (rows : List (Row ℕ)) → IsTumbler span.start → All IsPieceRow rows → shown_by_all part span (filter (is_met span) rows) ≡ shown_by_all part span rows
 only_meeting part span rows start each = skipped (shown_by part span) (is_met span) rows (All-weaker IsPieceRow (λ row. is_met span row ≡ false → shown_by part span row ≡ []) (λ row r. row_not_met part span row start r) rows each)
 
-document_rows : (rows : List (Row ℕ)) → IsOneDocument rows → All IsPieceRow rows
+pub document_rows : (rows : List (Row ℕ)) → IsOneDocument rows → All IsPieceRow rows
 document_rows rows one =
     let made = made_of rows one in
     let few = made.few in

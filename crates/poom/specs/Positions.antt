@@ -53,7 +53,7 @@ pub record StandsBetween (part from to : ℕ) (row : Row ℕ) : Type 0 where
   pub begins : n < to
   pub ends : from < n + piece.count
 
--- what of a row's piece does
+-- the part of a row's piece that stands from position `from` on and before position `to`
 abbrev pub clip : ℕ → ℕ → Row ℕ → Piece
 clip from to row = record {
   document = (row_piece row).document;
@@ -61,7 +61,7 @@ clip from to row = record {
   count = min (row_piece row).count (to - place row.first 1) - (from - place row.first 1);
 }
 
--- that of rows, address by address
+-- those parts of the pieces of rows, address by address
 abbrev pub laid_between : ℕ → ℕ → ℕ → List (Row ℕ) → List (List ℕ)
 laid_between part from to rows = flat_map (λ row. piece_addresses part (clip from to row)) rows
 

@@ -16,9 +16,9 @@ use crate::piece::Piece;
 use crate::poom::Poom;
 use crate::put::put;
 use enfilade_core::Node;
-use enfilade_core::laws::is_tumbler;
 use febe_data::Run;
 use std::alloc::Global;
+use tumbler::laws::is_tumbler;
 use tumbler::{List, Memory, Tumbler};
 
 /// The piece of a run.

@@ -11,10 +11,10 @@ ghost use Rattle.poom.specs.Positions.{positions_of, IsInterval, shown_by, shown
 use crate::exchange::position;
 use crate::part::Part;
 use crate::poom::Poom;
-use enfilade_core::laws::is_tumbler;
 use enfilade_core::{Node, Row};
 use enfilade_search::meeting;
 use std::alloc::Global;
+use tumbler::laws::is_tumbler;
 use tumbler::{List, Memory, Span, Tumbler};
 
 /// Positions of a part that follow each other. There may be none.

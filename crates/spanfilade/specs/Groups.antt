@@ -9,11 +9,11 @@ use Rattle.enfilade_core.specs.Edits.{put_before}
 abbrev pub IsPast : {L : Type 0} → List ℕ → Row L → Type 0
 IsPast at r = IsUpTo at r.first
 
--- a row that is not before a place is at or past n
+-- if the row r is not before a place, it is at or past the row n
 abbrev pub IsBehind : {L : Type 0} → List ℕ → Row L → Row L → Type 0
 IsBehind at n r = comes_before r.first at ≡ false → IsUpTo n.first r.first
 
--- so are all rows
+-- all rows that are not before a place are at or past the row n
 abbrev pub AreBehind : {L : Type 0} → List ℕ → List (Row L) → Row L → Type 0
 AreBehind at rows n = All (IsBehind at n) rows
 

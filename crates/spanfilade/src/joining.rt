@@ -8,8 +8,8 @@ ghost use Rattle.enfilade_core.specs.Axes.{later};
 ghost use Rattle.spanfilade.specs.Apart.{AreApart, IsByStart, IsJoined};
 ghost use Rattle.spanfilade.specs.Keys.{is_met, is_met_by};
 
-use enfilade_core::laws::is_tumbler;
 use std::alloc::Global;
+use tumbler::laws::is_tumbler;
 use tumbler::{List, Memory, Span, Tumbler};
 
 /// The one of two places that comes later.

@@ -10,8 +10,9 @@ ghost use Rattle.enfilade_core.specs.Edits.{KeepsRows};
 ghost use Rattle.spanfilade.specs.Index.{IsLonger, IsLengthened};
 
 use crate::joining::later;
-use enfilade_core::laws::{is_tumbler, nodes_are_well_formed};
+use enfilade_core::laws::nodes_are_well_formed;
 use enfilade_core::{Arena, Gap, KeyPlane, Node, Row};
+use tumbler::laws::is_tumbler;
 use tumbler::{List, Memory, Span, Tumbler};
 
 /// Whether what ends here goes on with a span: it ends where the span starts, or behind that. A span of no width is at

@@ -20,13 +20,13 @@ use crate::joining::{by_start, joined};
 use crate::keys::{listed, take_keys};
 use crate::lengthening::{longer_row, put_longer};
 use enfilade_balance::{Balance, balance_step};
-use enfilade_core::laws::is_tumbler;
 use enfilade_core::{Arena, KeyPlane, Node, Row, TreeMark};
 use enfilade_search::{overlapping, overlapping_up_to};
 use enfilade_sweep::{SweepPlan, finish_tree, plan_tree};
 use std::alloc::Global;
 use std::collections::BTreeSet;
 use std::marker::Model;
+use tumbler::laws::is_tumbler;
 use tumbler::{List, Memory, Span, Tumbler};
 
 /// Spans, each with the key that it was added for.

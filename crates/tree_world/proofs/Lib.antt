@@ -41,6 +41,7 @@ pub mod Sizes
 pub mod Covering
 pub mod BytesCome
 pub mod TextCame
+pub mod TextRead
 pub mod Whole
 pub mod LinkMade
 pub mod Brought

@@ -7,3 +7,4 @@ pub mod Asked
 pub mod SameRows
 pub mod Swept
 pub mod Marked
+pub mod Wanted

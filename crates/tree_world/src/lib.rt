@@ -28,6 +28,7 @@ mod run_spans;
 mod sessions;
 mod sweeping;
 mod tending;
+mod text_reading;
 mod undoing;
 mod world;
 

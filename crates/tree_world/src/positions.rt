@@ -8,7 +8,7 @@ use febe_data::{Span, Tumbler};
 
 /// The first of so many positions of a part that does not come before a place, or one past the end.
 #[tactic(auto, using(poom::proofs::Bounded::bounded))]
-fn bound(part: u32, place: &Tumbler, long: u32) -> u32
+pub(crate) fn bound(part: u32, place: &Tumbler, long: u32) -> u32
     requires { long ≤ 4294967294 }
     ensures { IsBound part place.now long result }
 {

@@ -1,22 +1,27 @@
 //! What a retrieve gives: how much it is, and its items.
-ghost use Rattle.std.specs.Prelude.{◌≡◌, ℕ, ◌+◌, ◌-◌, ◌^◌, ◌≤◌, ◌++◌, min, map, length, false, All, IfOk, OnOk};
+ghost use Rattle.std.specs.Prelude.{◌≡◌, ◌+◌, ◌-◌, ◌^◌, ◌≤◌, ◌++◌, min, map, length, false, All, IfOk, OnOk};
 ghost use Rattle.std.specs.List.{list_any, sum_by};
 ghost use Rattle.tumbler.specs.Span.{SpanFits};
 ghost use Rattle.febe_data.specs.Plain.{plain_spec, plain_item, link};
 ghost use Rattle.granfilade.specs.Content.{content, tree_rows};
 ghost use Rattle.granfilade.specs.Puts.{IsContent};
-ghost use Rattle.poom.specs.Edited.{IsContentRun, run_addresses};
+ghost use Rattle.enfilade_core.specs.Rows.{rows_of};
+ghost use Rattle.poom.specs.Laid.{IsRoot, texts};
+ghost use Rattle.poom.specs.Picked.{picked_from};
 ghost use Rattle.world_rules.specs.FlatView.{FlatView};
 ghost use Rattle.world_rules.specs.Answers.{items_of, NamesTumbler};
 ghost use Rattle.world_rules.specs.Refusals.{is_bad_span, has_bad_span, total_of, span_bytes, span_items};
 ghost use Rattle.tree_world.specs.Trees.{text_in, links_in};
 ghost use Rattle.tree_world.specs.Standing.{Stands};
-ghost use Rattle.tree_world.specs.inside.Seen.{text_count, item_count, text_picked, links_picked, bytes_found, text_item, items_picked, items_by_spec, items_by_specs};
+ghost use Rattle.tree_world.specs.inside.Seen.{text_count, item_count, text_picked, links_picked, text_item, items_picked, items_by_spec, items_by_specs};
 
-use crate::run_spans::run_span;
+use crate::positions::bound;
+use crate::text_reading::text_between;
 use crate::world::TreeWorld;
-use febe_data::{Item, List, Memory, Run, Span, Spec, Text, Tumbler};
+use enfilade_core::Node;
+use febe_data::{Item, List, Memory, Span, Spec, Tumbler};
 use granfilade::Granfilade;
+use poom::Poom;
 use std::alloc::Global;
 use world_rules::{Size, WorldError};
 
@@ -86,47 +91,30 @@ impl TreeWorld {
     }
 }
 
-/// How many bytes runs have, up to the greatest `usize`.
-fn room_for(runs: &[Run]) -> usize {
-    let mut bytes: usize = 0;
-    for run in runs {
-        bytes = bytes.saturating_add(run.length as usize);
-    }
-    bytes
-}
-
-/// The bytes of runs, one run after the other.
-#[tactic(auto, using(crate::proofs::Retrieved::run_steps))]
-fn text_of(alloc: Global, contents: &Granfilade, runs: &[Run]) -> Result<Text, Memory>
-    requires contents { IsContent (tree_rows contents.now) }
-    requires runs { All IsContentRun runs.now }
-    ensures { IfOk result (λ text. text.items ≡ bytes_found (content contents.now) (run_addresses runs.now)) }
-{
-    let mut text = List::new(alloc);
-    text.reserve(room_for(runs))?;
-    for run in runs {
-        contents.bytes_of(&run_span(run), &mut text)?;
-    }
-    Ok(text)
-}
-
-/// Adds one item with the bytes of the runs, where there are any.
-#[tactic(auto, using(crate::proofs::Retrieved::text_steps))]
+/// Adds one item with the bytes that a span picks from a tree's text, which is so long, where it picks any.
 fn push_text(
     alloc: Global,
     items: &mut List<Item>,
     contents: &Granfilade,
-    runs: &[Run],
+    pooms: &Poom,
+    root: Node,
+    long: u32,
+    span: &Span,
 ) -> Result<(), Memory>
     requires contents { IsContent (tree_rows contents.now) }
-    requires runs { All IsContentRun runs.now }
-    ensures items { OnOk result (map plain_item items.new.items ≡ map plain_item items.old.items ++ text_item (content contents.now) (run_addresses runs.now)) }
+    requires root { IsRoot pooms.now root.0 }
+    requires fits { SpanFits span.now }
+    requires long { long ≡ length (texts (rows_of pooms.now root.0)) }
+    requires few { long ≤ 4294967294 }
+    ensures items { OnOk result (map plain_item items.new.items ≡ map plain_item items.old.items ++ text_item (content contents.now) (picked_from 1 span.now 1 (texts (rows_of pooms.now root.0)))) }
     ensures valid { OnOk result (All NamesTumbler (map plain_item items.old.items) → All NamesTumbler (map plain_item items.new.items)) }
 {
-    if runs.is_empty() {
+    let from = bound(1, &span.start, long);
+    let to = bound(1, &span.start.add(&span.width), long);
+    if to <= from {
         return Ok(());
     }
-    let text = text_of(alloc, contents, runs)?;
+    let text = text_between(alloc, contents, pooms, root, from, to)?;
     items.push(Item::Bytes(text))
 }
 
@@ -167,8 +155,10 @@ impl TreeWorld {
         ensures items { OnOk result (map plain_item items.new.items ≡ map plain_item items.old.items ++ text_item (content self.now.contents) (text_picked self.now document.now span.now)) }
         ensures valid { OnOk result (All NamesTumbler (map plain_item items.old.items) → All NamesTumbler (map plain_item items.new.items)) }
     {
-        let runs = self.span_runs(document, long, span)?;
-        push_text(alloc, items, &self.contents, runs.as_slice())
+        let Some(root) = self.documents.root(document) else {
+            return Ok(());
+        };
+        push_text(alloc, items, &self.contents, &self.pooms, root, long, span)
     }
 
     /// Adds the links that a span picks from a document's, which are so many.

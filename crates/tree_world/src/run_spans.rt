@@ -8,7 +8,7 @@ use febe_data::{List, Memory, Run, Span, Tumbler};
 use std::alloc::Global;
 
 /// The addresses of a run's bytes.
-pub(crate) fn run_span(run: &Run) -> Span
+fn run_span(run: &Run) -> Span
     requires { IsContentRun run.now }
     ensures value { result ≡ run_span run.now }
     ensures fits { SpanFits result }

@@ -21,18 +21,18 @@ returns-then-not-is_same-2-clause-none g c = λ p.
 pub returns-then-not-has_room-clause-none : goal.returns-then-not-has_room-clause-none
 returns-then-not-has_room-clause-none g c = λ p.
     let t = tested g.P.Plane.widths g.met.P.Plane.widths_stay c.args.self.now c.summary-summary.ensures.well_formed c.args.branch.now c.summary-summary.result.now c.summary-summary.ensures.told p in
-    let is = c.has_room.ensures.1 (subst (HasRoom c.args.branch.now.first) (sym c.reach_below-reach.ensures.first) t.first_room) in cc
+    let is = c.has_room.ensures.1 (subst (HasRoom c.args.branch.now.first) (sym c.reach-reach.ensures.first) t.first_room) in cc
 
 pub returns-then-not-has_room-2-clause-none : goal.returns-then-not-has_room-2-clause-none
 returns-then-not-has_room-2-clause-none g c = λ p.
     let t = tested g.P.Plane.widths g.met.P.Plane.widths_stay c.args.self.now c.summary-summary.ensures.well_formed c.args.branch.now c.summary-summary.result.now c.summary-summary.ensures.told p in
-    let is = c.has_room-2.ensures.1 (subst (HasRoom c.args.branch.now.second) (sym c.reach_below-reach.ensures.second) t.second_room) in cc
+    let is = c.has_room-2.ensures.1 (subst (HasRoom c.args.branch.now.second) (sym c.reach-reach.ensures.second) t.second_room) in cc
 
 pub moved-requires : goal.moved-requires
 moved-requires g c =
     let below = subst (λ n. c.args.branch.now.node.0 < n) c.count.ensures c.if-branch-count.false in
-    let room = subst (HasRoom c.args.branch.now.first) c.reach_below-reach.ensures.first (c.has_room.ensures.0 c.if-not-has_room.false) in
-    let room2 = subst (HasRoom c.args.branch.now.second) c.reach_below-reach.ensures.second (c.has_room-2.ensures.0 c.if-not-has_room-2.false) in
+    let room = subst (HasRoom c.args.branch.now.first) c.reach-reach.ensures.first (c.has_room.ensures.0 c.if-not-has_room.false) in
+    let room2 = subst (HasRoom c.args.branch.now.second) c.reach-reach.ensures.second (c.has_room-2.ensures.0 c.if-not-has_room-2.false) in
     let m = moves-there g.P.Plane.widths g.met.P.Plane.widths_stay c.args.self.now c.summary-summary.ensures.well_formed c.args.branch.now.node.0 c.args.branch.now.first c.args.branch.now.second c.summary-summary.result.now
     c.summary-summary.ensures.told below c.is_tumbler.ensures c.is_tumbler-2.ensures room room2 in
     record { first = m.first; last = m.last; first_extent = m.first_extent; second_extent = m.second_extent }
@@ -45,8 +45,8 @@ returns-clause-some g c =
             leaves = c.if-summary-eq0.false;
             first_extent = c.is_same.ensures.0 c.if-not-is_same.false;
             second_extent = c.is_same-2.ensures.0 c.if-not-is_same-2.false;
-            first_room = subst (HasRoom c.args.branch.now.first) c.reach_below-reach.ensures.first (c.has_room.ensures.0 c.if-not-has_room.false);
-            second_room = subst (HasRoom c.args.branch.now.second) c.reach_below-reach.ensures.second (c.has_room-2.ensures.0 c.if-not-has_room-2.false);
+            first_room = subst (HasRoom c.args.branch.now.first) c.reach-reach.ensures.first (c.has_room.ensures.0 c.if-not-has_room.false);
+            second_room = subst (HasRoom c.args.branch.now.second) c.reach-reach.ensures.second (c.has_room-2.ensures.0 c.if-not-has_room-2.false);
           },
       c.moved.ensures ∙ ap (summary_moved c.args.branch.now.first c.args.branch.now.second) c.summary-summary.ensures.told,
     )

@@ -1,0 +1,12 @@
+pub mod Answering
+pub mod BesideHeader
+pub mod Copied
+pub mod Cut
+pub mod EachBeside
+pub mod Ending
+pub mod Grouped
+pub mod Keeping
+pub mod Leading
+pub mod OneByOne
+pub mod Planned
+pub mod Staying

@@ -1,0 +1,4 @@
+pub mod Courses
+pub mod Plans
+pub mod Resting
+pub mod inside

@@ -1,0 +1,4 @@
+pub mod Plain
+pub mod TableBytes
+pub mod TableReading
+pub mod Laws

@@ -1,0 +1,4 @@
+pub mod Trees
+pub mod inside
+pub use Rattle.page_chains.specs.Chains
+pub use Rattle.page_tables.specs.Plain
