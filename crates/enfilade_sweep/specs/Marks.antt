@@ -1,4 +1,4 @@
--- Marks beside nodes, by number. Only private functions cite this.
+-- Which nodes are marked, by their numbers, while a sweep looks for what its roots reach.
 use Rattle.std.specs.Prelude.{◌≡◌, ◌⊎◌, ◌↔◌, ℕ, ◌≤◌, Bool, List, length, IsTrue}
 use Rattle.std.specs.List.{Contains}
 use Rattle.enfilade_core.specs.Rows.{Shape, node_at}

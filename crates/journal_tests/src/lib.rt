@@ -5,6 +5,8 @@
 #[cfg(test)]
 mod commits;
 #[cfg(test)]
+mod flushes;
+#[cfg(test)]
 mod gates;
 #[cfg(test)]
 mod pages;

@@ -1,13 +1,12 @@
--- The trees and tables that pages hold.
+-- The trees and tables that streams spell.
 use Rattle.std.specs.Prelude.{◌≡◌, ℕ, ◌<◌, List, [], length, map, Option, Some, None, slice_index_or}
 use Rattle.tumbler.specs.ListView.{ListView}
 use Rattle.enfilade_core.specs.Rows.{Shape}
 use Rattle.enfilade_core.specs.Planes.{content_widths, text_widths, key_widths}
 use Rattle.node_pages.specs.NodeBytes.{content_row_bytes, text_row_bytes, key_row_bytes, IsContentRow, IsTextRow, IsKeyRow}
 use Rattle.node_pages.specs.Streams.{Spells}
-use Rattle.page_journal.specs.Pages.{Bytes, Pages}
+use Rattle.page_journal.specs.Pages.{Bytes}
 use Rattle.page_chains.specs.Chains.{PlainChain}
-use Rattle.page_chains.specs.Headers.{HasHeader}
 use Rattle.page_tables.specs.declared.tables.TableDocument.{TableDocument}
 use Rattle.page_tables.specs.Plain.{PlainTables, plain_tables}
 use Rattle.page_tables.specs.TableBytes.{AreTablesOf}
@@ -68,14 +67,12 @@ pub record HaveRoots (trees : PlainTrees) : Type 0 where
   pub to : trees.tables.to < length trees.to
   pub three : trees.tables.three < length trees.three
 
--- the pages hold these trees at this position, and each root is there
-pub record HasTrees (pages : Pages) (trees : PlainTrees) (position : ℕ) : Type 0 where
-  pub chains : List PlainChain
-  pub header : HasHeader pages chains position
+-- the streams spell these trees, and each root is there
+pub record AreTrees (chains : List PlainChain) (trees : PlainTrees) : Type 0 where
   pub streams : AreStreams chains trees
   pub roots : HaveRoots trees
 
--- the trees that were found are so; or there are none, at any position
-abbrev pub IsReadTrees : Pages → Option PageTrees → Type 0
-IsReadTrees pages (Some found) = HasTrees pages (plain_trees found) found.position
-IsReadTrees pages None = (trees : PlainTrees) (position : ℕ) → ¬ HasTrees pages trees position
+-- the trees that were found are what the streams spell, and have the header's position; or the streams spell no trees
+abbrev pub AreFound : List PlainChain → ℕ → Option PageTrees → Type 0
+AreFound chains position (Some found) = AreTrees chains (plain_trees found) × (found.position ≡ position)
+AreFound chains position None = (trees : PlainTrees) → ¬ AreTrees chains trees

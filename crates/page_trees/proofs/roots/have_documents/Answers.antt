@@ -1,4 +1,4 @@
-use Rattle.page_trees.proofs.Rooted.{rooted-none, rooted-more, not-rooted, all-rooted}
+use Rattle.page_trees.proofs.Rooted.{rooted-none, rooted-more}
 use Rattle.page_trees.proofs.roots.have_documents.Goals as goal
 
 pub loop-row-init : goal.loop-row-init

@@ -1,0 +1,13 @@
+pub mod Tested
+pub mod ByteRows
+pub mod DocumentBytes
+pub mod ApartRows
+pub mod ContentRows
+pub mod ShownRows
+pub mod PartRows
+pub mod Sought
+pub mod ListedBytes
+pub mod ListedLinks
+pub mod BackedRows
+pub mod SeenRoots
+pub mod SoundTrees

@@ -1,0 +1,5 @@
+pub mod Streaming
+pub mod Finding
+pub mod Owning
+pub mod Showing
+pub mod Ends

@@ -1,0 +1,5 @@
+pub mod SortedSame
+pub mod RowOrder
+pub mod Reaching
+pub mod CoveredRows
+pub mod RunRows

@@ -1,0 +1,3 @@
+pub mod Order
+pub mod Addressed
+pub mod Points

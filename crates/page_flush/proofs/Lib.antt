@@ -1,0 +1,9 @@
+pub mod Blanking
+pub mod FreshPages
+pub mod Heads
+pub mod Leadings
+pub mod Outcomes
+pub mod Plannings
+pub mod PreparedWrites
+pub mod SparedPages
+pub mod SpellSteps

@@ -1,0 +1,3 @@
+pub mod FlushView
+pub mod Saving
+pub mod inside

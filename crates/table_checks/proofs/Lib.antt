@@ -1,0 +1,9 @@
+pub mod Tested
+pub mod Ordered
+pub mod Listed
+pub mod Elders
+pub mod HomeOrder
+pub mod Numbered
+pub mod HomeCount
+pub mod LinkEnds
+pub mod SoundParts

@@ -1,0 +1,2 @@
+-- Where searches end. No public clause cites these.
+pub mod Places

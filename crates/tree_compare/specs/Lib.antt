@@ -1,0 +1,4 @@
+pub mod inside
+pub mod RowAddresses
+pub mod Stretches
+pub mod Laws

@@ -1,0 +1,10 @@
+pub mod Listed
+pub mod Documents
+pub mod World
+pub mod TablesSound
+pub mod Held
+pub mod Bytes
+pub mod Rising
+pub mod ContentsSound
+pub mod Kept
+pub mod Stored
