@@ -26,7 +26,7 @@ use Rattle.page_saves.specs.Courses.{Aside, Kept}
 use Rattle.page_trees.specs.Trees.{plain_trees, AreTrees, AreFound, stream}
 use Rattle.green_flush.specs.declared.trees.Trees.{Trees}
 use Rattle.green_flush.specs.Sound.{AreSound}
-use Rattle.green_flush.specs.Loads.{Loads}
+use Rattle.green_flush.specs.Loads.{Loads, HasLoaded}
 use Rattle.green_flush.specs.Standing.{FlushView, AreCounts, IsOpened}
 use Rattle.green_flush.specs.inside.Finding.{HaveNone, AreFoundSound, put_aside, GoesOnOver, IsOpenedOver}
 use Rattle.green_flush.proofs.Held.{log-stays}
@@ -83,6 +83,15 @@ over-opened : (disk : DiskState) (journal : JournalView) (home : Bytes) (chains 
     IsClean disk journal home → HasHeader (pages_of home) chains position → IsOpenedOver chains position journal flush loaded → IsOpened (pages_of home) disk flush loaded
 over-opened disk journal home chains position flush None clean header over = aside-opened disk journal home flush clean (none-loads (pages_of home) chains position header over.0) over.1
 over-opened disk journal home chains position flush (Some loaded) clean header over = found-opened disk journal home chains position flush loaded clean header over
+
+-- ---- what was loaded, on any disk
+
+pub none-loaded : (loaded : Option (Trees × ℕ)) → loaded ≡ None → HasLoaded loaded
+none-loaded loaded is = subst HasLoaded (sym is) tt
+
+pub over-loaded : (chains : List PlainChain) (position : ℕ) (journal : JournalView) (flush : FlushView) (loaded : Option (Trees × ℕ)) → IsOpenedOver chains position journal flush loaded → HasLoaded loaded
+over-loaded chains position journal flush None over = tt
+over-loaded chains position journal flush (Some loaded) over = (over.plain, record { are = over.trees; roots = over.are.roots; sound = over.sound })
 
 -- ---- the disk
 

@@ -4,7 +4,7 @@ use Rattle.page_journal.specs.Pages.{Pages}
 use Rattle.page_chains.specs.Chains.{PlainChain}
 use Rattle.page_chains.specs.Headers.{HasHeader}
 use Rattle.page_tables.specs.TableBytes.{AreTablesOf}
-use Rattle.page_trees.specs.Trees.{PlainTrees, AreTrees}
+use Rattle.page_trees.specs.Trees.{PlainTrees, HaveRoots, AreTrees}
 use Rattle.green_flush.specs.declared.trees.Trees.{Trees}
 use Rattle.green_flush.specs.Sound.{AreSound, content_tree, index_tree}
 
@@ -34,6 +34,17 @@ pub record ArePlain (trees : Trees) (plain : PlainTrees) : Type 0 where
   pub to : trees.to ≡ index_tree plain.to plain.tables.to
   pub three : trees.three ≡ index_tree plain.three plain.tables.three
   pub tables : AreTablesOf plain.tables trees.tables.items
+
+-- these are the trees, with their roots, and they pass the tests of loading
+pub record AreLoaded (trees : Trees) (plain : PlainTrees) : Type 0 where
+  pub are : ArePlain trees plain
+  pub roots : HaveRoots plain
+  pub sound : AreSound plain
+
+-- so are what was loaded, if anything was
+abbrev pub HasLoaded : Option (Trees × ℕ) → Type 0
+HasLoaded None = Unit {0}
+HasLoaded (Some loaded) = (plain : PlainTrees) × AreLoaded loaded.0 plain
 
 -- what was loaded is this
 abbrev pub AreThat : Option (Trees × ℕ) → Option TreesAt → Type 0

@@ -1,5 +1,5 @@
 //! Saves of trees.
-ghost use Rattle.std.specs.Prelude.{◌≡◌, ℕ, ◌≤◌, true, None, Option as OptionOf, IfOk, OnOk, OnErr, is_some, length};
+ghost use Rattle.std.specs.Prelude.{◌≡◌, ◌⊎◌, ℕ, ◌≤◌, true, None, Option as OptionOf, IfOk, OnOk, OnErr, is_some, length};
 ghost use Rattle.green_io.specs.Disk.{LeavesOnly, LeavesBut};
 ghost use Rattle.green_io.specs.Outside.{HasRisen};
 ghost use Rattle.page_journal.specs.Answers.{OnDiskFault};
@@ -203,7 +203,8 @@ impl Flush {
     ///
     /// Of each arena the nodes that came in since the last save are written behind those that the pages hold, or all of them
     /// after [`Flush::renew`] and after a save that failed; the tables are written whole. While it runs opening and loading any
-    /// image gives what was held before, what an earlier save that stopped had found, or the trees that are given.
+    /// image gives what was held before, what an earlier save that stopped had found, or the trees that are given. Where it
+    /// fails, nothing was done, or the next save writes every stream anew.
     pub fn save<D: Disk>(
         &mut self,
         alloc: Global,
@@ -220,6 +221,7 @@ impl Flush {
         ensures any_moment { (was now : OptionOf TreesAt) (plain : PlainTrees) → StandsOn (D.state disk.old) self.old was now → MayBeSaved self.old now (record { granfilade = granfilade.now; poom = poom.now; spanfilade = spanfilade.now; from = from.now; to = to.now; three = three.now; tables = tables.now }) plain → LeavesOnly (D.state disk.old) (D.state disk.new) (LoadsOne was now (trees_at plain position)) }
         ensures done { (was now : OptionOf TreesAt) (plain : PlainTrees) → StandsOn (D.state disk.old) self.old was now → MayBeSaved self.old now (record { granfilade = granfilade.now; poom = poom.now; spanfilade = spanfilade.now; from = from.now; to = to.now; three = three.now; tables = tables.now }) plain → OnOk result (IsSaved (D.state disk.new) self.new (trees_at plain position)) }
         ensures fails { (was now : OptionOf TreesAt) (plain : PlainTrees) → StandsOn (D.state disk.old) self.old was now → MayBeSaved self.old now (record { granfilade = granfilade.now; poom = poom.now; spanfilade = spanfilade.now; from = from.now; to = to.now; three = three.now; tables = tables.now }) plain → OnErr result (IsStopped (D.state disk.new) self.new was now (trees_at plain position)) }
+        ensures anew { OnErr result (((self.new ≡ self.old) × (disk.new ≡ disk.old)) ⊎ (self.new.pages.kept ≡ None)) }
         ensures others { LeavesBut is_paged (D.state disk.old) (D.state disk.new) }
         ensures never_falls { D.fault_count disk.old ≤ D.fault_count disk.new }
         ensures failed { OnDiskFault result (HasRisen (D.fault_count disk.old) (D.fault_count disk.new)) }

@@ -7,7 +7,7 @@ ghost use Rattle.page_journal.specs.Images.{GivesSettled, is_paged};
 ghost use Rattle.page_journal.specs.JournalBytes.{opened};
 ghost use Rattle.page_chains.specs.Reading.{plain_chains};
 ghost use Rattle.page_trees.specs.Trees.{stream};
-ghost use Rattle.green_flush.specs.Loads.{IsLoaded};
+ghost use Rattle.green_flush.specs.Loads.{HasLoaded, IsLoaded};
 ghost use Rattle.green_flush.specs.Standing.{IsOpened};
 ghost use Rattle.green_flush.specs.inside.Finding.{AreFoundSound, put_aside, IsOpenedOver};
 
@@ -86,6 +86,7 @@ impl Opened {
 pub fn open_pages<D: Disk>(alloc: Global, disk: &mut D) -> Result<Opened, PageFault>
     ensures any_moment { WhereTold (D.state disk.old).reads (λ areas. LeavesOnly (D.state disk.old) (D.state disk.new) (GivesSettled areas)) }
     ensures opened { IfOk result (λ made. WhereTold (D.state disk.old).reads (λ areas. IsOpened (opened areas) (D.state disk.new) made.flush made.trees)) }
+    ensures sound { IfOk result (λ made. HasLoaded made.trees) }
     ensures others { LeavesBut is_paged (D.state disk.old) (D.state disk.new) }
     ensures never_falls { D.fault_count disk.old ≤ D.fault_count disk.new }
     ensures failed { OnDiskFault result (HasRisen (D.fault_count disk.old) (D.fault_count disk.new)) }

@@ -1,12 +1,12 @@
 -- What a step of a store is as a play on the housed one.
-use Rattle.std.proofs.Common.{◌≡◌, ◌≢◌, ◌⊎◌, inl, inr, ◌∙◌, ℕ, ◌+◌, ◌*◌, ◌<◌, ◌≤◌, Bool, true, false, List, [], ◌∷◌, ◌++◌, refl, ap, sym, arith}
-use Rattle.std.specs.Prelude.{◌||◌, nat_lt, if◌then◌else◌}
+use Rattle.std.proofs.Common.{◌≡◌, ◌≢◌, ◌⊎◌, inl, inr, ◌∙◌, ℕ, ◌+◌, ◌-◌, ◌*◌, ◌<◌, ◌≤◌, Bool, true, false, List, [], ◌∷◌, ◌++◌, length, refl, ap, sym, arith}
+use Rattle.std.specs.Prelude.{◌||◌, drop, nat_le, nat_lt, if◌then◌else◌}
 use Rattle.std.proofs.lemmas.Bool.{true≢false}
 use Rattle.std.proofs.lemmas.Bool.Decides.{nat_tests}
 use Rattle.std.proofs.lemmas.List.{append-nil}
 use Rattle.febe_data.specs.Plain.{PlainRequest, plain_request, PlainReply, plain_reply, PlainEntry}
 use Rattle.history_lock.specs.Histories.{Grows}
-use Rattle.world_rules.specs.History.{is_live}
+use Rattle.world_rules.specs.History.{is_live, durable_entries}
 use Rattle.green_store.specs.declared.housed.HouseJob.{HouseJob}
 use Rattle.green_store.specs.declared.housed.HouseJob.TheVariants as jobs
 use Rattle.green_store.specs.declared.step.Step.{Step}
@@ -15,7 +15,7 @@ use Rattle.green_store.specs.declared.step.StepAnswer.{StepAnswer}
 use Rattle.green_store.specs.declared.step.StepAnswer.TheVariants as answers
 use Rattle.green_store.specs.Durable.{has_risen}
 use Rattle.green_store.specs.HousePlays.{step_for, number_after, HousePlays, PlaysReply}
-use Rattle.green_store.specs.IsStep.{IsStep, IsBegun, IsReplied, MayBalance, MaySweep, UnlessAsked}
+use Rattle.green_store.specs.IsStep.{IsStep, IsBegun, IsReplied, MayBalance, MayFlush, MaySweep, IsFlushed, unsaved, UnlessTended, OnTended}
 use Rattle.green_store.specs.Laws.{AddsOwn}
 use Rattle.green_store.specs.Marks.{owner_of, numbers_of, marks_of, due_in}
 use Rattle.green_store.specs.Sessions.{begin_entry, end_entry}
@@ -24,21 +24,24 @@ use Rattle.green_store.proofs.Owners.{legal_steps_add_own, next_has_none}
 
 -- ---- what is due
 
-due_number : Bool → Bool → ℕ
-due_number allows many = if allows || many then 1 else 0
+due_number : Bool → Bool → Bool → ℕ
+due_number allows unsaved many = if allows || unsaved || many then 1 else 0
 
-due_where : (allows many : Bool) → (allows ≡ true) ⊎ (many ≡ true) → due_number allows many ≡ 1
+due_where : (allows unsaved many : Bool) → (allows ≡ true) ⊎ ((unsaved ≡ true) ⊎ (many ≡ true)) → due_number allows unsaved many ≡ 1
 unfolding due_number
-due_where true many is = refl
-due_where false true is = refl
-due_where false false (inl is) = absurd (true≢false (sym is))
-due_where false false (inr is) = absurd (true≢false (sym is))
+due_where true unsaved many is = refl
+due_where false true many is = refl
+due_where false false true is = refl
+due_where false false false (inl is) = absurd (true≢false (sym is))
+due_where false false false (inr (inl is)) = absurd (true≢false (sym is))
+due_where false false false (inr (inr is)) = absurd (true≢false (sym is))
 
-none_where : (allows many : Bool) → allows ≡ false → many ≡ false → due_number allows many ≡ 0
+none_where : (allows unsaved many : Bool) → allows ≡ false → unsaved ≡ false → many ≡ false → due_number allows unsaved many ≡ 0
 unfolding due_number
-none_where false false allows many = refl
-none_where true many allows is = absurd (true≢false allows)
-none_where false true allows is = absurd (true≢false is)
+none_where false false false allows unsaved many = refl
+none_where true unsaved many allows saved is = absurd (true≢false allows)
+none_where false true many allows saved is = absurd (true≢false saved)
+none_where false false true allows saved is = absurd (true≢false is)
 
 is_more : (m n : ℕ) → m < n → nat_lt m n ≡ true
 is_more m n lt = grind (arith, nat_tests)
@@ -46,22 +49,42 @@ is_more m n lt = grind (arith, nat_tests)
 is_no_more : (m n : ℕ) → n ≤ m → nat_lt m n ≡ false
 is_no_more m n le = grind (arith, nat_tests)
 
+is_within : (m n : ℕ) → m ≤ n → nat_le m n ≡ true
+is_within m n le = grind (arith, nat_tests)
+
+is_beyond : (m n : ℕ) → n < m → nat_le m n ≡ false
+is_beyond m n lt = grind (arith, nat_tests)
+
 module _ (store : StoreView) (faults : ℕ) where
   may_balance : MayBalance store → due_in (marks_of faults store) ≡ 1
   unfolding due_number
-  may_balance may = due_where store.trees.allows (nat_lt (2 * store.base + 1024) store.trees.nodes) (inl may)
+  may_balance may = due_where store.trees.allows (nat_le store.limits.flush (unsaved store)) (nat_lt (2 * store.base + 1024) store.trees.nodes) (inl may)
+
+  may_flush : MayFlush store → due_in (marks_of faults store) ≡ 1
+  unfolding due_number
+  may_flush may = due_where store.trees.allows (nat_le store.limits.flush (unsaved store)) (nat_lt (2 * store.base + 1024) store.trees.nodes) (inr (inl (is_within _ _ may.many)))
 
   may_sweep : MaySweep store → due_in (marks_of faults store) ≡ 1
   unfolding due_number
-  may_sweep may = due_where store.trees.allows (nat_lt (2 * store.base + 1024) store.trees.nodes) (inr (is_more _ _ may.many))
+  may_sweep may = due_where store.trees.allows (nat_le store.limits.flush (unsaved store)) (nat_lt (2 * store.base + 1024) store.trees.nodes) (inr (inr (is_more _ _ may.many)))
 
-  may_either : MayBalance store ⊎ MaySweep store → due_in (marks_of faults store) ≡ 1
+  may_either : MayBalance store ⊎ MayFlush store ⊎ MaySweep store → due_in (marks_of faults store) ≡ 1
   may_either (inl may) = may_balance may
-  may_either (inr may) = may_sweep may
+  may_either (inr (inl may)) = may_flush may
+  may_either (inr (inr may)) = may_sweep may
 
-  nothing_due : store.trees.allows ≡ false → store.trees.nodes ≤ 2 * store.base + 1024 → due_in (marks_of faults store) ≡ 0
+  nothing_due : store.trees.allows ≡ false → unsaved store < store.limits.flush → store.trees.nodes ≤ 2 * store.base + 1024 → due_in (marks_of faults store) ≡ 0
   unfolding due_number
-  nothing_due allows few = none_where store.trees.allows (nat_lt (2 * store.base + 1024) store.trees.nodes) allows (is_no_more _ _ few)
+  nothing_due allows saved few = none_where store.trees.allows (nat_le store.limits.flush (unsaved store)) (nat_lt (2 * store.base + 1024) store.trees.nodes) allows (is_beyond _ _ saved) (is_no_more _ _ few)
+
+-- what stands past the pages once they stand for all
+none_unsaved : (before after : StoreView) → IsFlushed before after → unsaved after ≡ 0
+none_unsaved before after step =
+    let same : length (durable_entries after.history) ≡ length (durable_entries before.history) = ap (λ (v : StoreView). length (durable_entries v.history)) step.still in
+    alike (length (durable_entries after.history)) (length (durable_entries before.history)) after.flushed same step.flushed_is
+  where
+    alike : (new old flushed : ℕ) → new ≡ old → flushed ≡ old → new - flushed ≡ 0
+    alike new old flushed same is = omega arith
 
 -- ---- plays
 
@@ -81,28 +104,46 @@ replied before after number request reply point rose r = record {
 same : (before after : StoreView) → after ≡ before → after.history ≡ before.history
 same before after stays = ap (λ (v : StoreView). v.history) stays
 
-pub step_plays : (before after : StoreView) (old new : ℕ) (number : ℕ) (job : HouseJob) (answer : StepAnswer) → (job ≡ jobs.Begin → number ≡ 0) → UnlessAsked (step_for number job) (new ≡ old)
+as_they_were : (before after : StoreView) (old new : ℕ) → new ≡ old → after ≡ before → marks_of new after ≡ marks_of old before
+as_they_were before after old new faults stays = ap (λ (v : StoreView). marks_of new v) stays ∙ ap (λ (n : ℕ). marks_of n before) faults
+
+pub step_plays : (before after : StoreView) (old new : ℕ) (number : ℕ) (job : HouseJob) (answer : StepAnswer) → (job ≡ jobs.Begin → number ≡ 0) → OnTended (step_for number job) (unsaved before < before.limits.flush → new ≡ old)
     → IsStep before (step_for number job) after answer (has_risen old new)
     → HousePlays (numbers_of before.limits) before.history number job answer (number_after number answer) after.history (marks_of old before) (marks_of new after)
-step_plays before after old new number jobs.Begin (answers.Begun session) none still step = record { was_none = none refl; session_is = step.number_is; has_number = omega (arith, step.has_number, step.number_is); number_is = refl; grows = ap (λ (v : StoreView). v.history) step.grows }
-step_plays before after old new number jobs.Begin answers.NoNumber none still step = record { was_none = none refl; last_taken = step.last_taken; stays = record { number_stays = refl; history_stays = same before after step.stays } }
-step_plays before after old new number jobs.Begin answers.Memory none still step = record { was_none = none refl; has_number = step.has_number; stays = record { number_stays = refl; history_stays = same before after step.stays } }
-step_plays before after old new number (jobs.Ask request) (answers.Reply reply point) none still step = replied before after number (plain_request request) (plain_reply reply) point (has_risen old new) step
-step_plays before after old new number (jobs.Ask request) answers.NoSession none still step = record { not_live = step.not_live; stays = record { number_stays = refl; history_stays = same before after step.stays } }
-step_plays before after old new number jobs.End answers.Ended none still step = record { live = step.live; number_stays = refl; grows = ap (λ (v : StoreView). v.history) step.grows }
-step_plays before after old new number jobs.End answers.NoSession none still step = record { not_live = step.not_live; stays = record { number_stays = refl; history_stays = same before after step.stays } }
-step_plays before after old new number jobs.Background answers.Balanced none still step = (record { number_stays = refl; history_stays = step.still.history }, record { due = may_balance before old step.may; lowers = step.lowers })
-step_plays before after old new number jobs.Background answers.Swept none still step = (record { number_stays = refl; history_stays = step.still.history }, record { due = may_sweep before old step.may; reached = step.none_left })
-step_plays before after old new number jobs.Background answers.Idle none still step = (record { number_stays = refl; history_stays = same before after step.stays }, record { none_due = nothing_due before old step.balanced step.few; stays = rw (still, step.stays) refl })
-step_plays before after old new number jobs.Background answers.Memory none still step = (record { number_stays = refl; history_stays = same before after step.stays }, record { due = may_either before old step.may; stays = rw (still, step.stays) refl })
-step_plays before after old new number job answer none still step = absurd step
+step_plays before after old new number jobs.Begin (answers.Begun session) none alone step = record { was_none = none refl; session_is = step.number_is; has_number = omega (arith, step.has_number, step.number_is); number_is = refl; grows = ap (λ (v : StoreView). v.history) step.grows }
+step_plays before after old new number jobs.Begin answers.NoNumber none alone step = record { was_none = none refl; last_taken = step.last_taken; stays = record { number_stays = refl; history_stays = same before after step.stays } }
+step_plays before after old new number jobs.Begin answers.Memory none alone step = record { was_none = none refl; has_number = step.has_number; stays = record { number_stays = refl; history_stays = same before after step.stays } }
+step_plays before after old new number (jobs.Ask request) (answers.Reply reply point) none alone step = replied before after number (plain_request request) (plain_reply reply) point (has_risen old new) step
+step_plays before after old new number (jobs.Ask request) answers.NoSession none alone step = record { not_live = step.not_live; stays = record { number_stays = refl; history_stays = same before after step.stays } }
+step_plays before after old new number jobs.End answers.Ended none alone step = record { live = step.live; number_stays = refl; grows = ap (λ (v : StoreView). v.history) step.grows }
+step_plays before after old new number jobs.End answers.NoSession none alone step = record { not_live = step.not_live; stays = record { number_stays = refl; history_stays = same before after step.stays } }
+step_plays before after old new number jobs.Background answers.Balanced none alone step = (record { number_stays = refl; history_stays = step.still.history }, record { due = may_balance before old step.may; lowers = step.lowers })
+step_plays before after old new number jobs.Background answers.Flushed none alone step = (record { number_stays = refl; history_stays = ap (λ (v : StoreView). v.history) step.still }, record { due = may_flush before old step.may; saved = none_unsaved before after step })
+step_plays before after old new number jobs.Background answers.Disk none alone step = (record { number_stays = refl; history_stays = ap (λ (v : StoreView). v.history) step.still }, record { due = may_flush before old step.may; failed = step.failed; stays = ap (λ (v : StoreView). drop 1 (marks_of new v)) step.still })
+step_plays before after old new number jobs.Background answers.Swept none alone step = (record { number_stays = refl; history_stays = step.still.history }, record { due = may_sweep before old step.may; reached = step.none_left })
+step_plays before after old new number jobs.Background answers.Idle none alone step = (record { number_stays = refl; history_stays = same before after step.stays }, record { none_due = nothing_due before old step.balanced step.saved step.few; stays = as_they_were before after old new (alone step.saved) step.stays })
+step_plays before after old new number jobs.Background answers.Memory none alone step = (record { number_stays = refl; history_stays = ap (λ (v : StoreView). v.history) step.still }, record { due = may_either before old step.may; stays = ap (λ (v : StoreView). drop 1 (marks_of new v)) step.still; no_fault = λ few. as_they_were before after old new (alone few) (step.stays few) })
+step_plays before after old new number job answer none alone step = absurd step
 
--- what holds unless a session asks follows from what does
-pub unless_asked : {P Q : Type 0} → (step : Step) → (P → Q) → UnlessAsked step P → UnlessAsked step Q
-unless_asked (steps.Ask session request) follows is = tt
-unless_asked steps.Begin follows is = follows is
-unless_asked (steps.End session) follows is = follows is
-unless_asked steps.Background follows is = follows is
+-- what holds of a background step follows from what does
+pub on_tended : {P Q : Type 0} → (step : Step) → (P → Q) → OnTended step P → OnTended step Q
+on_tended (steps.Ask session request) follows is = tt
+on_tended steps.Begin follows is = tt
+on_tended (steps.End session) follows is = tt
+on_tended steps.Background follows is = follows is
+
+-- what holds whatever the step is
+pub unless_tended : {P : Type 0} → (step : Step) → P → UnlessTended step P
+unless_tended (steps.Ask session request) is = is
+unless_tended steps.Begin is = is
+unless_tended (steps.End session) is = is
+unless_tended steps.Background is = tt
+
+pub if_tended : {P : Type 0} → (step : Step) → P → OnTended step P
+if_tended (steps.Ask session request) is = tt
+if_tended steps.Begin is = tt
+if_tended (steps.End session) is = tt
+if_tended steps.Background is = is
 
 -- ---- what a play adds
 
@@ -143,7 +184,9 @@ step_grows before after number (jobs.Ask request) answers.NoSession rose live no
 step_grows before after number jobs.End answers.Ended rose live none step = adds_entry before after number live (end_entry before.history number) refl step.live (ap (λ (v : StoreView). v.history) step.grows)
 step_grows before after number jobs.End answers.NoSession rose live none step = adds_nothing before after number live (same before after step.stays)
 step_grows before after number jobs.Background answers.Balanced rose live none step = adds_nothing before after number live step.still.history
+step_grows before after number jobs.Background answers.Flushed rose live none step = adds_nothing before after number live (ap (λ (v : StoreView). v.history) step.still)
+step_grows before after number jobs.Background answers.Disk rose live none step = adds_nothing before after number live (ap (λ (v : StoreView). v.history) step.still)
 step_grows before after number jobs.Background answers.Swept rose live none step = adds_nothing before after number live step.still.history
 step_grows before after number jobs.Background answers.Idle rose live none step = adds_nothing before after number live (same before after step.stays)
-step_grows before after number jobs.Background answers.Memory rose live none step = adds_nothing before after number live (same before after step.stays)
+step_grows before after number jobs.Background answers.Memory rose live none step = adds_nothing before after number live (ap (λ (v : StoreView). v.history) step.still)
 step_grows before after number job answer rose live none step = absurd step

@@ -2,6 +2,8 @@ pub mod Mended
 pub mod Histories
 pub mod Openings
 pub mod Reopened
+pub mod GoneOn
+pub mod ReadingPages
 pub mod Lives
 pub mod Stores
 pub mod Legals
@@ -10,6 +12,8 @@ pub mod Regulars
 pub mod Accepting
 pub mod Edits
 pub mod Quiet
+pub mod Paging
+pub mod Saving
 pub mod Remaining
 pub mod Serials
 pub mod Unkept

@@ -1,22 +1,31 @@
 -- A disk stays the one of its store.
-use Rattle.std.proofs.Common.{inl, inr, Option, None, Some, refl}
+use Rattle.std.proofs.Common.{inl, inr, Bool, Option, None, Some, refl}
 use Rattle.std.specs.Prelude.{IsSome}
 use Rattle.febe_data.specs.Plain.{PlainEntry}
 use Rattle.green_io.specs.declared.disk.Area.{Area}
-use Rattle.green_io.specs.declared.disk.Area.TheVariants.{Log}
-use Rattle.green_io.specs.Areas.{Areas, is_log, is_same}
+use Rattle.green_io.specs.Areas.{Areas, is_log}
 use Rattle.green_io.specs.Disk.{DiskState, ReadsAsBut, LeavesBut}
+use Rattle.page_journal.specs.Images.{is_paged}
 use Rattle.green_store.specs.declared.step.Step.{Step}
+use Rattle.green_store.specs.declared.step.Step.TheVariants as steps
 use Rattle.green_store.specs.declared.step.StepAnswer.{StepAnswer}
 use Rattle.green_store.specs.Durable.{Keeps, KeepsStep}
 use Rattle.green_store.specs.HousedView.{IsOneDisk}
+use Rattle.green_store.specs.IsStep.{UnlessTended, OnTended}
+use Rattle.green_store.specs.Paged.{HasPages}
 use Rattle.green_store.specs.StoreView.{StoreView}
 
--- what tells its areas after a call on one of them told them before it
-told_before : (area : Area) (old new : Option Areas) → ReadsAsBut (is_same area) old new → IsSome new → IsSome old
-told_before area None None beside told = told
-told_before area None (Some areas) beside told = absurd beside
-told_before area (Some areas) new beside told = refl
+-- what tells its areas after calls on some of them told them before them
+told_before : (touched : Area → Bool) (old new : Option Areas) → ReadsAsBut touched old new → IsSome new → IsSome old
+told_before touched None None beside told = told
+told_before touched None (Some areas) beside told = absurd beside
+told_before touched (Some areas) new beside told = refl
+
+told : (step : Step) (old new : DiskState) → UnlessTended step (LeavesBut is_log old new) → OnTended step (LeavesBut is_paged old new) → IsSome new.reads → IsSome old.reads
+told steps.Background old new others log is = told_before is_paged old.reads new.reads log.reads is
+told steps.Begin old new others log is = told_before is_log old.reads new.reads others.reads is
+told (steps.Ask session request) old new others log is = told_before is_log old.reads new.reads others.reads is
+told (steps.End session) old new others log is = told_before is_log old.reads new.reads others.reads is
 
 kept_by : (before after : StoreView) (pending : Option PlainEntry) (step : Step) (answer : StepAnswer) (disk : DiskState) → KeepsStep before pending step after answer disk
     → (now : Option PlainEntry) × Keeps disk after now
@@ -24,7 +33,9 @@ kept_by before after pending step answer disk (inl keeps) = (None, keeps)
 kept_by before after pending step answer disk (inr stays) = (Some stays.entry, stays.keeps)
 
 pub stays_one_disk : (before after : StoreView) (step : Step) (answer : StepAnswer) (old new : DiskState) → IsOneDisk old before
-    → ((pending : Option PlainEntry) → Keeps old before pending → KeepsStep before pending step after answer new) → LeavesBut is_log old new → IsOneDisk new after
-stays_one_disk before after step answer old new one keeps others told =
-    let was = one (told_before Log old.reads new.reads others.reads told) in
-    kept_by before after was.0 step answer new (keeps was.0 was.1)
+    → ((pending : Option PlainEntry) → Keeps old before pending → KeepsStep before pending step after answer new) → (HasPages old before → HasPages new after)
+    → UnlessTended step (LeavesBut is_log old new) → OnTended step (LeavesBut is_paged old new) → IsOneDisk new after
+stays_one_disk before after step answer old new one keeps pages others log is =
+    let was = one (told step old new others log is) in
+    let now = kept_by before after was.pending step answer new (keeps was.pending was.keeps) in
+    record { pending = now.0; keeps = now.1; pages = pages was.pages }

@@ -1,5 +1,5 @@
 -- Sessions make new documents, and change them at places that are there.
-use Rattle.std.proofs.Common.{◌≡◌, ℕ, Bool, List, [], ◌∷◌, ◌++◌, length, Option, Some, None, refl, sym, subst, inl, inr, ◌⊎◌}
+use Rattle.std.proofs.Common.{◌≡◌, ℕ, Bool, List, [], ◌∷◌, ◌++◌, length, Option, Some, None, ap, refl, sym, subst, inl, inr, ◌⊎◌}
 use Rattle.std.specs.Prelude.{MatchOption, fold}
 use Rattle.std.proofs.lemmas.List.{append-nil}
 use Rattle.febe_data.specs.declared.refusal.Refusal.{Refusal}
@@ -75,7 +75,9 @@ steps_stay_placed before after (steps.Ask session request) answers.NoSession ros
 steps_stay_placed before after (steps.End session) answers.Ended rose placed step = with_entry before after placed (end_entry before.history session) tt step.grows
 steps_stay_placed before after (steps.End session) answers.NoSession rose placed step = as_before before after placed step.stays
 steps_stay_placed before after steps.Background answers.Balanced rose placed step = still before after placed step.still.history
+steps_stay_placed before after steps.Background answers.Flushed rose placed step = still before after placed (ap (λ (w : StoreView). w.history) step.still)
+steps_stay_placed before after steps.Background answers.Disk rose placed step = still before after placed (ap (λ (w : StoreView). w.history) step.still)
 steps_stay_placed before after steps.Background answers.Swept rose placed step = still before after placed step.still.history
 steps_stay_placed before after steps.Background answers.Idle rose placed step = as_before before after placed step.stays
-steps_stay_placed before after steps.Background answers.Memory rose placed step = as_before before after placed step.stays
+steps_stay_placed before after steps.Background answers.Memory rose placed step = still before after placed (ap (λ (w : StoreView). w.history) step.still)
 steps_stay_placed before after other answer rose placed step = absurd step

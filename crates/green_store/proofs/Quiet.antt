@@ -1,4 +1,4 @@
--- Begins and ends of sessions and background steps keep no entry, and leave the log alone.
+-- Begins and ends of sessions and background steps keep no entry, and leave what is known of the log alone.
 use Rattle.std.proofs.Common.{◌≡◌, ℕ, Bool, false, ap, refl, ◌∙◌}
 use Rattle.febe_data.specs.Plain.{PlainEntry}
 use Rattle.world_rules.specs.History.{durable_entries, is_durable}
@@ -39,7 +39,9 @@ standing before after still = record { none_kept = ap durable_entries still.hist
 
 pub background_is_quiet : (before after : StoreView) (answer : StepAnswer) (rose : Bool) → IsStep before steps.Background after answer rose → IsQuiet before after
 background_is_quiet before after answers.Balanced rose step = standing before after step.still
+background_is_quiet before after answers.Flushed rose step = record { none_kept = ap (λ (v : StoreView). durable_entries v.history) step.still; same_log = ap (λ (v : StoreView). v.log) step.still }
+background_is_quiet before after answers.Disk rose step = record { none_kept = ap (λ (v : StoreView). durable_entries v.history) step.still; same_log = ap (λ (v : StoreView). v.log) step.still }
 background_is_quiet before after answers.Swept rose step = standing before after step.still
 background_is_quiet before after answers.Idle rose step = as_before before after step.stays
-background_is_quiet before after answers.Memory rose step = as_before before after step.stays
+background_is_quiet before after answers.Memory rose step = record { none_kept = ap (λ (v : StoreView). durable_entries v.history) step.still; same_log = ap (λ (v : StoreView). v.log) step.still }
 background_is_quiet before after other rose step = absurd step

@@ -57,7 +57,7 @@ regular_changed h session made leaves placed regular =
 
 -- ---- kept
 
-kept_more : (h : List PlainEntry) (e : PlainEntry) → durable_entries (h ++ e ∷ []) ≡ durable_entries h ++ durable_entries (e ∷ [])
+pub kept_more : (h : List PlainEntry) (e : PlainEntry) → durable_entries (h ++ e ∷ []) ≡ durable_entries h ++ durable_entries (e ∷ [])
 kept_more h e = filter-append (λ (x : PlainEntry). is_durable x.change) h (e ∷ [])
 
 alone : (e : PlainEntry) (counted : Bool) → is_durable e.change ≡ counted → durable_entries (e ∷ []) ≡ (if counted then e ∷ [] else [])

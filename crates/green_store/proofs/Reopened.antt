@@ -27,7 +27,7 @@ not_damaged one None entries at whole damaged = whole
 not_damaged one (Some areas) entries at whole damaged = (one areas.log).apart entries at (whole_reads entries areas.log whole) damaged
 
 -- it is read as its entries
-read_is : EachHasOneReading → (reads : Option Areas) (found entries : List PlainEntry) → AsRead reads (IsWhole entries) → WhereTold reads (λ areas. ReadsAs found areas.log) → found ≡ entries
+pub read_is : EachHasOneReading → (reads : Option Areas) (found entries : List PlainEntry) → AsRead reads (IsWhole entries) → WhereTold reads (λ areas. ReadsAs found areas.log) → found ≡ entries
 read_is one None found entries whole read = absurd whole
 read_is one (Some areas) found entries whole read = (one areas.log).entries found entries read (whole_reads entries areas.log whole)
 

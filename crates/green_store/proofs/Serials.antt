@@ -64,7 +64,9 @@ steps_count before after (steps.Ask session request) answers.NoSession rose coun
 steps_count before after (steps.End session) answers.Ended rose count step = with_entry before after count (end_entry before.history session) (ends_next before.history session) step.grows
 steps_count before after (steps.End session) answers.NoSession rose count step = as_before before after count step.stays
 steps_count before after steps.Background answers.Balanced rose count step = still before after count step.still.history
+steps_count before after steps.Background answers.Flushed rose count step = still before after count (ap (λ (w : StoreView). w.history) step.still)
+steps_count before after steps.Background answers.Disk rose count step = still before after count (ap (λ (w : StoreView). w.history) step.still)
 steps_count before after steps.Background answers.Swept rose count step = still before after count step.still.history
 steps_count before after steps.Background answers.Idle rose count step = as_before before after count step.stays
-steps_count before after steps.Background answers.Memory rose count step = as_before before after count step.stays
+steps_count before after steps.Background answers.Memory rose count step = still before after count (ap (λ (w : StoreView). w.history) step.still)
 steps_count before after other answer rose count step = absurd step

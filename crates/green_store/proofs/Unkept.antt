@@ -16,7 +16,7 @@ use Rattle.world_rules.specs.Effects.{Effect, effect, opening}
 use Rattle.world_rules.specs.Legal.{IsLegal, IsOutOfMemory, IsServed, IsRefused, IsQueryAnswered, IsDone, IsDiskFault, wanted_after}
 use Rattle.green_store.specs.Steps.{Steps}
 use Rattle.green_store.specs.IsStep.{OnRefused, UnlessKept}
-use Rattle.green_store.specs.StoreView.{StoreView, with_one, StandsAsBefore}
+use Rattle.green_store.specs.StoreView.{StoreView, with_one, PagesStandStill, StandsAsBefore}
 use Rattle.green_store.proofs.Regulars.{kept_counted}
 
 -- ---- the reply to a change is no refusal
@@ -87,13 +87,13 @@ module _ (limits : LimitsView) (session : ℕ) (history : List PlainEntry) (requ
 
 -- ---- so the store is as it was
 
-same_history : (before after : StoreView) → after.history ≡ before.history → UnlessKept before after (after.trees ≡ before.trees) → after.base ≡ before.base → StandsAsBefore before after
-same_history before after same trees base = record { history = same; trees = trees (ap durable_entries same); base = base }
+same_history : (before after : StoreView) → after.history ≡ before.history → UnlessKept before after (after.trees ≡ before.trees) → after.base ≡ before.base → UnlessKept before after (after.nodes ≡ before.nodes) → PagesStandStill before after → StandsAsBefore before after
+same_history before after same trees base nodes pages = record { history = same; trees = trees (ap durable_entries same); base = base; nodes = nodes (ap durable_entries same); pages = pages }
 
 pub refused_stays : (before after : StoreView) (session : ℕ) (request : PlainRequest) (reply : PlainReply) (rose : Bool) → Steps before.limits session before.history request reply after.history rose → UnlessKept before after (after.trees ≡ before.trees) → after.base ≡ before.base
-    → OnRefused reply (StandsAsBefore before after)
-refused_stays before after session request reply rose steps trees base =
-    also reply (steps.added ≡ []) (StandsAsBefore before after) (λ none. same_history before after (steps.grows ∙ ap (λ (es : List PlainEntry). before.history ++ es) none ∙ append-nil before.history) trees base)
+    → UnlessKept before after (after.nodes ≡ before.nodes) → PagesStandStill before after → OnRefused reply (StandsAsBefore before after)
+refused_stays before after session request reply rose steps trees base nodes pages =
+    also reply (steps.added ≡ []) (StandsAsBefore before after) (λ none. same_history before after (steps.grows ∙ ap (λ (es : List PlainEntry). before.history ++ es) none ∙ append-nil before.history) trees base nodes pages)
     (refused_adds before.limits session before.history request reply steps.added rose steps.legal)
 
 -- ---- a change
@@ -101,6 +101,14 @@ refused_stays before after session request reply rose steps trees base =
 pub made_trees : (before after : StoreView) (r : Result Reply NoMemory) (entry : PlainEntry) → OnOk r (after ≡ with_one before entry) → OnErr r (after ≡ before) → after.trees ≡ before.trees
 made_trees before after (Ok reply) entry ok err = ap (λ (v : StoreView). v.trees) ok
 made_trees before after (Err error) entry ok err = ap (λ (v : StoreView). v.trees) err
+
+pub made_nodes : (before after : StoreView) (r : Result Reply NoMemory) (entry : PlainEntry) → OnOk r (after ≡ with_one before entry) → OnErr r (after ≡ before) → after.nodes ≡ before.nodes
+made_nodes before after (Ok reply) entry ok err = ap (λ (v : StoreView). v.nodes) ok
+made_nodes before after (Err error) entry ok err = ap (λ (v : StoreView). v.nodes) err
+
+pub made_pages : (before after : StoreView) (r : Result Reply NoMemory) (entry : PlainEntry) → OnOk r (after ≡ with_one before entry) → OnErr r (after ≡ before) → PagesStandStill before after
+made_pages before after (Ok reply) entry ok err = record { flush = ap (λ (v : StoreView). v.flush) ok; flushed = ap (λ (v : StoreView). v.flushed) ok }
+made_pages before after (Err error) entry ok err = record { flush = ap (λ (v : StoreView). v.flush) err; flushed = ap (λ (v : StoreView). v.flushed) err }
 
 -- one that is kept comes into the kept entries
 pub is_one_more : (old new : List PlainEntry) (entry : PlainEntry) → is_durable entry.change ≡ true → new ≡ old ++ entry ∷ [] → durable_entries new ≡ durable_entries old → ⊥

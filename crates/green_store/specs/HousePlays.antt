@@ -1,6 +1,6 @@
 -- What each play on a housed store does, told by what passes know: of the fixed numbers, the history, the number, the job,
 -- the answer, the number and the history after it, and the marks before and after it.
-use Rattle.std.specs.Prelude.{◌≡◌, ◌≢◌, ◌⊎◌, ℕ, ◌+◌, ◌≤◌, ◌<◌, ◌^◌, Bool, IsTrue, false, List, [], ◌∷◌, ◌++◌, length, Option, None, Some}
+use Rattle.std.specs.Prelude.{◌≡◌, ◌≢◌, ◌⊎◌, ℕ, ◌+◌, ◌≤◌, ◌<◌, ◌^◌, Bool, IsTrue, false, List, [], ◌∷◌, ◌++◌, length, drop, Option, None, Some}
 use Rattle.febe_data.specs.declared.refusal.Refusal.TheVariants.{Memory}
 use Rattle.febe_data.specs.LimitsView.{LimitsView}
 use Rattle.febe_data.specs.Plain.{PlainRequest, plain_request, PlainReply, plain_reply, refused, PlainEntry}
@@ -13,7 +13,7 @@ use Rattle.green_store.specs.declared.step.Step.TheVariants as steps
 use Rattle.green_store.specs.declared.step.StepAnswer.{StepAnswer}
 use Rattle.green_store.specs.declared.step.StepAnswer.TheVariants as answers
 use Rattle.green_store.specs.Durable.{has_risen}
-use Rattle.green_store.specs.Marks.{limits_in, faults_in, debt_in, due_in, unreached_in}
+use Rattle.green_store.specs.Marks.{limits_in, faults_in, debt_in, unsaved_in, due_in, unreached_in}
 use Rattle.green_store.specs.Sessions.{greatest_session, begin_entry, end_entry}
 use Rattle.green_store.specs.Steps.{Steps}
 
@@ -95,6 +95,17 @@ pub record PlaysBalanced (old new : List ℕ) : Type 0 where
   pub due : due_in old ≡ 1
   pub lowers : debt_in new + 1 ≤ debt_in old
 
+-- something was to be put right: now no kept entry stands past those for which the pages stand
+pub record PlaysFlushed (old new : List ℕ) : Type 0 where
+  pub due : due_in old ≡ 1
+  pub saved : unsaved_in new ≡ 0
+
+-- something was to be put right, but the disk failed, and all else is as it was
+pub record PlaysStopped (old new : List ℕ) : Type 0 where
+  pub due : due_in old ≡ 1
+  pub failed : IsTrue (has_risen (faults_in old) (faults_in new))
+  pub stays : drop 1 new ≡ drop 1 old
+
 -- something was to be put right: now every node is reached from a root
 pub record PlaysSwept (old new : List ℕ) : Type 0 where
   pub due : due_in old ≡ 1
@@ -105,10 +116,12 @@ pub record PlaysIdle (old new : List ℕ) : Type 0 where
   pub none_due : due_in old ≡ 0
   pub stays : new ≡ old
 
--- something was to be put right, but there was no memory for it, and nothing changed
-pub record PlaysPutOff (old new : List ℕ) : Type 0 where
+-- Something was to be put right, but there was no memory for it, and nothing changed. Only where pages were to be written the
+-- disk may have had faults meanwhile.
+pub record PlaysPutOff (limits : LimitsView) (old new : List ℕ) : Type 0 where
   pub due : due_in old ≡ 1
-  pub stays : new ≡ old
+  pub stays : drop 1 new ≡ drop 1 old
+  pub no_fault : unsaved_in old < limits.flush → new ≡ old
 
 -- What each job comes to. What is not listed never happens.
 abbrev pub HousePlays : List ℕ → List PlainEntry → ℕ → HouseJob → StepAnswer → ℕ → List PlainEntry → List ℕ → List ℕ → Type 0
@@ -122,7 +135,9 @@ HousePlays fixed before number (jobs.Ask request) answers.NoSession next after o
 HousePlays fixed before number jobs.End answers.Ended next after old new = PlaysEnded before number next after
 HousePlays fixed before number jobs.End answers.NoSession next after old new = PlaysNoSession before number next after
 HousePlays fixed before number jobs.Background answers.Balanced next after old new = Stays number next before after × PlaysBalanced old new
+HousePlays fixed before number jobs.Background answers.Flushed next after old new = Stays number next before after × PlaysFlushed old new
+HousePlays fixed before number jobs.Background answers.Disk next after old new = Stays number next before after × PlaysStopped old new
 HousePlays fixed before number jobs.Background answers.Swept next after old new = Stays number next before after × PlaysSwept old new
 HousePlays fixed before number jobs.Background answers.Idle next after old new = Stays number next before after × PlaysIdle old new
-HousePlays fixed before number jobs.Background answers.Memory next after old new = Stays number next before after × PlaysPutOff old new
+HousePlays fixed before number jobs.Background answers.Memory next after old new = Stays number next before after × PlaysPutOff (limits_in fixed) old new
 HousePlays fixed before number job answer next after old new = ⊥

@@ -3,6 +3,7 @@ use Rattle.std.specs.Prelude.{IsSome, Option}
 use Rattle.febe_data.specs.Plain.{PlainEntry}
 use Rattle.green_io.specs.Disk.{DiskState}
 use Rattle.green_store.specs.Durable.{Keeps}
+use Rattle.green_store.specs.Paged.{HasPages}
 use Rattle.green_store.specs.StoreView.{StoreView}
 
 -- the store, and its disk
@@ -10,7 +11,12 @@ pub record HousedView (D : Type 0) : Type 0 where
   pub store : StoreView
   pub disk : D
 
--- The disk is the one over which the store was opened: where it tells what it reads, it has the store's kept entries, and
--- behind them the edit that is pending, if one is.
+-- The disk has the store's kept entries, and behind them the edit that is pending, if one is; and it has the store's pages.
+pub record IsDiskOf (store : StoreView) (disk : DiskState) : Type 0 where
+  pub pending : Option PlainEntry
+  pub keeps : Keeps disk store pending
+  pub pages : HasPages disk store
+
+-- So it is where the disk tells what it reads: it is the one over which the store was opened.
 abbrev pub IsOneDisk : DiskState → StoreView → Type 0
-IsOneDisk disk store = IsSome disk.reads → (pending : Option PlainEntry) × Keeps disk store pending
+IsOneDisk disk store = IsSome disk.reads → IsDiskOf store disk

@@ -1,17 +1,19 @@
 -- What each step does to a store, and what it is answered.
-use Rattle.std.specs.Prelude.{◌≡◌, ◌⊎◌, ℕ, ◌+◌, ◌*◌, ◌<◌, ◌≤◌, ◌^◌, Bool, IsTrue, true, false, length}
+use Rattle.std.specs.Prelude.{◌≡◌, ◌⊎◌, ℕ, ◌+◌, ◌-◌, ◌*◌, ◌<◌, ◌≤◌, ◌^◌, Bool, IsTrue, true, false, length}
 use Rattle.febe_data.specs.declared.refusal.Refusal.TheVariants.{Memory}
 use Rattle.febe_data.specs.Plain.{PlainRequest, plain_request, PlainReply, plain_reply, refused}
 use Rattle.febe_data.specs.Validity.{IsRequest, IsReply}
 use Rattle.world_rules.specs.History.{is_live, durable_entries}
 use Rattle.tree_world.specs.Condition.{StaysInShape}
+use Rattle.tree_world.specs.Nodes.{AllGrown}
+use Rattle.green_flush.specs.Standing.{IsRenewed}
 use Rattle.green_store.specs.declared.step.Step.{Step}
 use Rattle.green_store.specs.declared.step.Step.TheVariants as steps
 use Rattle.green_store.specs.declared.step.StepAnswer.{StepAnswer}
 use Rattle.green_store.specs.declared.step.StepAnswer.TheVariants as answers
 use Rattle.green_store.specs.Sessions.{greatest_session, begin_entry, end_entry}
 use Rattle.green_store.specs.Steps.{Steps}
-use Rattle.green_store.specs.StoreView.{StoreView, with_one, StandsStill, StandsAsBefore}
+use Rattle.green_store.specs.StoreView.{StoreView, with_one, StandsStill, PagesStandStill, StandsAsBefore}
 
 -- there is a number above those of all sessions so far
 abbrev pub HasNumber : StoreView → Type 0
@@ -60,8 +62,9 @@ abbrev pub UnlessKept : StoreView → StoreView → Type 0 → Type 0
 UnlessKept before after fact = durable_entries after.history ≡ durable_entries before.history → fact
 
 -- The live session's request has this reply, with the number of entries after it: by a legal step where the
--- request is valid. Whichever refusal it is given, the history and the trees' condition are as they were. So are the trees
--- unless an entry was kept: after each query, and after a change of the session alone.
+-- request is valid. Whichever refusal it is given, the history, the trees and their nodes are as they were. So are the trees
+-- unless an entry was kept: after each query, and after a change of the session alone. Nodes only come in behind those that
+-- are there, and the pages stay.
 pub record IsReplied (before : StoreView) (session : ℕ) (request : PlainRequest) (reply : PlainReply) (point : ℕ) (after : StoreView) (rose : Bool) : Type 0 where
   pub live : IsTrue (is_live before.history session)
   pub limits_stay : after.limits ≡ before.limits
@@ -71,6 +74,8 @@ pub record IsReplied (before : StoreView) (session : ℕ) (request : PlainReques
   pub refusal_stays : OnRefused reply (StandsAsBefore before after)
   pub trees_stay : UnlessKept before after (after.trees ≡ before.trees)
   pub base_stays : after.base ≡ before.base
+  pub grown : AllGrown before.nodes after.nodes
+  pub pages_stay : PagesStandStill before after
 
 -- the live session has ended: its End is added
 pub record HasEnded (before : StoreView) (session : ℕ) (after : StoreView) : Type 0 where
@@ -83,20 +88,45 @@ pub record HasEnded (before : StoreView) (session : ℕ) (after : StoreView) : T
 abbrev pub MayBalance : StoreView → Type 0
 MayBalance before = before.trees.allows ≡ true
 
--- and then: none does, and the arenas hold over twice as many nodes as after the last sweep or at opening,
+-- how many kept entries stand behind those for which the pages stand
+abbrev pub unsaved : StoreView → ℕ
+unsaved store = length (durable_entries store.history) - store.flushed
+
+-- and then: none does, and so many kept entries as the limits say stand behind those for which the pages stand
+pub record MayFlush (before : StoreView) : Type 0 where
+  pub balanced : before.trees.allows ≡ false
+  pub many : before.limits.flush ≤ unsaved before
+
+-- and then: neither is so, and the arenas hold over twice as many nodes as after the last sweep or at opening,
 -- and 1,024 more
 pub record MaySweep (before : StoreView) : Type 0 where
   pub balanced : before.trees.allows ≡ false
+  pub saved : unsaved before < before.limits.flush
   pub many : 2 * before.base + 1024 < before.trees.nodes
 
--- one step was made in a tree, and all trees together owe less
+-- one step was made in a tree, and all trees together owe less; nodes only came in
 pub record IsBalanced (before after : StoreView) : Type 0 where
   pub may : MayBalance before
   pub lowers : after.trees.debt + 1 ≤ before.trees.debt
   pub base_stays : after.base ≡ before.base
+  pub grown : AllGrown before.nodes after.nodes
   pub still : StandsStill before after
+  pub pages_stay : PagesStandStill before after
 
--- the arenas hold exactly as many nodes as the trees' roots reached, none that no root reaches, and the trees stay in shape
+-- the pages stand for all kept entries, and all else is as it was
+pub record IsFlushed (before after : StoreView) : Type 0 where
+  pub may : MayFlush before
+  pub flushed_is : after.flushed ≡ length (durable_entries before.history)
+  pub still : after ≡ record before { flush = after.flush; flushed = after.flushed }
+
+-- the disk failed meanwhile, and all is as it was, but for what is known of the pages
+pub record IsFlushStopped (before after : StoreView) (rose : Bool) : Type 0 where
+  pub may : MayFlush before
+  pub failed : IsTrue rose
+  pub still : after ≡ record before { flush = after.flush }
+
+-- the arenas hold exactly as many nodes as the trees' roots reached, none that no root reaches, and the trees stay in shape;
+-- the next save writes every stream anew, and until then the pages stand for what they stood for
 pub record IsSwept (before after : StoreView) : Type 0 where
   pub may : MaySweep before
   pub count : after.trees.nodes ≡ before.trees.reached
@@ -104,17 +134,22 @@ pub record IsSwept (before after : StoreView) : Type 0 where
   pub shape_stays : StaysInShape before.trees after.trees
   pub base_is : after.base ≡ after.trees.nodes
   pub still : StandsStill before after
+  pub renewed : IsRenewed before.flush after.flush
+  pub flushed_stays : after.flushed ≡ before.flushed
 
 -- nothing is to be put right, and nothing changed
 pub record IsIdle (before after : StoreView) : Type 0 where
   pub balanced : before.trees.allows ≡ false
+  pub saved : unsaved before < before.limits.flush
   pub few : before.trees.nodes ≤ 2 * before.base + 1024
   pub stays : after ≡ before
 
--- something is to be put right, but there was no memory for it, and nothing changed
+-- something is to be put right, but there was no memory for it, and all is as it was, but for what is known of the pages, where
+-- these were to be written
 pub record IsPutOff (before after : StoreView) : Type 0 where
-  pub may : MayBalance before ⊎ MaySweep before
-  pub stays : after ≡ before
+  pub may : MayBalance before ⊎ MayFlush before ⊎ MaySweep before
+  pub still : after ≡ record before { flush = after.flush }
+  pub stays : unsaved before < before.limits.flush → after ≡ before
 
 -- A step, from the store before it to the one after it, its answer, and whether the count of disk faults rose meanwhile. What is
 -- not listed never happens.
@@ -127,6 +162,8 @@ IsStep before (steps.Ask session request) after answers.NoSession rose = IsNotLi
 IsStep before (steps.End session) after answers.Ended rose = HasEnded before session after
 IsStep before (steps.End session) after answers.NoSession rose = IsNotLive before session after
 IsStep before steps.Background after answers.Balanced rose = IsBalanced before after
+IsStep before steps.Background after answers.Flushed rose = IsFlushed before after
+IsStep before steps.Background after answers.Disk rose = IsFlushStopped before after rose
 IsStep before steps.Background after answers.Swept rose = IsSwept before after
 IsStep before steps.Background after answers.Idle rose = IsIdle before after
 IsStep before steps.Background after answers.Memory rose = IsPutOff before after
@@ -141,3 +178,23 @@ UnlessAsked other fact = fact
 abbrev pub UnlessSwept : StepAnswer → Type 0 → Type 0
 UnlessSwept answers.Swept fact = Unit {0}
 UnlessSwept other fact = fact
+
+-- this holds unless a step has written all to pages
+abbrev pub UnlessFlushed : StepAnswer → Type 0 → Type 0
+UnlessFlushed answers.Flushed fact = Unit {0}
+UnlessFlushed other fact = fact
+
+-- this holds if it has
+abbrev pub OnFlushed : StepAnswer → Type 0 → Type 0
+OnFlushed answers.Flushed fact = fact
+OnFlushed other fact = Unit {0}
+
+-- this holds unless trees and pages are put right
+abbrev pub UnlessTended : Step → Type 0 → Type 0
+UnlessTended steps.Background fact = Unit {0}
+UnlessTended other fact = fact
+
+-- this holds if they are
+abbrev pub OnTended : Step → Type 0 → Type 0
+OnTended steps.Background fact = fact
+OnTended other fact = Unit {0}

@@ -14,6 +14,10 @@ pub use Rattle.edit_log.specs.Images
 pub use Rattle.edit_log.specs.Log
 pub use Rattle.edit_log.specs.LogView
 pub use Rattle.tree_world.specs.Condition
+pub use Rattle.tree_world.specs.Nodes
+pub use Rattle.green_flush.specs.Loads
+pub use Rattle.green_flush.specs.Standing as FlushStanding
+pub use Rattle.paged_world.specs.Standing as PagedStanding
 pub use Rattle.history_lock.specs.Histories
 pub mod Sessions
 pub mod Steps
@@ -23,6 +27,7 @@ pub mod IsStore
 pub mod LeavesLive
 pub mod Laws
 pub mod Durable
+pub mod Paged
 pub mod Opening
 pub mod Replayed
 pub mod HousedView

@@ -1,8 +1,9 @@
 -- What passes know of a housed store: to which session an entry belongs, the numbers that stay, and those that plays change.
-use Rattle.std.specs.Prelude.{ℕ, ◌+◌, ◌*◌, ◌||◌, nat_lt, if◌then◌else◌, Bool, List, [], ◌∷◌, slice_index}
+use Rattle.std.specs.Prelude.{ℕ, ◌+◌, ◌*◌, ◌||◌, nat_lt, nat_le, if◌then◌else◌, Bool, List, [], ◌∷◌, slice_index}
 use Rattle.febe_data.specs.LimitsView.{LimitsView}
 use Rattle.febe_data.specs.Plain.{PlainChange, PlainEntry, restarted}
 use Rattle.green_store.specs.StoreView.{StoreView}
+use Rattle.green_store.specs.IsStep.{unsaved}
 
 -- the session that an entry is of; a restart is of none, which is 0
 abbrev pub owner_of : PlainEntry → ℕ
@@ -24,12 +25,12 @@ limits_in numbers = record { entries = slice_index numbers 0; text = slice_index
 
 -- a background step would put something right, or lack memory for it
 abbrev pub is_due : StoreView → Bool
-is_due store = store.trees.allows || nat_lt (2 * store.base + 1024) store.trees.nodes
+is_due store = store.trees.allows || nat_le store.limits.flush (unsaved store) || nat_lt (2 * store.base + 1024) store.trees.nodes
 
--- How many faults the disk had; what the trees owe together; how many kept entries stand past those that the pages hold,
--- which is 0 until a store has pages; 1 where a background step is due, else 0; and how many nodes no root reaches.
+-- How many faults the disk had; what the trees owe together; how many kept entries stand past those for which the pages
+-- stand; 1 where a background step is due, else 0; and how many nodes no root reaches.
 abbrev pub marks_of : ℕ → StoreView → List ℕ
-marks_of faults store = faults ∷ store.trees.debt ∷ 0 ∷ (if is_due store then 1 else 0) ∷ store.trees.unreached ∷ []
+marks_of faults store = faults ∷ store.trees.debt ∷ unsaved store ∷ (if is_due store then 1 else 0) ∷ store.trees.unreached ∷ []
 
 abbrev pub faults_in : List ℕ → ℕ
 faults_in marks = slice_index marks 0

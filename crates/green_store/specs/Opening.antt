@@ -1,15 +1,20 @@
 -- Opening a store from a log.
-use Rattle.std.specs.Prelude.{◌≡◌, ◌⊎◌, ℕ, List, [], ◌∷◌, ◌++◌, length, Option, Result, Ok, Err}
+use Rattle.std.specs.Prelude.{◌≡◌, ◌⊎◌, ℕ, ◌<◌, ◌≤◌, List, [], ◌∷◌, ◌++◌, length, take, Option, None, Some, Result, Ok, Err}
 use Rattle.febe_data.specs.Plain.{PlainEntry}
-use Rattle.green_io.specs.declared.disk.Area.TheVariants.{Log}
 use Rattle.green_io.specs.Areas.{Areas}
-use Rattle.green_io.specs.Disk.{Changes, WhereTold}
+use Rattle.green_io.specs.Disk.{WhereTold}
 use Rattle.entry_fits.specs.Fits.{Fits, AllFit}
 use Rattle.edit_log.specs.Images.{AreEntries}
 use Rattle.edit_log.specs.Log.{gated, ReadsAs, HasEndClosed, IsDamagedAt}
 use Rattle.edit_log.specs.declared.opening.LogFault.{LogFault}
 use Rattle.edit_log.specs.declared.opening.LogFault.TheVariants as faults
+use Rattle.world_rules.specs.Apply.{world_of}
 use Rattle.world_rules.specs.History.{restart_entry}
+use Rattle.page_journal.specs.Pages.{Pages}
+use Rattle.page_journal.specs.declared.page_fault.PageFault.{PageFault}
+use Rattle.page_journal.specs.declared.page_fault.PageFault.TheVariants as pages
+use Rattle.green_flush.specs.Loads.{TreesAt, Loads}
+use Rattle.paged_world.specs.Standing.{StandFor, AreIn}
 use Rattle.green_store.specs.declared.opening.OpenFault.{OpenFault}
 use Rattle.green_store.specs.declared.opening.OpenFault.TheVariants.{Damaged, Disk, Memory}
 use Rattle.green_store.specs.StoreView.{StoreView}
@@ -40,6 +45,11 @@ abbrev pub fault_of : LogFault → OpenFault
 fault_of (faults.Damaged at) = Damaged at
 fault_of faults.Disk = Disk
 fault_of faults.Memory = Memory
+
+-- and what a fault of the pages is
+abbrev pub fault_of_pages : PageFault → OpenFault
+fault_of_pages pages.Disk = Disk
+fault_of_pages pages.Memory = Memory
 
 -- the history of a back end that has just opened with these entries: they, and then a restart
 abbrev pub opened_with : List PlainEntry → List PlainEntry
@@ -79,7 +89,37 @@ IsAsBefore old new = (new ≡ old) ⊎ ((entries : List PlainEntry) × HasEndClo
 
 -- what the log reads is as it was, but that its end gate may be closed
 abbrev pub ReadsAsBefore : Option Areas → Option Areas → Type 0
-ReadsAsBefore old new = Changes Log IsAsBefore old new
+ReadsAsBefore None None = Unit {0}
+ReadsAsBefore (Some old) (Some new) = IsAsBefore old.log new.log
+ReadsAsBefore _ _ = ⊥
+
+-- ---- pages
+
+-- the trees stand for the world of as many first entries as their position says
+pub record StandAt (at : TreesAt) (entries : List PlainEntry) : Type 0 where
+  pub within : at.position ≤ length entries
+  pub stand : StandFor at.trees (world_of (take at.position entries))
+
+-- The store goes on from these trees. Where they stand for all entries, its trees are in the condition of these.
+pub record GoesOnFrom (at : TreesAt) (entries : List PlainEntry) (store : StoreView) : Type 0 where
+  pub stand : StandAt at entries
+  pub flushed_is : store.flushed ≡ at.position
+  pub condition : 0 < at.position → at.position ≡ length entries → AreIn at.trees store.trees
+
+-- the trees that loading gives are gone on from exactly where they stand for first entries of the log; else they are put aside
+abbrev pub IsFlushedAt : Option TreesAt → List PlainEntry → StoreView → Type 0
+IsFlushedAt None entries store = store.flushed ≡ 0
+IsFlushedAt (Some at) entries store = GoesOnFrom at entries store ⊎ ((¬ StandAt at entries) × (store.flushed ≡ 0))
+
+-- so it is with what loading gives of these pages
+pub record IsFlushedFrom (pages : Pages) (store : StoreView) : Type 0 where
+  pub now : Option TreesAt
+  pub loads : Loads pages now
+  pub entries : List PlainEntry
+  pub history_is : store.history ≡ opened_with entries
+  pub flushed : IsFlushedAt now entries store
+
+-- ---- a whole log
 
 -- it is not damaged, and if it is opened the history is that of these entries
 abbrev pub OpensAs : Result StoreView OpenFault → List PlainEntry → Type 0

@@ -1,5 +1,6 @@
 -- What only private functions cite.
-use Rattle.std.specs.Prelude.{◌≡◌, ◌⊎◌, ℕ, ◌+◌, ◌*◌, ◌<◌, ◌≤◌, Bool, true, false, List, ◌∷◌, [], ◌++◌, length, Option, None, Some, IsTrue}
+use Rattle.std.specs.Prelude.{◌≡◌, ◌⊎◌, ℕ, ◌+◌, ◌*◌, ◌<◌, ◌≤◌, Bool, true, false, List, ◌∷◌, [], ◌++◌, length, Option, None, Some, Result, Ok, Err, IsTrue}
+use Rattle.tumbler.specs.declared.memory.Memory.{Memory}
 use Rattle.tumbler.specs.Places.{IsTumbler}
 use Rattle.febe_data.specs.declared.refusal.Refusal.TheVariants.{Disk}
 use Rattle.febe_data.specs.Plain.{PlainChange, document_created, version_made, copy_opened, text_inserted, specs_copied, link_made, PlainReply, refused, PlainEntry}
@@ -17,6 +18,7 @@ use Rattle.tree_world.specs.Condition.{Condition, StaysInShape}
 use Rattle.green_store.specs.declared.tending.Tended.{Tended}
 use Rattle.green_store.specs.declared.tending.Tended.TheVariants as tended
 use Rattle.green_store.specs.Durable.{Keeps, StaysPending, IsThat, LogHas}
+use Rattle.green_store.specs.IsStep.{MayBalance, IsBalanced, unsaved}
 use Rattle.green_store.specs.StoreView.{StoreView}
 
 -- one edit is pending behind these entries, of which this holds
@@ -73,6 +75,23 @@ IsTended old base tended.Balanced new after = (old.allows ≡ true) × (new.debt
 IsTended old base tended.Swept new after = (old.allows ≡ false) × (2 * base + 1024 < old.nodes) × (new.nodes ≡ old.reached) × (new.unreached ≡ 0) × StaysInShape old new × (after ≡ new.nodes)
 IsTended old base tended.Idle new after = (old.allows ≡ false) × (old.nodes ≤ 2 * base + 1024) × (new ≡ old) × (after ≡ base)
 
+-- nodes that no root reaches were let go, since they were many, or they are few, and nothing changed
+abbrev pub IsSweeping : Condition → ℕ → Bool → Condition → ℕ → Type 0
+IsSweeping old base true new after = (2 * base + 1024 < old.nodes) × (new.nodes ≡ old.reached) × (new.unreached ≡ 0) × StaysInShape old new × (after ≡ new.nodes)
+IsSweeping old base false new after = (old.nodes ≤ 2 * base + 1024) × (new ≡ old) × (after ≡ base)
+
 -- something is to be put right, but there was no memory for it, and nothing changed
 abbrev pub IsPutOffFor : Condition → ℕ → Condition → ℕ → Type 0
 IsPutOffFor old base new after = ((old.allows ≡ true) ⊎ ((old.allows ≡ false) × (2 * base + 1024 < old.nodes))) × (new ≡ old) × (after ≡ base)
+
+-- A step of the balancer was made, where some tree allows one; or none does, and nothing changed; or there was no memory for
+-- it, and nothing changed.
+abbrev pub IsBalancing : Result Bool Memory → StoreView → StoreView → Type 0
+IsBalancing (Ok true) before after = IsBalanced before after
+IsBalancing (Ok false) before after = (before.trees.allows ≡ false) × (after ≡ before)
+IsBalancing (Err error) before after = MayBalance before × (after ≡ before)
+
+-- no tree allows a step of the balancer, and too few kept entries stand behind those for which the pages stand
+pub record IsSpared (before : StoreView) : Type 0 where
+  pub balanced : before.trees.allows ≡ false
+  pub saved : unsaved before < before.limits.flush

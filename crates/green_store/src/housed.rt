@@ -7,7 +7,11 @@ ghost use Rattle.history_lock.specs.Histories.{Grows};
 ghost use Rattle.green_store.specs.Durable.{has_risen, Keeps, HoldsStep, KeepsStep};
 ghost use Rattle.green_store.specs.HousedView.{IsOneDisk};
 ghost use Rattle.green_store.specs.HousePlays.{HousePlays, IsStepOf, step_for, number_after};
-ghost use Rattle.green_store.specs.IsStep.{IsStep, UnlessAsked, UnlessSwept};
+ghost use Rattle.world_rules.specs.History.{durable_entries};
+ghost use Rattle.page_journal.specs.Images.{is_paged};
+ghost use Rattle.green_flush.specs.Loads.{TreesAt};
+ghost use Rattle.green_store.specs.Paged.{IsPaged, HasPages, EachLoadsFor, MayLoad};
+ghost use Rattle.green_store.specs.IsStep.{IsStep, UnlessAsked, UnlessSwept, UnlessFlushed, OnFlushed, UnlessTended, OnTended, unsaved};
 ghost use Rattle.green_store.specs.Marks.{owner_of, numbers_of, marks_of};
 
 use crate::laws::no_session_is_zero;
@@ -76,10 +80,15 @@ impl<D: Disk> Housed<D> {
         ensures limits { self.new.store.limits ≡ self.old.store.limits }
         ensures any_moment { (pending : Option PlainEntry) → Keeps (D.state self.old.disk) self.old.store pending → LeavesOnly (D.state self.old.disk) (D.state self.new.disk) (HoldsStep self.old.store pending step) }
         ensures keeps { (pending : Option PlainEntry) → Keeps (D.state self.old.disk) self.old.store pending → KeepsStep self.old.store pending step self.new.store result (D.state self.new.disk) }
-        ensures others { LeavesBut is_log (D.state self.old.disk) (D.state self.new.disk) }
+        ensures pages_any_moment { (was now : Option TreesAt) → IsPaged (D.state self.old.disk) self.old.store was now → LeavesOnly (D.state self.old.disk) (D.state self.new.disk) (MayLoad was now (durable_entries self.old.store.history)) }
+        ensures flushed { OnFlushed result (HasPages (D.state self.old.disk) self.old.store → EachLoadsFor (durable_entries self.new.store.history) (D.state self.new.disk)) }
+        ensures others { UnlessTended step (LeavesBut is_log (D.state self.old.disk) (D.state self.new.disk)) }
+        ensures log { OnTended step (LeavesBut is_paged (D.state self.old.disk) (D.state self.new.disk)) }
         ensures never_falls { D.fault_count self.old.disk ≤ D.fault_count self.new.disk }
         ensures base { UnlessSwept result (self.new.store.base ≡ self.old.store.base) }
-        ensures untouched { UnlessAsked step (self.new.disk ≡ self.old.disk) }
+        ensures flushed_stays { UnlessFlushed result (self.new.store.flushed ≡ self.old.store.flushed) }
+        ensures untouched { UnlessAsked step (UnlessTended step (self.new.disk ≡ self.old.disk)) }
+        ensures left_alone { OnTended step (unsaved self.old.store < self.old.store.limits.flush → self.new.disk ≡ self.old.disk) }
     {
         self.store.step(alloc, &mut self.disk, step)
     }
@@ -149,7 +158,9 @@ impl<D: Disk> Kept for Housed<D> {
         ensures plays { HousePlays (numbers_of self.old.store.limits) self.old.store.history number job result.answer result.number self.new.store.history (marks_of (D.fault_count self.old.disk) self.old.store) (marks_of (D.fault_count self.new.disk) self.new.store) }
         ensures any_moment { (pending : Option PlainEntry) → Keeps (D.state self.old.disk) self.old.store pending → LeavesOnly (D.state self.old.disk) (D.state self.new.disk) (HoldsStep self.old.store pending (step_for number job)) }
         ensures keeps { (pending : Option PlainEntry) → Keeps (D.state self.old.disk) self.old.store pending → KeepsStep self.old.store pending (step_for number job) self.new.store result.answer (D.state self.new.disk) }
-        ensures others { LeavesBut is_log (D.state self.old.disk) (D.state self.new.disk) }
+        ensures pages_any_moment { (was now : Option TreesAt) → IsPaged (D.state self.old.disk) self.old.store was now → LeavesOnly (D.state self.old.disk) (D.state self.new.disk) (MayLoad was now (durable_entries self.old.store.history)) }
+        ensures others { UnlessTended (step_for number job) (LeavesBut is_log (D.state self.old.disk) (D.state self.new.disk)) }
+        ensures log { OnTended (step_for number job) (LeavesBut is_paged (D.state self.old.disk) (D.state self.new.disk)) }
         ensures never_falls { D.fault_count self.old.disk ≤ D.fault_count self.new.disk }
     {
         no_session_is_zero(&self.store);

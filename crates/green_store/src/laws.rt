@@ -11,7 +11,7 @@ ghost use Rattle.green_store.specs.Opening.{EachHasOneOpening};
 use crate::store::StoreOver;
 use edit_log::laws::{one_reading, open_is_whole, pending_is_whole};
 use green_io::Disk;
-use tree_world::Undo;
+use paged_world::OnPages;
 
 /// Whatever sessions ask, in whatever order: new documents are new, and changes are made at places that are there.
 pub fn steps_stay_placed()
@@ -24,7 +24,7 @@ pub fn steps_count()
 {}
 
 /// What a crash leaves of a disk between two steps: a whole log with the kept entries, or with the pending edit behind them.
-pub fn images_are_kept<W: Undo, D: Disk>(disk: &D, store: &StoreOver<W>)
+pub fn images_are_kept<W: OnPages, D: Disk>(disk: &D, store: &StoreOver<W>)
     ensures { (pending : Option PlainEntry) → Keeps (D.state disk.now) store.now pending → (image : Areas) → images_now (D.state disk.now) image → HoldsWith (durable_entries store.now.history) (IsThat pending) image }
 {
     open_is_whole(disk, &store.log);
@@ -44,7 +44,7 @@ pub fn legal_steps_add_own()
 {}
 
 /// Sessions have numbers from 1 on, so none of a store is live under the number 0.
-pub fn no_session_is_zero<W: Undo>(store: &StoreOver<W>)
+pub fn no_session_is_zero<W: OnPages>(store: &StoreOver<W>)
     ensures { is_live store.now.history 0 ≡ false }
 {
     let _ = &store.history;

@@ -1,22 +1,29 @@
 //! Opening a store: the log is read, and its entries build the world again.
-ghost use Rattle.std.specs.Prelude.{◌≡◌, ◌≤◌, [], length, None, IfOk, IsSome};
+ghost use Rattle.std.specs.Prelude.{◌≡◌, ◌≤◌, List as ListOf, [], ◌∷◌, ◌++◌, length, take, true, false, None, Option as OptionOf, IfOk, IsSome};
 ghost use Rattle.std.specs.List.{AllByRecursion};
-ghost use Rattle.febe_data.specs.Plain.{plain_history};
+ghost use Rattle.febe_data.specs.Plain.{PlainEntry, plain_entry, plain_history};
 ghost use Rattle.entry_codec.specs.Bodies.{HasBody};
 ghost use Rattle.entry_fits.specs.Fits.{AllFit};
-ghost use Rattle.green_io.specs.Areas.{is_log};
-ghost use Rattle.green_io.specs.Disk.{LeavesOnly, LeavesBut, WhereTold};
+ghost use Rattle.entry_fits.specs.Greatest.{AreSerialsOf};
+ghost use Rattle.green_io.specs.Disk.{LeavesOnly, WhereTold};
 ghost use Rattle.green_io.specs.Outside.{HasRisen};
-ghost use Rattle.world_rules.specs.FlatView.{nothing_yet};
-ghost use Rattle.edit_log.specs.Images.{AsRead, HoldsAsRead};
+ghost use Rattle.world_rules.specs.FlatView.{FlatView, nothing_yet, view_of, after_entry};
+ghost use Rattle.edit_log.specs.Images.{AreEntries, AsRead, HoldsAsRead};
 ghost use Rattle.edit_log.specs.Log.{gated, most_entries, IsWhole};
+ghost use Rattle.page_journal.specs.JournalBytes.{opened};
+ghost use Rattle.page_trees.specs.Trees.{PlainTrees};
+ghost use Rattle.green_flush.specs.Loads.{TreesAt, AreLoaded, HasLoaded};
+ghost use Rattle.green_flush.specs.Standing.{IsRenewed, trees_at};
+ghost use Rattle.tree_world.specs.Nodes.{AllGrown};
+ghost use Rattle.paged_world.specs.Standing.{MayGoOn};
 ghost use Rattle.green_store.specs.Durable.{Keeps};
-ghost use Rattle.green_store.specs.Opening.{IsOpenedFrom, IsDamagedLog, IsUnfitBehind, OnDamagedLog, OnDiskFailed, UnlessDiskFailed, ReadsAsBefore, OpensAs, opened_with};
-ghost use Rattle.green_store.specs.Replayed.{IsReplayed};
+ghost use Rattle.green_store.specs.Paged.{HasPages};
+ghost use Rattle.green_store.specs.Opening.{IsFlushedAt, IsFlushedFrom, IsOpenedFrom, IsDamagedLog, IsUnfitBehind, OnDamagedLog, OnDiskFailed, UnlessDiskFailed, ReadsAsBefore, OpensAs, opened_with};
+ghost use Rattle.green_store.specs.Replayed.{AreTold, IsRetold, IsRebuilt, AreTreesAt, MayHaveGoneOn, came_to, IsSameOrRenewed};
 ghost use Rattle.green_store.specs.Sessions.{greatest_session};
 
 use crate::store::{Store, StoreOver};
-use crate::tending::tend;
+use crate::tending::{Tended, tend};
 use edit_log::laws::one_reading;
 use edit_log::{EditLog, LogFault};
 use entry_codec::encode;
@@ -24,10 +31,13 @@ use entry_codec::laws::body_says_length;
 use entry_fits::laws::{fitting_are_kept, fitting_begin, one_more_fits};
 use entry_fits::{Serials, fits};
 use febe_data::{Change, Entry, Limits, List, Memory};
+use green_flush::{Flush, Opened, Trees, open_pages};
 use green_io::Disk;
+use page_journal::PageFault;
+use paged_world::OnPages;
 use std::alloc::Global;
 use thiserror::Error;
-use tree_world::{Rebalance, TreeWorld, Undo};
+use tree_world::{Rebalance, TreeWorld};
 
 /// Why a store was not opened. Its text is the one that a program prints.
 #[derive(Clone, Copy, Debug, PartialEq, Eq, Error)]
@@ -54,6 +64,19 @@ impl From<Memory> for OpenFault {
 
     fn from(_memory: Memory) -> OpenFault {
         OpenFault::Memory
+    }
+}
+
+impl From<PageFault> for OpenFault {
+    ghost use Rattle.green_store.specs.Opening.{fault_of_pages};
+
+    ghost from_gives = { λ was fault. fault ≡ fault_of_pages was };
+
+    fn from(fault: PageFault) -> OpenFault {
+        match fault {
+            PageFault::Disk => OpenFault::Disk,
+            PageFault::Memory => OpenFault::Memory,
+        }
     }
 }
 
@@ -87,29 +110,196 @@ fn gate_behind(alloc: Global, entries: &[Entry]) -> Result<u64, Memory>
     Ok(at)
 }
 
-/// Builds the world of the entries, each of which is tested to fit after those before it. It gives the number of entries in
-/// front of the first that does not, where one does not. The trees are put right by one step behind each entry.
-fn replay<W: Rebalance>(
+/// What telling some of the entries again came to.
+#[derive(Clone, Copy)]
+pub(crate) enum Retold {
+    /// The entry at this place does not fit after those before it.
+    Unfit { at: usize },
+    /// All of them fit. Whether nodes were swept away meanwhile.
+    Whole { swept: bool },
+}
+
+/// What building a world from all entries came to.
+#[derive(Clone, Copy)]
+pub(crate) enum Rebuilt {
+    /// The entry at this place does not fit after those before it.
+    Unfit { at: usize },
+    /// All of them fit. For how many the trees stand that are gone on from, 0 where none are; and whether the next save may go on
+    /// from them.
+    Whole { flushed: u64, goes_on: bool },
+}
+
+/// Tells an entry again that fits, and puts the trees right by one step. It gives whether nodes were swept away now or before.
+fn retell_one<W: Rebalance>(
     alloc: Global,
     world: &mut W,
+    serials: &mut Serials,
+    base: &mut u64,
+    entry: &Entry,
+    before: bool,
+) -> Result<bool, Memory>
+    ensures stands { (view : FlatView) → W.stands world.old view → IfOk result (λ swept. W.stands world.new (after_entry view (plain_entry entry.now))) }
+    ensures noted { (past : ListOf PlainEntry) → AreSerialsOf past serials.old → IfOk result (λ swept. AreSerialsOf (past ++ plain_entry entry.now ∷ []) serials.new) }
+    ensures nodes { IfOk result (λ swept. swept ≡ false → (before ≡ false) × AllGrown (W.world_nodes world.old) (W.world_nodes world.new)) }
+{
+    world.replay(alloc, entry)?;
+    serials.add(entry)?;
+    match tend(alloc, world, base)? {
+        Tended::Swept => Ok(true),
+        Tended::Balanced => Ok(before),
+        Tended::Idle => Ok(before),
+    }
+}
+
+/// Tells the entries from one place to another again, over a world that those before them have built. Each is tested to fit
+/// after those before it, and the trees are put right by one step behind each.
+fn retell<W: Rebalance>(
+    alloc: Global,
+    world: &mut W,
+    serials: &mut Serials,
+    base: &mut u64,
     entries: &[Entry],
-) -> Result<Option<usize>, Memory>
-    requires { W.stands world.old nothing_yet }
-    ensures { IfOk result (λ found. IsReplayed (plain_history entries.now) (W.stands world.new) found) }
+    from: usize,
+    to: usize,
+) -> Result<Retold, Memory>
+    requires order { from ≤ to }
+    requires within { to ≤ length entries.now }
+    requires told { AreTold (plain_history (take from entries.now)) (W.stands world.old) serials.old }
+    ensures told { IfOk result (IsRetold (plain_history entries.now) (plain_history (take to entries.now)) (W.stands world.new) serials.new (W.world_nodes world.old) (W.world_nodes world.new)) }
+    ensures idle { from ≡ to → world.new ≡ world.old }
 {
     // So the entries in front of each one fit.
     one_more_fits();
+    let mut swept = false;
+    for count in from..to {
+        let entry = &entries[count];
+        if !fits(world, alloc, serials.greatest(entry.session), entry)? {
+            return Ok(Retold::Unfit { at: count });
+        }
+        swept = retell_one(alloc, world, serials, base, entry, swept)?;
+    }
+    Ok(Retold::Whole { swept })
+}
+
+/// Builds the world of the entries, with no trees to go on from.
+fn rebuild_afresh<W: Rebalance>(
+    alloc: Global,
+    world: &mut W,
+    entries: &[Entry],
+) -> Result<Rebuilt, Memory>
+    requires { W.stands world.old nothing_yet }
+    ensures rebuilt { IfOk result (IsRebuilt (plain_history entries.now) (W.stands world.new)) }
+    ensures afresh { IfOk result (MayHaveGoneOn None (plain_history entries.now) (W.condition world.new) (W.world_nodes world.new)) }
+{
     let mut serials = Serials::new(alloc);
     let mut base = world.nodes();
-    for (count, entry) in entries.iter().enumerate() {
-        if !fits(world, alloc, serials.greatest(entry.session), entry)? {
-            return Ok(Some(count));
-        }
-        world.apply(alloc, entry)?;
-        serials.add(entry)?;
-        tend(alloc, world, &mut base)?;
+    let to = entries.len();
+    match retell(alloc, world, &mut serials, &mut base, entries, 0, to)? {
+        Retold::Unfit { at } => Ok(Rebuilt::Unfit { at }),
+        Retold::Whole { swept: _ } => Ok(Rebuilt::Whole {
+            flushed: 0,
+            goes_on: false,
+        }),
     }
-    Ok(None)
+}
+
+/// Builds the world of the entries, and behind so many of them goes on with these trees, if they stand for what these build.
+/// Behind the last entry nothing is put right any more then, so that the trees are as they were read.
+fn rebuild_on<W: OnPages>(
+    alloc: Global,
+    world: &mut W,
+    entries: &[Entry],
+    trees: Trees,
+    position: usize,
+) -> Result<Rebuilt, Memory>
+    requires stands { W.stands world.old nothing_yet }
+    requires within { position ≤ length entries.now }
+    requires sound { (plain : PlainTrees) × AreLoaded trees plain }
+    ensures rebuilt { IfOk result (IsRebuilt (plain_history entries.now) (W.stands world.new)) }
+    ensures gone_on { (plain : PlainTrees) → AreLoaded trees plain → IfOk result (MayHaveGoneOn (trees_at plain position) (plain_history entries.now) (W.condition world.new) (W.world_nodes world.new)) }
+{
+    let mut serials = Serials::new(alloc);
+    let mut base = world.nodes();
+    match retell(alloc, world, &mut serials, &mut base, entries, 0, position)? {
+        Retold::Unfit { at } => Ok(Rebuilt::Unfit { at }),
+        Retold::Whole { swept: _ } => {
+            rebuild_behind(alloc, world, serials, base, entries, trees, position)
+        }
+    }
+}
+
+/// Goes on with these trees over a world that so many entries have built, and builds on with the entries behind them.
+fn rebuild_behind<W: OnPages>(
+    alloc: Global,
+    world: &mut W,
+    mut serials: Serials,
+    mut base: u64,
+    entries: &[Entry],
+    trees: Trees,
+    position: usize,
+) -> Result<Rebuilt, Memory>
+    requires within { position ≤ length entries.now }
+    requires told { AreTold (plain_history (take position entries.now)) (W.stands world.old) serials }
+    requires sound { (plain : PlainTrees) × AreLoaded trees plain }
+    ensures rebuilt { IfOk result (IsRebuilt (plain_history entries.now) (W.stands world.new)) }
+    ensures gone_on { (plain : PlainTrees) → AreLoaded trees plain → IfOk result (MayHaveGoneOn (trees_at plain position) (plain_history entries.now) (W.condition world.new) (W.world_nodes world.new)) }
+{
+    let adopted = world.adopt(alloc, trees)?;
+    let to = entries.len();
+    match retell(alloc, world, &mut serials, &mut base, entries, position, to)? {
+        Retold::Unfit { at } => Ok(Rebuilt::Unfit { at }),
+        Retold::Whole { swept } => Ok(went_on(adopted, swept, position as u64)),
+    }
+}
+
+/// What it came to, where all entries fit.
+fn went_on(adopted: bool, swept: bool, position: u64) -> Rebuilt
+    ensures { result ≡ came_to adopted swept position }
+{
+    if !adopted {
+        return Rebuilt::Whole {
+            flushed: 0,
+            goes_on: false,
+        };
+    }
+    Rebuilt::Whole {
+        flushed: position,
+        goes_on: !swept,
+    }
+}
+
+/// Builds the world of the entries, each of which is tested to fit after those before it. It goes on with the trees that were
+/// loaded, where these stand for as many first entries as they say.
+fn rebuild<W: OnPages>(
+    alloc: Global,
+    world: &mut W,
+    entries: &[Entry],
+    loaded: Option<(Trees, u64)>,
+) -> Result<Rebuilt, Memory>
+    requires stands { W.stands world.old nothing_yet }
+    requires sound { HasLoaded loaded }
+    ensures rebuilt { IfOk result (IsRebuilt (plain_history entries.now) (W.stands world.new)) }
+    ensures gone_on { (now : OptionOf TreesAt) → AreTreesAt loaded now → IfOk result (MayHaveGoneOn now (plain_history entries.now) (W.condition world.new) (W.world_nodes world.new)) }
+{
+    let Some((trees, position)) = loaded else {
+        return rebuild_afresh(alloc, world, entries);
+    };
+    if position > entries.len() as u64 {
+        return rebuild_afresh(alloc, world, entries);
+    }
+    rebuild_on(alloc, world, entries, trees, position as usize)
+}
+
+/// Where the next save may not go on, it writes every stream anew.
+fn for_saves(mut flush: Flush, goes_on: bool) -> Flush
+    ensures same { goes_on ≡ true → result ≡ flush }
+    ensures anew { goes_on ≡ false → IsRenewed flush result }
+{
+    if goes_on {
+        return flush;
+    }
+    flush.renew();
+    flush
 }
 
 /// The greatest session number of the entries, 0 where there is none.
@@ -123,7 +313,7 @@ fn greatest_session(entries: &[Entry]) -> u64
     greatest
 }
 
-impl<W: Undo + Drop> StoreOver<W> {
+impl<W: OnPages + Drop> StoreOver<W> {
     /// Opens a store over a disk, as [`Store::open`] does, with this world, which no entry has changed yet.
     pub fn open_over<D: Disk>(
         alloc: Global,
@@ -140,7 +330,8 @@ impl<W: Undo + Drop> StoreOver<W> {
         ensures left { UnlessDiskFailed result (ReadsAsBefore (D.state disk.old).reads (D.state disk.new).reads) }
         ensures whole { (entries : _) → AsRead (D.state disk.old).reads (IsWhole entries) → OpensAs result entries }
         ensures any_moment { (entries : _) → AsRead (D.state disk.old).reads (IsWhole entries) → LeavesOnly (D.state disk.old) (D.state disk.new) (HoldsAsRead entries (D.state disk.old).reads) }
-        ensures others { LeavesBut is_log (D.state disk.old) (D.state disk.new) }
+        ensures pages { IfOk result (λ store. IsSome (D.state disk.old).reads → HasPages (D.state disk.new) store) }
+        ensures flushed { IfOk result (λ store. WhereTold (D.state disk.old).reads (λ areas. IsFlushedFrom (opened areas) store)) }
         ensures never_falls { D.fault_count disk.old ≤ D.fault_count disk.new }
         ensures failed { OnDiskFailed result (HasRisen (D.fault_count disk.old) (D.fault_count disk.new)) }
     {
@@ -148,42 +339,80 @@ impl<W: Undo + Drop> StoreOver<W> {
         one_reading();
         fitting_are_kept();
         let (log, entries) = EditLog::open(alloc, disk)?;
-        StoreOver::over(alloc, world, log, entries, limits)
+        let pages = open_pages(alloc, disk)?;
+        StoreOver::over(alloc, world, log, entries, limits, pages)
     }
 
-    /// A store with the entries of an open log, over a world that no entry has changed yet.
+    /// A store with the entries of an open log, over a world that no entry has changed yet, and with what its pages gave.
     fn over(
         alloc: Global,
         mut world: W,
         log: EditLog,
         entries: List<Entry>,
         limits: Limits,
+        pages: Opened,
     ) -> Result<StoreOver<W>, OpenFault>
         requires stands { W.stands world nothing_yet }
         requires spelled { AllByRecursion HasBody (plain_history entries.items) }
         requires few { length (plain_history entries.items) ≤ most_entries }
+        requires sound { HasLoaded pages.trees }
         ensures history { IfOk result (λ store. store.history ≡ opened_with (plain_history entries.items)) }
         ensures fit { IfOk result (λ store. AllFit [] (plain_history entries.items)) }
         ensures limits { IfOk result (λ store. store.limits ≡ limits) }
         ensures log { IfOk result (λ store. store.log ≡ log) }
         ensures base { IfOk result (λ store. store.base ≡ store.trees.nodes) }
+        ensures flush { IfOk result (λ store. IsSameOrRenewed pages.flush store.flush) }
+        ensures goes_on { (now : OptionOf TreesAt) → AreTreesAt pages.trees now → IfOk result (λ store. MayGoOn store.flush now store.nodes) }
+        ensures flushed { (now : OptionOf TreesAt) → AreTreesAt pages.trees now → IfOk result (IsFlushedAt now (plain_history entries.items)) }
         ensures damaged { OnDamagedLog result (λ at. (front : _) × IsUnfitBehind front (plain_history entries.items) × (at ≡ length (gated front))) }
         ensures no_disk { OnDiskFailed result ⊥ }
+    {
+        let Opened { flush, trees } = pages;
+        match rebuild(alloc, &mut world, entries.as_slice(), trees)? {
+            Rebuilt::Unfit { at } => {
+                let at = gate_behind(alloc, entries.as_slice().split_at(at).0)?;
+                Err(OpenFault::Damaged { at })
+            }
+            Rebuilt::Whole { flushed, goes_on } => {
+                let flush = for_saves(flush, goes_on);
+                let store = StoreOver::begun(alloc, world, log, entries, limits, flush, flushed)?;
+                Ok(store)
+            }
+        }
+    }
+
+    /// A store that begins with these entries and a restart, over a world that the entries have built.
+    fn begun(
+        alloc: Global,
+        mut world: W,
+        log: EditLog,
+        entries: List<Entry>,
+        limits: Limits,
+        flush: Flush,
+        flushed: u64,
+    ) -> Result<StoreOver<W>, Memory>
+        requires stands { W.stands world (view_of (plain_history entries.items)) }
+        requires entries { AreEntries (plain_history entries.items) }
+        requires within { flushed ≤ length (plain_history entries.items) }
+        ensures history { IfOk result (λ store. store.history ≡ opened_with (plain_history entries.items)) }
+        ensures limits { IfOk result (λ store. store.limits ≡ limits) }
+        ensures log { IfOk result (λ store. store.log ≡ log) }
+        ensures base { IfOk result (λ store. store.base ≡ store.trees.nodes) }
+        ensures trees { IfOk result (λ store. store.trees ≡ W.condition world) }
+        ensures nodes { IfOk result (λ store. store.nodes ≡ W.world_nodes world) }
+        ensures flush { IfOk result (λ store. store.flush ≡ flush) }
+        ensures flushed { IfOk result (λ store. store.flushed ≡ flushed) }
     {
         // So the history is regular, and its kept entries are those of the log.
         fitting_are_kept();
         fitting_begin();
-        if let Some(front) = replay(alloc, &mut world, entries.as_slice())? {
-            let at = gate_behind(alloc, entries.as_slice().split_at(front).0)?;
-            return Err(OpenFault::Damaged { at });
-        }
         let greatest = greatest_session(entries.as_slice());
         let restart = Entry {
             session: 0,
             serial: 0,
             change: Change::Restart,
         };
-        world.apply(alloc, &restart)?;
+        world.apply_beside(alloc, &restart)?;
         let base = world.nodes();
         let mut history = entries;
         history.push(restart)?;
@@ -195,6 +424,8 @@ impl<W: Undo + Drop> StoreOver<W> {
             limits,
             log,
             base,
+            flush,
+            flushed,
         })
     }
 }
@@ -204,9 +435,14 @@ impl StoreOver<TreeWorld> {
     /// before it, and restarts. No session is live then.
     ///
     /// A log of n bytes is read once, and behind each entry the trees are put right by one step, so that they are in the shape
-    /// that a run leaves which makes one behind each edit. Home and journal are left alone. Where the log is damaged its place is that of the first
-    /// gate with no entry behind it, or one too many, anywhere; and only where there is none, of the first whose entry does not
-    /// fit. Limits that are below what the log has do not matter here: edits are then refused as full.
+    /// that a run leaves which makes one behind each edit. The trees that the pages hold are loaded first; behind the entry that
+    /// they say they stand for they are compared with the world that was built, and the store goes on from them where they stand
+    /// for it. Else they are put aside, nothing is written for them, and the next save writes every stream anew; so it does where
+    /// nodes were swept away behind that entry.
+    ///
+    /// Where the log is damaged its place is that of the first gate with no entry behind it, or one too many, anywhere; and only
+    /// where there is none, of the first whose entry does not fit. Limits that are below what the log has do not matter here:
+    /// edits are then refused as full.
     pub fn open<D: Disk>(alloc: Global, disk: &mut D, limits: Limits) -> Result<Store, OpenFault>
         ensures history { IfOk result (λ store. IsOpenedFrom (D.state disk.old).reads store.history) }
         ensures limits { IfOk result (λ store. store.limits ≡ limits) }
@@ -216,7 +452,8 @@ impl StoreOver<TreeWorld> {
         ensures left { UnlessDiskFailed result (ReadsAsBefore (D.state disk.old).reads (D.state disk.new).reads) }
         ensures whole { (entries : _) → AsRead (D.state disk.old).reads (IsWhole entries) → OpensAs result entries }
         ensures any_moment { (entries : _) → AsRead (D.state disk.old).reads (IsWhole entries) → LeavesOnly (D.state disk.old) (D.state disk.new) (HoldsAsRead entries (D.state disk.old).reads) }
-        ensures others { LeavesBut is_log (D.state disk.old) (D.state disk.new) }
+        ensures pages { IfOk result (λ store. IsSome (D.state disk.old).reads → HasPages (D.state disk.new) store) }
+        ensures flushed { IfOk result (λ store. WhereTold (D.state disk.old).reads (λ areas. IsFlushedFrom (opened areas) store)) }
         ensures never_falls { D.fault_count disk.old ≤ D.fault_count disk.new }
         ensures failed { OnDiskFailed result (HasRisen (D.fault_count disk.old) (D.fault_count disk.new)) }
     {

@@ -11,8 +11,9 @@ pub enum Step {
     Ask { session: u64, request: Request },
     /// A session ends without a quit.
     End { session: u64 },
-    /// The trees are put right, by one step: a node is split, merged or dropped where some tree allows it; else nodes that no
-    /// tree reaches are let go, once they are many, in a sweep over all nodes.
+    /// The trees are put right, by one step: a node is split, merged or dropped where some tree allows it; else all trees are
+    /// written to pages, where so many kept entries stand behind those that the pages stand for as the limits say; else nodes
+    /// that no tree reaches are let go, once they are many, in a sweep over all nodes.
     Background,
 }
 
@@ -31,6 +32,10 @@ pub enum StepAnswer {
     Ended,
     /// One step of the balancer was made in a tree.
     Balanced,
+    /// The pages stand for all kept entries.
+    Flushed,
+    /// The disk failed while pages were written.
+    Disk,
     /// The nodes that no tree reaches are gone.
     Swept,
     /// Nothing is to be put right.

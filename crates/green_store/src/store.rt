@@ -3,21 +3,25 @@ ghost use Rattle.std.specs.Prelude.{◌≡◌, ◌≢◌, ◌⊎◌, ◌≤◌, 
 ghost use Rattle.std.specs.List.{list_any};
 
 use crate::keeping::{keep, look_at, record_of};
+use crate::laws::images_are_kept;
 use crate::step::{Step, StepAnswer};
-use crate::tending::{Tended, tend};
+use crate::tending::sweep;
 use edit_log::{Appended, EditLog};
 use febe_data::{Change, Entry, Limits, List, Memory, Refusal, Reply, Request, Tumbler};
+use green_flush::Flush;
 use green_io::Disk;
+use page_journal::PageFault;
+use paged_world::OnPages;
 use std::alloc::Global;
 use std::marker::Model;
-use tree_world::{TreeWorld, Undo};
+use tree_world::TreeWorld;
 use world_rules::{Effect, Served, is_durable};
 
 /// A history that begins with the entries of a log and a restart, the world that it has built, to which each entry is applied
 /// once, and the log, to which each kept entry is appended before it is in the history. Any world serves that entries change,
 /// that takes the last one back, that can be put into better shape, and that answers what requests look up.
 #[derive(Drop)]
-pub struct StoreOver<W: Undo> {
+pub struct StoreOver<W: OnPages> {
     pub(crate) history: List<Entry>,
     pub(crate) world: W,
     /// The live sessions. The history has room for the end of each.
@@ -28,24 +32,28 @@ pub struct StoreOver<W: Undo> {
     pub(crate) log: EditLog,
     /// How many nodes the trees had once they were last swept, or when the store opened.
     pub(crate) base: u64,
+    /// What is known of the pages.
+    pub(crate) flush: Flush,
+    /// For how many kept entries the pages stand.
+    pub(crate) flushed: u64,
 }
 
 /// The store of a back end that keeps its world in trees and tables.
 pub type Store = StoreOver<TreeWorld>;
 
-impl<W: Undo> Model for StoreOver<W> {
+impl<W: OnPages> Model for StoreOver<W> {
     ghost use Rattle.febe_data.specs.Plain.{plain_history};
     ghost use Rattle.green_store.specs.StoreView.{StoreView};
     ghost use Rattle.green_store.specs.IsStore.{IsStore};
 
     ghost Value = { StoreView };
 
-    ghost view = { λ s. record { history = plain_history s.history.items; limits = s.limits; log = s.log; trees = W.condition s.world; base = s.base } };
+    ghost view = { λ s. record { history = plain_history s.history.items; limits = s.limits; log = s.log; trees = W.condition s.world; base = s.base; nodes = W.world_nodes s.world; flush = s.flush; flushed = s.flushed } };
 
-    ghost invariant = { λ s. IsStore (plain_history s.history.items) s.history.spare (W.stands s.world) s.live.items s.greatest };
+    ghost invariant = { λ s. IsStore (plain_history s.history.items) s.history.spare (W.stands s.world) s.live.items s.greatest s.flushed };
 }
 
-impl<W: Undo + Drop> StoreOver<W> {
+impl<W: OnPages + Drop> StoreOver<W> {
     ghost use Rattle.febe_data.specs.Plain.{plain_history};
     ghost use Rattle.febe_data.specs.Plain.{PlainEntry};
     ghost use Rattle.green_io.specs.Areas.{is_log};
@@ -53,35 +61,47 @@ impl<W: Undo + Drop> StoreOver<W> {
     ghost use Rattle.world_rules.specs.Apply.{world_of};
     ghost use Rattle.world_rules.specs.FlatView.{view_of};
     ghost use Rattle.world_rules.specs.Holding.{holder};
+    ghost use Rattle.world_rules.specs.History.{durable_entries};
     ghost use Rattle.green_store.specs.Durable.{has_risen, Keeps, HoldsStep, KeepsStep};
-    ghost use Rattle.green_store.specs.IsStep.{IsStep, UnlessAsked, UnlessSwept};
+    ghost use Rattle.page_journal.specs.Images.{is_paged};
+    ghost use Rattle.green_flush.specs.Loads.{TreesAt};
+    ghost use Rattle.green_store.specs.IsStep.{IsStep, UnlessAsked, UnlessSwept, UnlessFlushed, OnFlushed, UnlessTended, OnTended, unsaved};
+    ghost use Rattle.green_store.specs.Paged.{IsPaged, HasPages, EachLoadsFor, MayLoad};
     ghost use Rattle.std.specs.Prelude.{min};
     ghost use Rattle.enfilade_core.specs.Summary.{most_count};
 
     /// Does one step, whole: where there is no memory in its midst, or the disk fails, nothing of it stays but an edit that is
-    /// pending in the log, which the next edit takes back first.
+    /// pending in the log, which the next edit takes back first; and but for pages that a save had written when it stopped,
+    /// which change no answer.
     ///
     /// An edit builds its reply, its trees and its record first, then mends the log where an edit is pending, appends, and
     /// stands. What was appended is never refused. Steps that make no kept change leave the disk alone.
     ///
-    /// A background step makes one step of the balancer where a tree allows one. Only where none does, and the arenas hold over
-    /// twice as many nodes as after the last sweep or at opening, and 1,024 more, it lets go of those that no tree reaches. Where
-    /// nothing is to be put right it takes no memory.
+    /// A background step makes one step of the balancer where a tree allows one. Only where none does, it writes all trees to
+    /// pages, if so many kept entries stand behind those that the pages stand for as the limits say. Only where neither is to be
+    /// done, and the arenas hold over twice as many nodes as after the last sweep or at opening, and 1,024 more, it lets go of
+    /// those that no tree reaches. Where nothing is to be put right it takes no memory.
     pub fn step<D: Disk>(&mut self, alloc: Global, disk: &mut D, step: Step) -> StepAnswer
         ensures step { IsStep self.old step self.new result (has_risen (D.fault_count disk.old) (D.fault_count disk.new)) }
         ensures limits { self.new.limits ≡ self.old.limits }
         ensures any_moment { (pending : Option PlainEntry) → Keeps (D.state disk.old) self.old pending → LeavesOnly (D.state disk.old) (D.state disk.new) (HoldsStep self.old pending step) }
         ensures keeps { (pending : Option PlainEntry) → Keeps (D.state disk.old) self.old pending → KeepsStep self.old pending step self.new result (D.state disk.new) }
-        ensures others { LeavesBut is_log (D.state disk.old) (D.state disk.new) }
+        ensures pages { HasPages (D.state disk.old) self.old → HasPages (D.state disk.new) self.new }
+        ensures pages_any_moment { (was now : Option TreesAt) → IsPaged (D.state disk.old) self.old was now → LeavesOnly (D.state disk.old) (D.state disk.new) (MayLoad was now (durable_entries self.old.history)) }
+        ensures flushed { OnFlushed result (HasPages (D.state disk.old) self.old → EachLoadsFor (durable_entries self.new.history) (D.state disk.new)) }
+        ensures others { UnlessTended step (LeavesBut is_log (D.state disk.old) (D.state disk.new)) }
+        ensures log { OnTended step (LeavesBut is_paged (D.state disk.old) (D.state disk.new)) }
         ensures never_falls { D.fault_count disk.old ≤ D.fault_count disk.new }
         ensures base { UnlessSwept result (self.new.base ≡ self.old.base) }
-        ensures untouched { UnlessAsked step (disk.new ≡ disk.old) }
+        ensures flushed_stays { UnlessFlushed result (self.new.flushed ≡ self.old.flushed) }
+        ensures untouched { UnlessAsked step (UnlessTended step (disk.new ≡ disk.old)) }
+        ensures left_alone { OnTended step (unsaved self.old < self.old.limits.flush → disk.new ≡ disk.old) }
     {
         match step {
             Step::Begin => self.begin(alloc),
             Step::Ask { session, request } => self.ask(alloc, disk, session, &request),
             Step::End { session } => self.end(alloc, session),
-            Step::Background => self.tend(alloc),
+            Step::Background => self.tend(alloc, disk),
         }
     }
 
@@ -145,12 +165,13 @@ impl<W: Undo + Drop> StoreOver<W> {
         self.base
     }
 
-    /// How many of the kept entries the disk's pages hold. The store keeps no pages yet, so none: an opening replays the
-    /// log from its first entry.
+    /// For how many of the kept entries the pages stand: 0 where there are none, or they were put aside when the store opened.
+    /// It takes no memory.
     pub fn flushed(&self) -> u64
-        ensures { result ≡ 0 }
+        ensures value { result ≡ self.now.flushed }
+        ensures within { result ≤ length (durable_entries self.now.history) }
     {
-        0
+        self.flushed
     }
 
     /// The session that has the document open for writing, if one has.
@@ -182,7 +203,7 @@ fn remove(live: &mut List<u64>, session: u64)
 }
 
 #[tactic(auto, using(crate::proofs::Histories::histories))]
-impl<W: Undo + Drop> StoreOver<W> {
+impl<W: OnPages + Drop> StoreOver<W> {
     ghost use Rattle.febe_data.specs.Plain.{PlainEntry, plain_request, plain_reply, plain_change};
     ghost use Rattle.febe_data.specs.Validity.{IsRequest, IsReply};
     ghost use Rattle.green_io.specs.Areas.{is_log};
@@ -193,12 +214,17 @@ impl<W: Undo + Drop> StoreOver<W> {
     ghost use Rattle.world_rules.specs.Placed.{IsPlaced};
     ghost use Rattle.world_rules.specs.PlainEffect.{plain_effect};
     ghost use Rattle.green_store.specs.Durable.{has_risen, Keeps, HoldsWith, IsThat, HoldsRequest, KeepsRequest, HoldsStep, KeepsStep};
-    ghost use Rattle.green_store.specs.inside.{MayBeKept, IsKeptOrTakenBack, KeepsEdit};
+    ghost use Rattle.green_store.specs.inside.{MayBeKept, IsKeptOrTakenBack, KeepsEdit, IsBalancing, IsSpared};
     ghost use Rattle.green_store.specs.Sessions.{greatest_session, begin_entry, end_entry};
     ghost use Rattle.green_store.specs.Steps.{Steps};
-    ghost use Rattle.green_store.specs.StoreView.{with_one, StandsStill, StandsAsBefore};
-    ghost use Rattle.green_store.specs.IsStep.{IsStep, IsGiven, OnRefused, UnlessKept, UnlessSwept};
+    ghost use Rattle.green_store.specs.StoreView.{with_one, StandsStill, PagesStandStill, StandsAsBefore};
+    ghost use Rattle.green_store.specs.IsStep.{IsStep, IsGiven, MayFlush, unsaved, OnRefused, UnlessKept, UnlessSwept, UnlessFlushed, OnFlushed};
     ghost use Rattle.green_store.specs.LeavesLive.{LeavesLive};
+    ghost use Rattle.green_store.specs.Paged.{IsPaged, HasPages, EachLoadsFor, MayLoad};
+    ghost use Rattle.green_flush.specs.Loads.{TreesAt};
+    ghost use Rattle.page_journal.specs.Images.{is_paged};
+    ghost use Rattle.tree_world.specs.Nodes.{AllGrown};
+    ghost use Rattle.std.specs.Prelude.{nat_le};
 
     fn begin(&mut self, alloc: Global) -> StepAnswer
         ensures step { (rose : Bool) → IsStep self.old Step.Begin self.new result rose }
@@ -251,17 +277,84 @@ impl<W: Undo + Drop> StoreOver<W> {
         StepAnswer::Ended
     }
 
-    fn tend(&mut self, alloc: Global) -> StepAnswer
-        ensures step { (rose : Bool) → IsStep self.old Step.Background self.new result rose }
+    fn tend<D: Disk>(&mut self, alloc: Global, disk: &mut D) -> StepAnswer
+        ensures step { IsStep self.old Step.Background self.new result (has_risen (D.fault_count disk.old) (D.fault_count disk.new)) }
         ensures limits { self.new.limits ≡ self.old.limits }
-        ensures base { UnlessSwept result (self.new.base ≡ self.old.base) }
+        ensures any_moment { (pending : Option PlainEntry) → Keeps (D.state disk.old) self.old pending → LeavesOnly (D.state disk.old) (D.state disk.new) (HoldsStep self.old pending Step.Background) }
+        ensures keeps { (pending : Option PlainEntry) → Keeps (D.state disk.old) self.old pending → KeepsStep self.old pending Step.Background self.new result (D.state disk.new) }
+        ensures pages { HasPages (D.state disk.old) self.old → HasPages (D.state disk.new) self.new }
+        ensures pages_any_moment { (was now : Option TreesAt) → IsPaged (D.state disk.old) self.old was now → LeavesOnly (D.state disk.old) (D.state disk.new) (MayLoad was now (durable_entries self.old.history)) }
+        ensures flushed { OnFlushed result (HasPages (D.state disk.old) self.old → EachLoadsFor (durable_entries self.new.history) (D.state disk.new)) }
+        ensures log { LeavesBut is_paged (D.state disk.old) (D.state disk.new) }
+        ensures never_falls { D.fault_count disk.old ≤ D.fault_count disk.new }
+        ensures left_alone { unsaved self.old < self.old.limits.flush → disk.new ≡ disk.old }
     {
-        match tend(alloc, &mut self.world, &mut self.base) {
-            Ok(Tended::Balanced) => StepAnswer::Balanced,
-            Ok(Tended::Swept) => StepAnswer::Swept,
-            Ok(Tended::Idle) => StepAnswer::Idle,
-            Err(Memory) => StepAnswer::Memory,
+        let Ok(balanced) = self.balance() else {
+            return StepAnswer::Memory;
+        };
+        if balanced {
+            return StepAnswer::Balanced;
         }
+        if self.may_flush() {
+            return self.save(alloc, disk);
+        }
+        self.sweep(alloc)
+    }
+
+    /// Makes one step of the balancer where a tree allows one, and tells whether one did.
+    fn balance(&mut self) -> Result<bool, Memory>
+        ensures { IsBalancing result self.old self.new }
+    {
+        self.world.balance()
+    }
+
+    /// Whether so many kept entries stand behind those that the pages stand for as the limits say.
+    fn may_flush(&self) -> bool
+        ensures { result ≡ nat_le self.now.limits.flush (unsaved self.now) }
+    {
+        // So the world has counted the kept entries.
+        let _ = &self.history;
+        self.world.counted() - self.flushed >= u64::from(self.limits.flush())
+    }
+
+    /// Writes all trees to pages, for all kept entries.
+    fn save<D: Disk>(&mut self, alloc: Global, disk: &mut D) -> StepAnswer
+        requires { MayFlush self.old }
+        ensures step { IsStep self.old Step.Background self.new result (has_risen (D.fault_count disk.old) (D.fault_count disk.new)) }
+        ensures any_moment { (pending : Option PlainEntry) → Keeps (D.state disk.old) self.old pending → LeavesOnly (D.state disk.old) (D.state disk.new) (HoldsStep self.old pending Step.Background) }
+        ensures keeps { (pending : Option PlainEntry) → Keeps (D.state disk.old) self.old pending → KeepsStep self.old pending Step.Background self.new result (D.state disk.new) }
+        ensures pages { HasPages (D.state disk.old) self.old → HasPages (D.state disk.new) self.new }
+        ensures pages_any_moment { (was now : Option TreesAt) → IsPaged (D.state disk.old) self.old was now → LeavesOnly (D.state disk.old) (D.state disk.new) (MayLoad was now (durable_entries self.old.history)) }
+        ensures flushed { OnFlushed result (HasPages (D.state disk.old) self.old → EachLoadsFor (durable_entries self.new.history) (D.state disk.new)) }
+        ensures log { LeavesBut is_paged (D.state disk.old) (D.state disk.new) }
+        ensures never_falls { D.fault_count disk.old ≤ D.fault_count disk.new }
+    {
+        // So a crash leaves the kept entries in the log.
+        images_are_kept(disk, self);
+        let kept = self.world.counted();
+        match self.world.save(alloc, &mut self.flush, disk, kept) {
+            Ok(()) => {
+                self.flushed = kept;
+                StepAnswer::Flushed
+            }
+            Err(PageFault::Disk) => StepAnswer::Disk,
+            Err(PageFault::Memory) => StepAnswer::Memory,
+        }
+    }
+
+    /// Lets go of the nodes that no tree reaches, once they are many. The next save then writes every stream anew.
+    fn sweep(&mut self, alloc: Global) -> StepAnswer
+        requires { IsSpared self.old }
+        ensures { (rose : Bool) → IsStep self.old Step.Background self.new result rose }
+    {
+        let Ok(swept) = sweep(alloc, &mut self.world, &mut self.base) else {
+            return StepAnswer::Memory;
+        };
+        if !swept {
+            return StepAnswer::Idle;
+        }
+        self.flush.renew();
+        StepAnswer::Swept
     }
 
     /// Whether the session has begun and not ended.
@@ -324,6 +417,8 @@ impl<W: Undo + Drop> StoreOver<W> {
         ensures given { IsGiven self.old session (plain_request request.now) (plain_reply result) self.new (has_risen (D.fault_count disk.old) (D.fault_count disk.new)) }
         ensures stays { OnRefused (plain_reply result) (StandsAsBefore self.old self.new) }
         ensures trees { UnlessKept self.old self.new (self.new.trees ≡ self.old.trees) }
+        ensures grown { AllGrown self.old.nodes self.new.nodes }
+        ensures pages { PagesStandStill self.old self.new }
         ensures any_moment { (pending : Option PlainEntry) → Keeps (D.state disk.old) self.old pending → LeavesOnly (D.state disk.old) (D.state disk.new) (HoldsRequest self.old pending session (plain_request request.now)) }
         ensures keeps { (pending : Option PlainEntry) → Keeps (D.state disk.old) self.old pending → KeepsRequest self.old pending session (plain_request request.now) self.new (plain_reply result) (D.state disk.new) }
         ensures others { LeavesBut is_log (D.state disk.old) (D.state disk.new) }
@@ -358,6 +453,9 @@ impl<W: Undo + Drop> StoreOver<W> {
         ensures base { self.new.base ≡ self.old.base }
         ensures steps { IfOk result (λ reply. Steps self.old.limits session self.old.history (plain_request request.now) (plain_reply reply) self.new.history (has_risen (D.fault_count disk.old) (D.fault_count disk.new))) }
         ensures trees { UnlessKept self.old self.new (self.new.trees ≡ self.old.trees) }
+        ensures nodes { UnlessKept self.old self.new (self.new.nodes ≡ self.old.nodes) }
+        ensures grown { AllGrown self.old.nodes self.new.nodes }
+        ensures pages { PagesStandStill self.old self.new }
         ensures any_moment { (pending : Option PlainEntry) → Keeps (D.state disk.old) self.old pending → LeavesOnly (D.state disk.old) (D.state disk.new) (HoldsRequest self.old pending session (plain_request request.now)) }
         ensures keeps { (pending : Option PlainEntry) → Keeps (D.state disk.old) self.old pending → IfOk result (λ reply. KeepsRequest self.old pending session (plain_request request.now) self.new (plain_reply reply) (D.state disk.new)) }
         ensures others { LeavesBut is_log (D.state disk.old) (D.state disk.new) }
@@ -417,6 +515,9 @@ impl<W: Undo + Drop> StoreOver<W> {
         ensures base { self.new.base ≡ self.old.base }
         ensures outcome { IfOk result (λ reply. IsKeptOrTakenBack self.old.history session (plain_effect made) (plain_reply reply) self.new.history (has_risen (D.fault_count disk.old) (D.fault_count disk.new))) }
         ensures trees { UnlessKept self.old self.new (self.new.trees ≡ self.old.trees) }
+        ensures nodes { UnlessKept self.old self.new (self.new.nodes ≡ self.old.nodes) }
+        ensures grown { AllGrown self.old.nodes self.new.nodes }
+        ensures pages { PagesStandStill self.old self.new }
         ensures any_moment { (pending : Option PlainEntry) → Keeps (D.state disk.old) self.old pending → LeavesOnly (D.state disk.old) (D.state disk.new) (HoldsWith (durable_entries self.old.history) (λ other. IsThat pending other ⊎ (other ≡ entry_after self.old.history session (plain_effect made)))) }
         ensures keeps { (pending : Option PlainEntry) → Keeps (D.state disk.old) self.old pending → IfOk result (λ reply. KeepsEdit self.old pending (entry_after self.old.history session (plain_effect made)) self.new (plain_reply reply) (D.state disk.new)) }
         ensures others { LeavesBut is_log (D.state disk.old) (D.state disk.new) }

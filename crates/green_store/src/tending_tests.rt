@@ -9,14 +9,20 @@ use std::process::Abort;
 use std::test::Fail;
 use tumbler::Span;
 
+/// Limits under which no pages are written here.
 fn limits() -> Result<Limits, Fail> {
-    Ok(Limits::new(4_194_304, 1_073_741_824, 256)?)
+    Ok(Limits::new(4_194_304, 1_073_741_824, 4_194_304)?)
 }
 
 /// A store with session 1 and a document that it has made: four entries.
 fn with_document(rt: &impl Abort, alloc: Global) -> Result<Opened, Fail> {
+    under(rt, alloc, limits()?)
+}
+
+/// The same, under these limits.
+fn under(rt: &impl Abort, alloc: Global, limits: Limits) -> Result<Opened, Fail> {
     let mut disk = MemoryDisk::new(alloc, List::new(alloc));
-    let store = Store::open(alloc, &mut disk, limits()?)?;
+    let store = Store::open(alloc, &mut disk, limits)?;
     let mut opened = Opened { disk, store };
     assert_eq!(rt; opened.begins(rt, alloc), 1);
     opened.chooses(rt, alloc, 1, 3)?;
@@ -182,5 +188,28 @@ fn what_no_tree_reaches_is_swept(rt: HostRuntime) -> Result<(), Fail> {
     assert_eq!(rt; store.base(), store.nodes());
     assert!(rt; store.depth() < 8);
     assert_eq!(rt; store.flushed(), 0);
+    Ok(())
+}
+
+/// Makes background steps until nothing is to be put right, and counts how often all was written to pages.
+fn count_flushes(rt: &impl Abort, alloc: Global, opened: &mut Opened) -> u64 {
+    let mut flushes: u64 = 0;
+    for _ in 0..100 {
+        match tends(rt, alloc, opened) {
+            StepAnswer::Flushed => flushes = flushes.saturating_add(1),
+            StepAnswer::Idle => break,
+            _ => {}
+        }
+    }
+    flushes
+}
+
+#[test]
+fn a_kept_entry_is_written_to_pages(rt: HostRuntime) -> Result<(), Fail> {
+    let alloc = rt.alloc();
+    let mut opened = under(&rt, alloc, Limits::new(100, 1_000, 1)?)?;
+    assert_eq!(rt; opened.store.flushed(), 0);
+    assert_eq!(rt; count_flushes(&rt, alloc, &mut opened), 1);
+    assert_eq!(rt; opened.store.flushed(), 1);
     Ok(())
 }

@@ -4,7 +4,7 @@ use Rattle.std.specs.List.{flat_map}
 use Rattle.std.proofs.lemmas.List.{append-nil}
 use Rattle.febe_data.specs.LimitsView.{LimitsView}
 use Rattle.febe_data.specs.Plain.{PlainEntry, plain_request, plain_reply}
-use Rattle.green_io.specs.Disk.{DiskState, IsDisk}
+use Rattle.green_io.specs.Disk.{DiskState}
 use Rattle.world_rules.specs.World.{empty_world}
 use Rattle.world_rules.specs.Placed.{AllPlaced}
 use Rattle.world_rules.specs.History.{entries_of}
@@ -83,9 +83,9 @@ module _ {D : Type 0} (state : D → DiskState) (faults : D → ℕ) where
   pub tended_endures : (first : Serves) (second : D) (f : Serves) (s : D) → HasTendedIn state faults first second f s → (limits : LimitsView) (session : ℕ) → Endures limits session [] (state second) first.store (faults second) (state s) f.store (faults s)
   tended_endures first second f s told limits session =
       let t = told.stepped in
-      endures_background limits session first.store f.store (state second) (state s) (faults second) (faults s) told.answer (has_risen (faults second) (faults s)) t.never_falls t.is_step t.any_moment t.keeps t.others
+      endures_background limits session first.store f.store (state second) (state s) (faults second) (faults s) told.answer (has_risen (faults second) (faults s)) t.never_falls t.is_step t.any_moment t.keeps
 
-module _ {D : Type 0} (state : D → DiskState) (faults : D → ℕ) (is_disk : (d : D) → IsDisk (state d)) where
+module _ {D : Type 0} (state : D → DiskState) (faults : D → ℕ) where
   -- ---- what a chain gives
 
   record Follows (limits : LimitsView) (session : ℕ) (first : Serves) (second : D) (exchanges : List Exchange) (f : Serves) (s : D) : Type 0 where
@@ -136,7 +136,7 @@ module _ {D : Type 0} (state : D → DiskState) (faults : D → ℕ) (is_disk : 
             let t = told.stepped in
             subst (λ (n : ℕ). Endures limits n (one ∷ []) (state b') b.store (faults b') (state s) f.store (faults s)) w.number_is
             (subst (λ (l : LimitsView). Endures l b.session (one ∷ []) (state b') b.store (faults b') (state s) f.store (faults s)) w.limits_are
-            (endures_ask b.session told.request told.reply told.point b.store f.store (state b') (state s) (faults b') (faults s) t.never_falls told.valid told.legal t.any_moment t.keeps t.others))
+            (endures_ask b.session told.request told.reply told.point b.store f.store (state b') (state s) (faults b') (faults s) t.never_falls told.valid told.legal t.any_moment t.keeps))
 
         follows_asked : Follows limits session first second (before ++ one ∷ []) f s
         follows_asked = record {
@@ -146,7 +146,7 @@ module _ {D : Type 0} (state : D → DiskState) (faults : D → ℕ) (is_disk : 
           own = subst (IsOwn session) (sym (flat_map_push adds before one)) (own_append session (flat_map adds before) told.legal.added w.own own_here);
           placed = placed_goes_on limits session b.store.history (plain_request told.request) (plain_reply told.reply) told.legal.added f.store.history (has_risen (faults b') (faults s)) w.placed legal told.legal.grows;
           rises = rises_push before one (faults second) (faults b') (faults s) w.rises told.stepped.never_falls refl;
-          endures = endures_both limits session before (one ∷ []) (state second) (state b') (state s) first.store b.store f.store (faults second) (faults b') (faults s) (is_disk b') w.endures step_endures;
+          endures = endures_both limits session before (one ∷ []) (state second) (state b') (state s) first.store b.store f.store (faults second) (faults b') (faults s) w.endures step_endures;
         }
 
       follows_tended : HasTendedIn state faults b b' f s → Follows limits session first second before f s
@@ -160,8 +160,8 @@ module _ {D : Type 0} (state : D → DiskState) (faults : D → ℕ) (is_disk : 
             own = w.own;
             placed = subst (AllPlaced empty_world) (sym still.history) w.placed;
             rises = rises_wider before (faults second) (faults second) (faults b') (faults s) (omega arith) t.never_falls w.rises;
-            endures = endures_still limits session before (state second) (state b') (state s) first.store b.store f.store (faults second) (faults b') (faults s) (is_disk b') w.endures
-                (endures_background limits session b.store f.store (state b') (state s) (faults b') (faults s) told.answer (has_risen (faults b') (faults s)) t.never_falls t.is_step t.any_moment t.keeps t.others);
+            endures = endures_still limits session before (state second) (state b') (state s) first.store b.store f.store (faults second) (faults b') (faults s) w.endures
+                (endures_background limits session b.store f.store (state b') (state s) (faults b') (faults s) told.answer (has_risen (faults b') (faults s)) t.never_falls t.is_step t.any_moment t.keeps);
           }
 
     follows : first.session ≡ session → first.store.limits ≡ limits → AllPlaced empty_world first.store.history
@@ -203,11 +203,11 @@ module _ {D : Type 0} (state : D → DiskState) (faults : D → ℕ) (is_disk : 
     begin_endures : Endures first.store.limits (greatest_session first.store.history + 1) [] (state second) first.store (faults second) (state begun') begun.store (faults begun')
     begin_endures =
         let t = b.stepped in
-        endures_begin first.store.limits (greatest_session first.store.history + 1) first.store begun.store (state second) (state begun') (faults second) (faults begun') b.answer (has_risen (faults second) (faults begun')) t.never_falls t.is_step t.any_moment t.keeps t.others
+        endures_begin first.store.limits (greatest_session first.store.history + 1) first.store begun.store (state second) (state begun') (faults second) (faults begun') b.answer (has_risen (faults second) (faults begun')) t.never_falls t.is_step t.any_moment t.keeps
 
     module _ (left : Serves) (left' : D) (w : Follows first.store.limits (greatest_session first.store.history + 1) begun begun' exchanges left left') where
       so_far : Endures first.store.limits (greatest_session first.store.history + 1) exchanges (state second) first.store (faults second) (state left') left.store (faults left')
-      so_far = endures_both first.store.limits (greatest_session first.store.history + 1) [] exchanges (state second) (state begun') (state left') first.store begun.store left.store (faults second) (faults begun') (faults left') (is_disk begun') begin_endures w.endures
+      so_far = endures_both first.store.limits (greatest_session first.store.history + 1) [] exchanges (state second) (state begun') (state left') first.store begun.store left.store (faults second) (faults begun') (faults left') begin_endures w.endures
 
       served : (last : Serves) (last' : D) (more : List PlainEntry) → last.session ≡ left.session → last.store.history ≡ left.store.history ++ more → IsOwn (greatest_session first.store.history + 1) more → AllPlaced empty_world last.store.history → faults left' ≤ faults last'
           → HasServedNext first.store.history last.session last.store.history exchanges (faults second) (faults last')
@@ -232,8 +232,8 @@ module _ {D : Type 0} (state : D → DiskState) (faults : D → ℕ) (is_disk : 
           let t = told.stepped in
           let c = closes left.store last.store told.answer (has_risen (faults left') (faults last')) left.session w.placed t.is_step in (
             inr (served last last' c.more told.number_stays c.grows (subst (λ (k : ℕ). IsOwn k c.more) w.number_is c.own) c.placed t.never_falls),
-            endures_still first.store.limits n exchanges (state second) (state left') (state last') first.store left.store last.store (faults second) (faults left') (faults last') (is_disk left') so_far
-                (endures_end first.store.limits n left.session left.store last.store (state left') (state last') (faults left') (faults last') told.answer (has_risen (faults left') (faults last')) t.never_falls t.is_step t.any_moment t.keeps t.others),
+            endures_still first.store.limits n exchanges (state second) (state left') (state last') first.store left.store last.store (faults second) (faults left') (faults last') so_far
+                (endures_end first.store.limits n left.session left.store last.store (state left') (state last') (faults left') (faults last') told.answer (has_risen (faults left') (faults last')) t.never_falls t.is_step t.any_moment t.keeps),
           )
 
       over : Given first second exchanges left left'
@@ -259,7 +259,7 @@ module _ {D : Type 0} (state : D → DiskState) (faults : D → ℕ) (is_disk : 
         let t = b.stepped in
         subst (λ (x : List Exchange). Given first second x last last') (sym d.none_answered) (
           inl (d.unnumbered, begins_none first.store last.store b.answer (has_risen (faults second) (faults last')) last.session t.is_step b.number_is d.unnumbered),
-          endures_begin first.store.limits (greatest_session first.store.history + 1) first.store last.store (state second) (state last') (faults second) (faults last') b.answer (has_risen (faults second) (faults last')) t.never_falls t.is_step t.any_moment t.keeps t.others,
+          endures_begin first.store.limits (greatest_session first.store.history + 1) first.store last.store (state second) (state last') (faults second) (faults last') b.answer (has_risen (faults second) (faults last')) t.never_falls t.is_step t.any_moment t.keeps,
         )
 
     sat : IsSat seen number (HasBegunIn state faults) (HasAskedIn state faults) (HasTendedIn state faults) (HasEndedIn state faults) first second exchanges last last' → Given first second exchanges last last'

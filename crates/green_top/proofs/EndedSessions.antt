@@ -295,10 +295,14 @@ alone_from opened session history reported exchanges k m n le is (inr s) = subst
     (inr (record { number_is = s.number_is; history_is = s.history_is; placed = s.placed; rises = rises_wider exchanges k m n n le (le_refl n) s.rises }))
 
 -- the trees were put right behind it
-pub alone_on : (opened : List PlainEntry) (session session' : ℕ) (history history' : List PlainEntry) (exchanges : List Exchange) (m n n' : ℕ) → session' ≡ session → history' ≡ history → n' ≡ n → HasServedAlone opened session history exchanges m n → HasServedAlone opened session' history' exchanges m n'
-alone_on opened session session' history history' exchanges m n n' is same still alone =
+pub alone_on : (opened : List PlainEntry) (session session' : ℕ) (history history' : List PlainEntry) (exchanges : List Exchange) (m n n' : ℕ) → session' ≡ session → history' ≡ history → n ≤ n' → HasServedAlone opened session history exchanges m n → HasServedAlone opened session' history' exchanges m n'
+alone_on opened session session' history history' exchanges m n n' is same later alone =
     subst (λ (i : ℕ). HasServedAlone opened i history' exchanges m n') (sym is)
-    (subst (λ (h : List PlainEntry). HasServedAlone opened session h exchanges m n') (sym same) (subst (λ (x : ℕ). HasServedAlone opened session history exchanges m x) (sym still) alone))
+    (subst (λ (h : List PlainEntry). HasServedAlone opened session h exchanges m n') (sym same) (by alone))
+  where
+    by : HasServedAlone opened session history exchanges m n → HasServedAlone opened session history exchanges m n'
+    by (inl none) = inl none
+    by (inr s) = inr (record { number_is = s.number_is; history_is = s.history_is; placed = s.placed; rises = rises_wider exchanges m m n n' (le_refl m) later s.rises })
 
 pub run_from : (limits : LimitsView) (session : ℕ) (before after : IoState) (m : ℕ) (history reported : List PlainEntry) (exchanges : List Exchange) (points : List ℕ) (bytes_read : ℕ) (end : SessionEnd) → before.disk_faults ≤ m → reported ≡ history
     → IsRun limits session (with_disk_faults before m) after history exchanges points bytes_read end → IsRun limits session before after reported exchanges points bytes_read end

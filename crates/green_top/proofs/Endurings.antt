@@ -16,11 +16,11 @@ use Rattle.world_rules.specs.Legal.{Exchange, IsServed, IsRefused, IsQueryAnswer
 use Rattle.green_store.specs.Steps.{Steps}
 use Rattle.green_top.proofs.Rises.{risen}
 use Rattle.green_top.proofs.Streams.{risen_since, risen_until}
-use Rattle.green_io.specs.Areas.{Areas, is_log}
-use Rattle.green_io.specs.Disk.{DiskState, IsDisk, LeavesOnly, LeavesBut}
-use Rattle.green_io.proofs.Beside.{untouched_others, then_others}
+use Rattle.green_io.specs.Areas.{Areas}
+use Rattle.green_io.specs.Disk.{DiskState, LeavesOnly}
 use Rattle.green_io.proofs.Crash.{after, weaker, none_called}
 use Rattle.edit_log.specs.Log.{IsWhole}
+use Rattle.green_flush.specs.Standing.{FlushView}
 use Rattle.world_rules.specs.History.{durable_entries, is_durable}
 use Rattle.green_store.specs.declared.step.Step.{Step}
 use Rattle.green_store.specs.declared.step.Step.TheVariants as steps
@@ -85,12 +85,11 @@ endures_nothing limits session disk store faults = record {
   never_falls = omega arith;
   any_moment = λ earlier least before le s. none_called disk (HoldsFront limits session (earlier ++ []) least store.history);
   stands = λ earlier least before le s. subst (λ (es : List Exchange). StandsOn limits session es least before disk store faults) (sym (append-nil earlier)) s;
-  others = untouched_others is_log disk;
 }
 
 -- one part, and then another
-pub endures_both : (limits : LimitsView) (session : ℕ) (xs ys : List Exchange) (a b c : DiskState) (s t u : StoreView) (k m n : ℕ) → IsDisk b → Endures limits session xs a s k b t m → Endures limits session ys b t m c u n → Endures limits session (xs ++ ys) a s k c u n
-endures_both limits session xs ys a b c s t u k m n disk p q = record {
+pub endures_both : (limits : LimitsView) (session : ℕ) (xs ys : List Exchange) (a b c : DiskState) (s t u : StoreView) (k m n : ℕ) → Endures limits session xs a s k b t m → Endures limits session ys b t m c u n → Endures limits session (xs ++ ys) a s k c u n
+endures_both limits session xs ys a b c s t u k m n p q = record {
   grows = (p.grows.0 ++ q.grows.0, q.grows.1 ∙ ap (λ (h : List PlainEntry). h ++ q.grows.0) p.grows.1 ∙ append_assoc s.history p.grows.0 q.grows.0);
   never_falls = omega (arith, p.never_falls, q.never_falls);
   any_moment = λ earlier least before le stands.
@@ -102,13 +101,12 @@ endures_both limits session xs ys a b c s t u k m n disk p q = record {
   stands = λ earlier least before le stands.
       subst (λ (es : List Exchange). StandsOn limits session es least before c u n) (append_assoc earlier xs ys)
       (q.stands (earlier ++ xs) least before (longer least s.history t.history p.grows le) (p.stands earlier least before le stands));
-  others = then_others is_log a b c disk p.others q.others;
 }
 
 -- a part, and then one without exchanges
-pub endures_still : (limits : LimitsView) (session : ℕ) (xs : List Exchange) (a b c : DiskState) (s t u : StoreView) (k m n : ℕ) → IsDisk b → Endures limits session xs a s k b t m → Endures limits session [] b t m c u n → Endures limits session xs a s k c u n
-endures_still limits session xs a b c s t u k m n disk p q =
-    subst (λ (es : List Exchange). Endures limits session es a s k c u n) (append-nil xs) (endures_both limits session xs [] a b c s t u k m n disk p q)
+pub endures_still : (limits : LimitsView) (session : ℕ) (xs : List Exchange) (a b c : DiskState) (s t u : StoreView) (k m n : ℕ) → Endures limits session xs a s k b t m → Endures limits session [] b t m c u n → Endures limits session xs a s k c u n
+endures_still limits session xs a b c s t u k m n p q =
+    subst (λ (es : List Exchange). Endures limits session es a s k c u n) (append-nil xs) (endures_both limits session xs [] a b c s t u k m n p q)
 
 -- ---- one step
 
@@ -175,13 +173,12 @@ module _ (limits : LimitsView) (session : ℕ) (exchanges : List Exchange) (befo
     ]
 
   stepped : ((pending : Option PlainEntry) → Keeps disk before pending → LeavesOnly disk disk' (HoldsStep before pending step))
-      → ((pending : Option PlainEntry) → Keeps disk before pending → KeepsStep before pending step after answer disk') → LeavesBut is_log disk disk' → Endures limits session exchanges disk before m disk' after n
-  stepped any keeps others = record {
+      → ((pending : Option PlainEntry) → Keeps disk before pending → KeepsStep before pending step after answer disk') → Endures limits session exchanges disk before m disk' after n
+  stepped any keeps = record {
     grows = grows;
     never_falls = rises;
     any_moment = λ earlier least first le s. weaker disk disk' (HoldsStep before s.pending step) (HoldsFront limits session (earlier ++ exchanges) least after.history) (any s.pending s.keeps) (holds earlier least first le s.pending s.made);
     stands = λ earlier least first le s. stands earlier least first le s.pending s.made s.since (keeps s.pending s.keeps);
-    others = others;
   }
 
 -- ---- the begin and the end of a session, and a background step
@@ -210,27 +207,37 @@ end_grows before after session answers.NoSession rose step = stayed before after
 end_grows before after session other rose step = absurd step
 
 pub endures_begin : (limits : LimitsView) (session : ℕ) (before after : StoreView) (disk disk' : DiskState) (m n : ℕ) (answer : StepAnswer) (rose : Bool) → m ≤ n → IsStep before steps.Begin after answer rose
-    → Any before disk disk' steps.Begin → Kept before after disk disk' steps.Begin answer → LeavesBut is_log disk disk' → Endures limits session [] disk before m disk' after n
+    → Any before disk disk' steps.Begin → Kept before after disk disk' steps.Begin answer → Endures limits session [] disk before m disk' after n
 endures_begin limits session before after disk disk' m n answer rose rises step =
     stepped limits session [] before after disk disk' m n steps.Begin answer (begin_grows before after answer rose step) rises (λ earlier entry none. absurd none) (λ earlier entry none. absurd none)
 
 pub endures_end : (limits : LimitsView) (session other : ℕ) (before after : StoreView) (disk disk' : DiskState) (m n : ℕ) (answer : StepAnswer) (rose : Bool) → m ≤ n → IsStep before (steps.End other) after answer rose
-    → Any before disk disk' (steps.End other) → Kept before after disk disk' (steps.End other) answer → LeavesBut is_log disk disk' → Endures limits session [] disk before m disk' after n
+    → Any before disk disk' (steps.End other) → Kept before after disk disk' (steps.End other) answer → Endures limits session [] disk before m disk' after n
 endures_end limits session other before after disk disk' m n answer rose rises step =
     stepped limits session [] before after disk disk' m n (steps.End other) answer (end_grows before after other answer rose step) rises (λ earlier entry none. absurd none) (λ earlier entry none. absurd none)
 
-as_it_was : (before after : StoreView) → after ≡ before → StandsStill before after
-as_it_was before after stays = record { history = ap (λ (v : StoreView). v.history) stays; limits = ap (λ (v : StoreView). v.limits) stays; log = ap (λ (v : StoreView). v.log) stays }
+-- the store is one that has the history, the limits and the log of the one before
+is_still : (before after next : StoreView) → after ≡ next → StandsStill before next → StandsStill before after
+is_still before after next is still = record {
+  history = ap (λ (v : StoreView). v.history) is ∙ still.history;
+  limits = ap (λ (v : StoreView). v.limits) is ∙ still.limits;
+  log = ap (λ (v : StoreView). v.log) is ∙ still.log;
+}
+
+with_pages : (before : StoreView) (flush : FlushView) (flushed : ℕ) → StandsStill before (record before { flush = flush; flushed = flushed })
+with_pages before flush flushed = record { history = refl; limits = refl; log = refl }
 
 pub background_is_still : (before after : StoreView) (answer : StepAnswer) (rose : Bool) → IsStep before steps.Background after answer rose → StandsStill before after
 background_is_still before after answers.Balanced rose step = step.still
+background_is_still before after answers.Flushed rose step = is_still before after (record before { flush = after.flush; flushed = after.flushed }) step.still (with_pages before after.flush after.flushed)
+background_is_still before after answers.Disk rose step = is_still before after (record before { flush = after.flush }) step.still (with_pages before after.flush before.flushed)
 background_is_still before after answers.Swept rose step = step.still
-background_is_still before after answers.Idle rose step = as_it_was before after step.stays
-background_is_still before after answers.Memory rose step = as_it_was before after step.stays
+background_is_still before after answers.Idle rose step = is_still before after before step.stays (with_pages before before.flush before.flushed)
+background_is_still before after answers.Memory rose step = is_still before after (record before { flush = after.flush }) step.still (with_pages before after.flush before.flushed)
 background_is_still before after other rose step = absurd step
 
 pub endures_background : (limits : LimitsView) (session : ℕ) (before after : StoreView) (disk disk' : DiskState) (m n : ℕ) (answer : StepAnswer) (rose : Bool) → m ≤ n → IsStep before steps.Background after answer rose
-    → Any before disk disk' steps.Background → Kept before after disk disk' steps.Background answer → LeavesBut is_log disk disk' → Endures limits session [] disk before m disk' after n
+    → Any before disk disk' steps.Background → Kept before after disk disk' steps.Background answer → Endures limits session [] disk before m disk' after n
 endures_background limits session before after disk disk' m n answer rose rises step =
     stepped limits session [] before after disk disk' m n steps.Background answer ([], (background_is_still before after answer rose step).history ∙ sym (append-nil before.history)) rises (λ earlier entry none. absurd none)
     (λ earlier entry none. absurd none)
@@ -267,7 +274,7 @@ one_of limits session request reply before after rose s = record { request = req
 
 pub endures_ask : (session : ℕ) (request : Request) (reply : Reply) (point : ℕ) (before after : StoreView) (disk disk' : DiskState) (m n : ℕ) → m ≤ n → IsRequest (plain_request request)
     → (s : Steps before.limits session before.history (plain_request request) (plain_reply reply) after.history (has_risen m n)) → Any before disk disk' (steps.Ask session request)
-    → Kept before after disk disk' (steps.Ask session request) (answers.Reply reply point) → LeavesBut is_log disk disk'
+    → Kept before after disk disk' (steps.Ask session request) (answers.Reply reply point)
     → Endures before.limits session (one_of before.limits session (plain_request request) (plain_reply reply) before.history after.history (has_risen m n) s ∷ []) disk before m disk' after n
 endures_ask session request reply point before after disk disk' m n rises valid s =
     let one = one_of before.limits session (plain_request request) (plain_reply reply) before.history after.history (has_risen m n) s in

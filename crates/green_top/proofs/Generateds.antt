@@ -251,14 +251,13 @@ module _ (start session : ℕ) (history : List PlainEntry) (exchanges : List Exc
       by ends.Budget t = absurd t.told
       by ends.NoNumber t = absurd t.told
 
-  -- the trees were put right meanwhile
-  pub summed_later : (number : ℕ) (later : List PlainEntry) (last : ℕ) → number ≡ session → later ≡ history → last ≡ n → (end : SessionEnd) (output : List ℕ) (a : IsAnswered start session history exchanges points output)
-      → Tells (summary_of start (replies_of exchanges) (world_of later)) taken taken' k k' end → IsGeneratedRun start number before (io_state left faults taken' k' last) later exchanges points end
-  summed_later number later last is same still end output a t =
-      subst (λ (i : ℕ). IsGeneratedRun start i before (io_state left faults taken' k' last) later exchanges points end) (sym is)
-      (subst (λ (h : List PlainEntry). IsGeneratedRun start session before (io_state left faults taken' k' last) h exchanges points end) (sym same)
-      (subst (λ (x : ℕ). IsGeneratedRun start session before (io_state left faults taken' k' x) history exchanges points end) (sym still)
-      (summed end output a (subst (λ (h : List PlainEntry). Tells (summary_of start (replies_of exchanges) (world_of h)) taken taken' k k' end) same t))))
+  -- the trees and the pages were put right meanwhile
+  pub summed_later : (number : ℕ) (later : List PlainEntry) → number ≡ session → later ≡ history → (end : SessionEnd) (output : List ℕ) (a : IsAnswered start session history exchanges points output)
+      → Tells (summary_of start (replies_of exchanges) (world_of later)) taken taken' k k' end → IsGeneratedRun start number before after later exchanges points end
+  summed_later number later is same end output a t =
+      subst (λ (i : ℕ). IsGeneratedRun start i before after later exchanges points end) (sym is)
+      (subst (λ (h : List PlainEntry). IsGeneratedRun start session before after h exchanges points end) (sym same)
+      (summed end output a (subst (λ (h : List PlainEntry). Tells (summary_of start (replies_of exchanges) (world_of h)) taken taken' k k' end) same t)))
 
 pub tells_whole : (summary bytes : List ℕ) (taken taken' : Option (List ℕ)) (k k' : ℕ) → bytes ≡ summary → IsPut taken taken' k k' bytes puts.Done → Tells summary taken taken' k k' ends.Quit
 tells_whole summary bytes taken taken' k k' is p = record { written = p.written; appended = p.appended; never_falls = p.never_falls; told = p.put ∙ is }

@@ -1,5 +1,5 @@
 -- What comes of a round.
-use Rattle.std.proofs.Common.{◌≡◌, ◌≢◌, ℕ, ◌≤◌, Bool, true, false, not, List, [], ◌∷◌, ◌++◌, Option, Err, inl, refl, ap, ◌∙◌, sym, subst}
+use Rattle.std.proofs.Common.{◌≡◌, ◌≢◌, ℕ, ◌≤◌, Bool, true, false, not, List, [], ◌∷◌, ◌++◌, Option, Err, inl, inr, refl, ap, ◌∙◌, sym, subst, arith}
 use Rattle.std.specs.Prelude.{IsTrue}
 use Rattle.febe_data.specs.LimitsView.{LimitsView}
 use Rattle.febe_data.specs.Plain.{PlainRequest, plain_request, quit, PlainReply, PlainEntry}
@@ -10,6 +10,7 @@ use Rattle.febe_reply.specs.ReplyGrammar.{spell_reply}
 use Rattle.world_rules.specs.History.{is_live}
 use Rattle.world_rules.specs.Legal.{IsLegal, Exchange}
 use Rattle.green_session.specs.declared.put.Put.{Put}
+use Rattle.green_session.specs.declared.put.Put.TheVariants as put_results
 use Rattle.green_session.specs.Putting.{IsPut}
 use Rattle.green_session.specs.Taking.{TurnsView, read_state, IsTaken}
 use Rattle.green_session.specs.declared.take.Taken.{Taken}
@@ -49,12 +50,36 @@ ended limits session before after ends.NoNumber o t = absurd t
 
 -- ---- a request came
 
--- A request was taken, and then answered; and what was done behind that left the history and the count of disk faults as they were.
+-- once its reply is written, the count of disk faults may rise
+pub handled_later : (limits : LimitsView) (session : ℕ) (before : AnswerState) (h : List PlainEntry) (points : List ℕ) (taken : Option (List ℕ)) (sink_faults faults faults' : ℕ) (request : PlainRequest) (given : Put) (exchanges : List Exchange)
+    → given ≡ put_results.Done → faults ≤ faults' → HandlesRequest limits session before (answer_state h points taken sink_faults faults) request given exchanges
+    → HandlesRequest limits session before (answer_state h points taken sink_faults faults') request given exchanges
+handled_later limits session before h points taken sink_faults faults faults' request given exchanges done rises (inl a) = inl (record {
+  output = a.output;
+  answers = record {
+    reply = a.answers.reply;
+    valid = a.answers.valid;
+    past = a.answers.past;
+    added = a.answers.added;
+    rose = a.answers.rose;
+    others = a.answers.others;
+    legal = a.answers.legal;
+    grows = a.answers.grows;
+    never_falls = omega (arith, a.answers.never_falls, rises);
+    points_are = a.answers.points_are;
+    output_is = a.answers.output_is;
+  };
+  exchanges_are = a.exchanges_are;
+  put = a.put;
+})
+handled_later limits session before h points taken sink_faults faults faults' request given exchanges done rises (inr m) = absurd (let e = sym done ∙ m.memory in cc)
+
+-- A request was taken, and then answered; and what was done behind that left the history as it was.
 module _ (limits : LimitsView) (session : ℕ) (before : SessionState) (exchanges : List Exchange) (request : Request) (given put : Put) (is_put : given ≡ put) (h h' : List PlainEntry) (points : List ℕ) (feed : FeedView) (turns : TurnsView) (left taken : Option (List ℕ))
-    (source_faults sink_faults faults faults' : ℕ) (same : h' ≡ h) (still : faults' ≡ faults) (t : IsTaken (reading before) (read_state left source_faults feed turns) (take_answers.Request request))
+    (source_faults sink_faults faults : ℕ) (same : h' ≡ h) (t : IsTaken (reading before) (read_state left source_faults feed turns) (take_answers.Request request))
     (handled : HandlesRequest limits session (answering before) (answer_state h points taken sink_faults faults) (plain_request request) given exchanges) where
   abbrev after : SessionState
-  after = session_state h' points feed turns (io_state left source_faults taken sink_faults faults')
+  after = session_state h' points feed turns (io_state left source_faults taken sink_faults faults)
 
   pub asked : IsAsked limits session before after exchanges (plain_request request) put
   asked = record {
@@ -62,8 +87,7 @@ module _ (limits : LimitsView) (session : ℕ) (before : SessionState) (exchange
     reads = t.reads;
     gives = t.comes;
     answered = subst (λ (p : Put). HandlesRequest limits session (answering before) (answering after) (plain_request request) p exchanges) is_put
-        (subst (λ (x : List PlainEntry). HandlesRequest limits session (answering before) (answer_state x points taken sink_faults faults') (plain_request request) given exchanges) (sym same)
-        (subst (λ (n : ℕ). HandlesRequest limits session (answering before) (answer_state h points taken sink_faults n) (plain_request request) given exchanges) (sym still) handled));
+        (subst (λ (x : List PlainEntry). HandlesRequest limits session (answering before) (answer_state x points taken sink_faults faults) (plain_request request) given exchanges) (sym same) handled);
   }
 
   pub asked_quit : plain_request request ≡ quit → IsAsked limits session before after exchanges quit put

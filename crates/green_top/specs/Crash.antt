@@ -1,4 +1,5 @@
--- What a crash leaves of the log, while a session is served and after.
+-- What a crash leaves of the log, while a session is served and after. What is written to pages meanwhile leaves the log's part of
+-- every image alone.
 use Rattle.std.specs.Prelude.{◌≡◌, ◌⊎◌, ℕ, ◌+◌, ◌≤◌, List, [], ◌∷◌, ◌++◌, length, take, Option, IsTrue}
 use Rattle.febe_data.specs.LimitsView.{LimitsView}
 use Rattle.febe_data.specs.declared.refusal.Refusal.TheVariants.{Disk}

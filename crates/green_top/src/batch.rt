@@ -1,8 +1,6 @@
 //! One run of the program.
 ghost use Rattle.std.specs.Prelude.{◌≡◌, ◌+◌, ◌≤◌, ℕ, List, map, string_bytes};
 ghost use Rattle.febe_data.specs.Plain.{PlainEntry};
-ghost use Rattle.green_io.specs.Areas.{is_log};
-ghost use Rattle.green_io.specs.Disk.{LeavesBut};
 ghost use Rattle.edit_log.specs.Images.{AsRead};
 ghost use Rattle.edit_log.specs.Log.{IsWhole};
 ghost use Rattle.world_rules.specs.Placed.{AllPlaced};
@@ -91,6 +89,9 @@ fn serve_form<S: Source, K: Sink, D: Disk>(
 ///
 /// An edit is in the log before its reply is written. Once opened, a disk that fails ends no run: the edit is refused, and a
 /// crash, or the end of the run, may leave it in the log or not.
+///
+/// Behind each reply the trees and pages are put right by one step, and behind a generated session by as many as are due. They
+/// change no reply. Where the disk fails while pages are written, no status tells it.
 pub fn run_batch<S: Source, K: Sink, D: Disk>(
     alloc: Global,
     words: &[String],
@@ -104,7 +105,6 @@ pub fn run_batch<S: Source, K: Sink, D: Disk>(
     ensures source { (start : ℕ) → AreGenerateWords (map string_bytes words.now) start → source.new ≡ source.old }
     ensures untouched { AreNoWords (map string_bytes words.now) → disk.new ≡ disk.old }
     ensures whole { (entries : List PlainEntry) → AsRead (D.state disk.old).reads (IsWhole entries) → BeginsWith entries report.new result }
-    ensures others { LeavesBut is_log (D.state disk.old) (D.state disk.new) }
     ensures never_falls { D.fault_count disk.old ≤ D.fault_count disk.new }
 {
     *report = Report::new(alloc);

@@ -23,13 +23,16 @@ pub(crate) struct Serves {
     pub(crate) session: u64,
 }
 
-/// Puts the store's trees right by one step, and tells whether something was done. Whatever comes of it, a session goes
-/// on as if it had not been made.
+/// Puts the store's trees and pages right by one step, and tells whether something was done. Whatever comes of it, a session
+/// goes on as if it had not been made, and the log is left alone.
 pub(crate) fn put_right<D: Disk>(alloc: Global, serves: &mut Serves, disk: &mut D) -> bool
     ensures tended { HasTendedIn D.state D.fault_count serves.old disk.old serves.new disk.new }
 {
     let answer = serves.store.step(alloc, disk, Step::Background);
-    matches!(&answer, StepAnswer::Balanced | StepAnswer::Swept)
+    matches!(
+        &answer,
+        StepAnswer::Balanced | StepAnswer::Flushed | StepAnswer::Swept
+    )
 }
 
 /// Plays by a store over a disk of this type, which nobody else changes meanwhile.

@@ -97,11 +97,11 @@ fn serve_input<D: Disk>(
     Summable { outcome, points }
 }
 
-/// Puts the store's trees right, one step after another, until there is nothing to be done.
+/// Puts the store's trees and pages right, one step after another, until there is nothing to be done, or a step could not be
+/// made for want of memory or since the disk failed.
 fn settle<D: Disk>(alloc: Global, serves: &mut Serves, disk: &mut D)
     ensures number { serves.new.session ≡ serves.old.session }
     ensures history { serves.new.store.history ≡ serves.old.store.history }
-    ensures untouched { disk.new ≡ disk.old }
     ensures endures { (limits : LimitsView) (session : ℕ) → Endures limits session [] (D.state disk.old) serves.old.store (D.fault_count disk.old) (D.state disk.new) serves.new.store (D.fault_count disk.new) }
 {
     for _ in 0..MOST_STEPS {
@@ -133,8 +133,8 @@ fn write_summary<K: Sink>(
     }
 }
 
-/// Serves the session that the start generates, over a store that has just opened, puts the store's trees right, and writes the
-/// summary to the sink.
+/// Serves the session that the start generates, over a store that has just opened, puts the store's trees and pages right, and
+/// writes the summary to the sink.
 pub(crate) fn serve_generated<K: Sink, D: Disk>(
     alloc: Global,
     start: u32,

@@ -93,7 +93,7 @@ pub(crate) trait PlaySession {
         ensures limits { limits first.new ≡ limits first.old }
         ensures number { number first.new ≡ number first.old }
         ensures seen { seen first.new second.new ≡ seen first.old second.old }
-        ensures faults { faults first.new second.new ≡ faults first.old second.old }
+        ensures never_falls { faults first.old second.old ≤ faults first.new second.new }
         ensures tended { tended first.old second.old first.new second.new };
 
     /// Ends the session, which is live.

@@ -13,13 +13,13 @@ use std::sync::Wait;
 pub enum Round {
     /// One step of the balancer was made in a tree.
     Balanced,
-    /// The pages hold what the log holds. A store without pages never answers this.
+    /// The pages stand for all kept entries.
     Flushed,
     /// The nodes that no tree reaches are gone.
     Swept,
     /// Nothing was to be put right.
     Idle,
-    /// The disk failed while pages were written. A store without pages never answers this.
+    /// The disk failed while pages were written.
     Disk,
     /// There was no memory for what is to be put right.
     Memory,
@@ -39,8 +39,10 @@ pub fn background_round<R: Wait, D: Disk>(
     let answer = lock.act(rt, alloc, pass, HouseJob::Background).answer;
     match answer {
         StepAnswer::Balanced => Round::Balanced,
+        StepAnswer::Flushed => Round::Flushed,
         StepAnswer::Swept => Round::Swept,
         StepAnswer::Idle => Round::Idle,
+        StepAnswer::Disk => Round::Disk,
         StepAnswer::Memory => Round::Memory,
         _ => unreachable!(),
     }

@@ -114,6 +114,14 @@ impl Links {
         self.table.nth(k)
     }
 
+    /// How many links there are. It takes no memory.
+    pub fn len(&self) -> usize
+        ensures value { result ≡ length self.now.links }
+        ensures few { result ≤ most_links }
+    {
+        self.table.len()
+    }
+
     /// The links ascend by their ids, each once, and their ends are runs. It takes no memory.
     pub fn in_order(&self)
         ensures ascends { IsStrictlySortedBy (slice_cmp nat_cmp) (ids_in self.now.links) }
@@ -326,6 +334,18 @@ impl Links {
         ensures three { HoldsRuns 3 self.now.links self.now.three }
     {
         let _ = &self.from;
+    }
+
+    /// Goes on with other indexes of the three ends, which have the same runs. It takes no memory.
+    pub fn set_indexes(&mut self, from: Spanfilade, to: Spanfilade, three: Spanfilade)
+        requires from { HoldsRuns 1 self.old.links from }
+        requires to { HoldsRuns 2 self.old.links to }
+        requires three { HoldsRuns 3 self.old.links three }
+        ensures { self.new ≡ record { links = self.old.links; from = from; to = to; three = three } }
+    {
+        self.from = from;
+        self.to = to;
+        self.three = three;
     }
 
     /// The index of end 1, 2 or 3. It takes no memory.

@@ -1,5 +1,5 @@
 //! The links in order of their ids.
-ghost use Rattle.std.specs.Prelude.{◌≡◌, ◌+◌, ◌<◌, [], length, slice_get, OnOk, OnErr, false};
+ghost use Rattle.std.specs.Prelude.{◌≡◌, ◌+◌, ◌<◌, ◌≤◌, [], length, slice_get, OnOk, OnErr, false};
 ghost use Rattle.std.specs.Option.{option_map, option_copied};
 ghost use Rattle.links.specs.LinkLists.{most_links, plain_link, has_in, link_in, count_of_home_in, added, removed};
 
@@ -84,6 +84,14 @@ impl Table {
             Some(link) => Some(link),
             None => None,
         }
+    }
+
+    /// How many links there are.
+    pub(crate) fn len(&self) -> usize
+        ensures value { result ≡ length self.now }
+        ensures few { result ≤ most_links }
+    {
+        self.links.len()
     }
 
     /// How many links have the home.

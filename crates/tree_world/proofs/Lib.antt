@@ -47,5 +47,7 @@ pub mod LinkMade
 pub mod Brought
 pub mod EntryCounted
 pub mod Undone
+pub mod Grown
+pub mod MarkedAll
 pub mod Restored
 pub mod RunsMeet

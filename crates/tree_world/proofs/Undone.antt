@@ -32,6 +32,7 @@ use Rattle.tree_world.specs.declared.undoing.UndoRecord.{UndoRecord}
 use Rattle.tree_world.specs.declared.undoing.Touched.{Touched}
 use Rattle.tree_world.specs.declared.undoing.Touched.TheVariants as touched
 use Rattle.tree_world.specs.Trees.{Trees, AreSound}
+use Rattle.tree_world.specs.Nodes.{nodes_in, AllGrown}
 use Rattle.tree_world.specs.Standing.{Stands, CountsStand, EachOnce}
 use Rattle.tree_world.specs.Undone.{Tables, tables_of, MarksStay, NodesCame, DocumentCame, DocumentEdited, LinkCame, EntryCame, ChangeCame, IsRow, IsKept, IsTouched, TablesGoBack, TablesWere, TablesMayGoBack, ComesBack, MayComeBack}
 use Rattle.tree_world.proofs.Options.{none_there, one_value}
@@ -48,8 +49,8 @@ use Rattle.tree_world.proofs.AccessChanged.{fresh, all_apart, opens_own}
 pub grown_none : {L : Type 0} (nodes : List (Shape L)) → Grows nodes nodes
 grown_none nodes = record { more = []; is = sym (append-nil nodes) }
 
-pub links_grown_none : (lists : LinkLists) → AllGrow lists lists
-links_grown_none lists = record { from = grown_none lists.from.nodes; to = grown_none lists.to.nodes; three = grown_none lists.three.nodes }
+pub indexes_grown : (before after : Trees) → AllGrown (nodes_in before) (nodes_in after) → AllGrow before.links after.links
+indexes_grown before after grown = record { from = grown.from; to = grown.to; three = grown.three }
 
 -- ---- a row that came in goes
 
@@ -198,7 +199,7 @@ pub came_in : (trees : Trees) (session : ℕ) (document : List ℕ) (root : Node
     → has_in trees.documents document ≡ false → mode_in trees.access.open_rows session document ≡ None → documents ≡ added trees.documents document root → access ≡ opened trees.access session document Write
     → EntryCame (DocumentCame session document) trees (record trees { nodes = nodes; documents = documents; access = access; index = index; counted = counted; due = due })
 came_in trees session document root nodes index documents access counted due stays grows index_grows absent unopened now opens_now = (
-  record { contents = grown_none trees.contents.nodes; nodes = grows; index = index_grows; links = links_grown_none trees.links; due = stays },
+  record { grown = record { contents = grown_none trees.contents.nodes; documents = grows; index = index_grows; from = grown_none trees.links.from.nodes; to = grown_none trees.links.to.nodes; three = grown_none trees.links.three.nodes }; due = stays },
   record {
     there = ap (λ rows. has_in rows document) now ∙ has_added trees.documents document root absent;
     documents = ap (λ rows. removed rows document) now ∙ removed_added trees.documents document root absent;
@@ -217,7 +218,7 @@ module _ (trees : Trees) (document : List ℕ) (old : Node) (is_root : root_in t
   pub was_edited : (nodes : List (Shape ℕ)) (index : IndexTree) (documents : List (DocumentRow Node)) (counted : ℕ) (due : List (List ℕ)) → MarksStay trees.due due → Grows trees.nodes nodes → Grows trees.index.nodes index.nodes → documents ≡ with_root trees.documents document made
       → EntryCame (DocumentEdited document) trees (record trees { nodes = nodes; documents = documents; index = index; counted = counted; due = due })
   was_edited nodes index documents counted due stays grows index_grows now = (
-    record { contents = grown_none trees.contents.nodes; nodes = grows; index = index_grows; links = links_grown_none trees.links; due = stays },
+    record { grown = record { contents = grown_none trees.contents.nodes; documents = grows; index = index_grows; from = grown_none trees.links.from.nodes; to = grown_none trees.links.to.nodes; three = grown_none trees.links.three.nodes }; due = stays },
     record {
       there = ap (λ rows. has_in rows document) now ∙ still_there;
       documents = λ root content. ap (λ rows. with_content (with_root rows document root) document content) now ∙ ap (λ rows. with_content rows document content) (rooted_twice document root made 0 content trees.documents);
@@ -231,7 +232,7 @@ module _ (trees : Trees) (document : List ℕ) (old : Node) (is_root : root_in t
       → EntryCame (DocumentEdited document) trees (record trees { contents = contents; content = total; nodes = nodes; documents = documents; index = index; counted = counted; due = due })
   text_came contents total nodes index rooted documents bytes counted due stays contents_grow grows index_grows set now =
       let is = now ∙ ap (λ rows. with_content rows document bytes) set in (
-        record { contents = contents_grow; nodes = grows; index = index_grows; links = links_grown_none trees.links; due = stays },
+        record { grown = record { contents = contents_grow; documents = grows; index = index_grows; from = grown_none trees.links.from.nodes; to = grown_none trees.links.to.nodes; three = grown_none trees.links.three.nodes }; due = stays },
         record {
           there = ap (λ rows. has_in rows document) is ∙ has_some (with_content (with_root trees.documents document made) document bytes) document made (content_roots (with_root trees.documents document made) document bytes document ∙ own_root);
           documents = λ root content. ap (λ rows. with_content (with_root rows document root) document content) is ∙ filled_twice document root made bytes content trees.documents;
@@ -244,7 +245,7 @@ module _ (trees : Trees) (document : List ℕ) (old : Node) (is_root : root_in t
       → links.has_in trees.links.links link.id ≡ false → lists.links ≡ links.added trees.links.links link → link.id ≡ id
       → EntryCame (LinkCame document id) trees (record trees { nodes = nodes; documents = documents; links = lists; counted = counted; due = due })
   link_came id link nodes documents lists counted due stays grows links_grow now absent is address = (
-    record { contents = grown_none trees.contents.nodes; nodes = grows; index = grown_none trees.index.nodes; links = links_grow; due = stays },
+    record { grown = record { contents = grown_none trees.contents.nodes; documents = grows; index = grown_none trees.index.nodes; from = links_grow.from; to = links_grow.to; three = links_grow.three }; due = stays },
     record {
       there = ap (λ rows. has_in rows document) now ∙ still_there;
       documents = λ root. ap (λ rows. with_root rows document root) now ∙ rooted_twice document root made 0 0 trees.documents;
@@ -304,7 +305,7 @@ each_once trees view stand =
     (IsDistinct-IsPermutation is_same (λ x y. nat_list_eq_equiv.symm x y) view.world.documents (documents_in trees.documents) (IsPermutation-sym (documents_in trees.documents) view.world.documents stand.documents) (once_apart view.world.documents stand.documents_once))
 
 pub tables_were : (after : Trees) (undo : UndoRecord) (view : FlatView) (back : ComesBack after undo view) → TablesWere undo (tables_of back.before) (tables_of after)
-tables_were after undo view back = record { back = back.came.1; once = each_once back.before view back.stood; ends = back.stood.ends; marks = back.kept.links; grow = back.came.0.links }
+tables_were after undo view back = record { back = back.came.1; once = each_once back.before view back.stood; ends = back.stood.ends; marks = back.kept.links; grow = indexes_grown back.before after back.came.0.grown }
 
 pub tables_may : (after : Trees) (undo : UndoRecord) → MayComeBack after undo → TablesMayGoBack undo (tables_of after)
 tables_may after undo may = record { before = tables_of may.back.before; were = tables_were after undo may.view may.back }
@@ -354,7 +355,7 @@ pub came_inside : (session : ℕ) (change : PlainChange) (before now inside : Tr
 came_inside session change before now inside is came = subst (λ t. ChangeCame session change before t) (sym is) came
 
 pub recounted : (before after : Trees) (held : List SessionRow) → NodesCame before after → NodesCame before (record after { sessions = held })
-recounted before after held came = record { contents = came.contents; nodes = came.nodes; index = came.index; links = came.links; due = came.due }
+recounted before after held came = record { grown = came.grown; due = came.due }
 
 abbrev pub comes_back : (before : Trees) (view : FlatView) (session : ℕ) (change : PlainChange) (undo : UndoRecord) (after : Trees) (held : List SessionRow) → Stands before view → AreSound before → IsKept before undo → undo.session ≡ session → IsTouched before change undo.touched
     → ChangeCame session change before after → CountsStand held (with_entry session view.sessions) → ComesBack (record after { sessions = held }) undo view

@@ -3,6 +3,8 @@ pub use Rattle.world_rules.specs.World
 pub mod Trees
 pub mod Standing
 pub mod Changed
+pub mod Nodes
+pub mod OtherTrees
 pub mod Undone
 pub mod Condition
 pub mod Laws

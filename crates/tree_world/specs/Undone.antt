@@ -2,7 +2,6 @@
 use Rattle.std.specs.Prelude.{◌≡◌, ℕ, ◌<◌, List, length, Some, IsTrue}
 use Rattle.enfilade_core.specs.declared.tree.Node.{Node}
 use Rattle.enfilade_core.specs.declared.tree.TreeMark.{TreeMark}
-use Rattle.enfilade_core.specs.Exchange.{Grows}
 use Rattle.doc_table.specs.declared.rows.DocumentRow.{DocumentRow}
 use Rattle.doc_table.specs.DocumentRows.{documents_in, has_in, root_in, content_in, removed, with_root, with_content}
 use Rattle.access_table.specs.AccessRows.{AccessRows, closed}
@@ -18,6 +17,7 @@ use Rattle.tree_world.specs.declared.undoing.Touched.{Touched}
 use Rattle.tree_world.specs.declared.undoing.Touched.TheVariants as touched
 use Rattle.tree_world.specs.Condition.{Condition, condition_of}
 use Rattle.tree_world.specs.Trees.{Trees, is_marked, AreSound}
+use Rattle.tree_world.specs.Nodes.{WorldNodes, nodes_in, AllGrown}
 use Rattle.tree_world.specs.Standing.{Stands, CountsStand, EachOnce, EndsStand}
 
 -- ---- what an entry does
@@ -28,10 +28,7 @@ pub record MarksStay (before after : List (List ℕ)) : Type 0 where
 
 -- in each tree nodes came in behind the others, and no mark of a document went
 pub record NodesCame (before after : Trees) : Type 0 where
-  pub contents : Grows before.contents.nodes after.contents.nodes
-  pub nodes : Grows before.nodes after.nodes
-  pub index : Grows before.index.nodes after.index.nodes
-  pub links : AllGrow before.links after.links
+  pub grown : AllGrown (nodes_in before) (nodes_in after)
   pub due : MarksStay before.due after.due
 
 -- the tables that an entry changes: documents, who has what open, and links
@@ -170,3 +167,8 @@ pub record MayComeBack (after : Trees) (undo : UndoRecord) : Type 0 where
 pub record ComesTo (after : Trees) (undo : UndoRecord) (condition : Condition) : Type 0 where
   pub may : MayComeBack after undo
   pub was : condition ≡ condition_of may.back.before
+
+-- so it is, and these were the nodes of the trees that they came of
+pub record ComesToNodes (after : Trees) (undo : UndoRecord) (nodes : WorldNodes) : Type 0 where
+  pub may : MayComeBack after undo
+  pub were : nodes ≡ nodes_in may.back.before

@@ -4,6 +4,7 @@ ghost use Rattle.febe_data.specs.Plain.{plain_change, plain_entry};
 ghost use Rattle.world_rules.specs.FlatView.{FlatView, after_entry};
 ghost use Rattle.world_rules.specs.InPlace.{DropsOnly, HasRoom};
 ghost use Rattle.tree_world.specs.Condition.{condition_of};
+ghost use Rattle.tree_world.specs.Nodes.{nodes_in, AllGrown};
 ghost use Rattle.tree_world.specs.Standing.{Stands};
 ghost use Rattle.tree_world.specs.Changed.{after_change};
 ghost use Rattle.tree_world.specs.Undone.{ChangeCame};
@@ -27,6 +28,8 @@ impl TreeWorld {
         ensures came { OnOk result (ChangeCame session (plain_change change.now) self.old self.new) }
         ensures in_place { DropsOnly change.now → IsOk result }
         ensures stays { OnErr result (condition_of self.new ≡ condition_of self.old) }
+        ensures grown { OnOk result (AllGrown (nodes_in self.old) (nodes_in self.new)) }
+        ensures same_nodes { OnErr result (nodes_in self.new ≡ nodes_in self.old) }
     {
         match change {
             Change::Create { document } => self.create(alloc, session, document),
@@ -63,6 +66,9 @@ impl TreeWorld {
         ensures ok { (view : FlatView) → Stands self.old view → OnOk result (Stands self.new (after_entry view (plain_entry entry.now))) }
         ensures err { (view : FlatView) → Stands self.old view → OnErr result (Stands self.new view) }
         ensures in_place { (view : FlatView) → Stands self.old view → DropsOnly entry.now.change → HasRoom view.sessions entry.now.session → IsOk result }
+        ensures stays { OnErr result (condition_of self.new ≡ condition_of self.old) }
+        ensures grown { OnOk result (AllGrown (nodes_in self.old) (nodes_in self.new)) }
+        ensures same_nodes { OnErr result (nodes_in self.new ≡ nodes_in self.old) }
     {
         self.sessions.reserve(entry.session)?;
         self.change(alloc, entry.session, &entry.change)?;

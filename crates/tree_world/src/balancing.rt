@@ -5,6 +5,7 @@ ghost use Rattle.enfilade_balance.specs.Steps.{root_after, is_idle};
 ghost use Rattle.links.specs.LinkLists.{index_at};
 ghost use Rattle.world_rules.specs.FlatView.{FlatView};
 ghost use Rattle.tree_world.specs.Condition.{debt_of, allows_of, documents_allow, condition_of};
+ghost use Rattle.tree_world.specs.Nodes.{nodes_in, AllGrown};
 ghost use Rattle.tree_world.specs.Standing.{Stands};
 ghost use Rattle.tree_world.specs.inside.SameRows.{SameRows};
 
@@ -67,6 +68,7 @@ impl TreeWorld {
         ensures lowers { IfOk result (λ made. IsTrue made → debt_of self.new + 1 ≤ debt_of self.old) }
         ensures idle { tree_allows self.old.contents.nodes self.old.contents.root ≡ false → IsOk result × (self.new ≡ self.old) }
         ensures err { OnErr result (self.new ≡ self.old) }
+        ensures grown { AllGrown (nodes_in self.old) (nodes_in self.new) }
     {
         let made = self.contents.balance()?;
         Ok(is_made(made))
@@ -79,6 +81,7 @@ impl TreeWorld {
         ensures lowers { IfOk result (λ made. IsTrue made → debt_of self.new + 1 ≤ debt_of self.old) }
         ensures idle { tree_allows self.old.index.nodes self.old.index.root.0 ≡ false → IsOk result × (self.new ≡ self.old) }
         ensures err { OnErr result (self.new ≡ self.old) }
+        ensures grown { AllGrown (nodes_in self.old) (nodes_in self.new) }
     {
         let made = self.index.balance()?;
         Ok(is_made(made))
@@ -92,6 +95,7 @@ impl TreeWorld {
         ensures lowers { IfOk result (λ made. IsTrue made → debt_of self.new + 1 ≤ debt_of self.old) }
         ensures idle { tree_allows (index_at end self.old.links).nodes (index_at end self.old.links).root.0 ≡ false → IsOk result × (self.new ≡ self.old) }
         ensures err { OnErr result (self.new ≡ self.old) }
+        ensures grown { AllGrown (nodes_in self.old) (nodes_in self.new) }
     {
         let made = self.links.balance(end)?;
         Ok(is_made(made))
@@ -104,7 +108,10 @@ impl TreeWorld {
         ensures told { IfOk result (λ made. made ≡ documents_allow self.old.nodes self.old.documents) }
         ensures lowers { IfOk result (λ made. IsTrue made → debt_of self.new + 1 ≤ debt_of self.old) }
         ensures idle { documents_allow self.old.nodes self.old.documents ≡ false → IsOk result × (condition_of self.new ≡ condition_of self.old) }
+        ensures idle_nodes { documents_allow self.old.nodes self.old.documents ≡ false → nodes_in self.new ≡ nodes_in self.old }
         ensures err { OnErr result (condition_of self.new ≡ condition_of self.old) }
+        ensures grown { AllGrown (nodes_in self.old) (nodes_in self.new) }
+        ensures err_nodes { OnErr result (nodes_in self.new ≡ nodes_in self.old) }
     {
         self.documents.in_order();
         debts_stay(self.pooms.arena());
@@ -123,7 +130,10 @@ impl TreeWorld {
         ensures told { IfOk result (λ made. made ≡ allows_of self.old) }
         ensures lowers { IfOk result (λ made. IsTrue made → debt_of self.new + 1 ≤ debt_of self.old) }
         ensures idle { allows_of self.old ≡ false → IsOk result × (condition_of self.new ≡ condition_of self.old) }
+        ensures idle_nodes { allows_of self.old ≡ false → nodes_in self.new ≡ nodes_in self.old }
         ensures err { OnErr result (condition_of self.new ≡ condition_of self.old) }
+        ensures grown { AllGrown (nodes_in self.old) (nodes_in self.new) }
+        ensures err_nodes { OnErr result (nodes_in self.new ≡ nodes_in self.old) }
     {
         if self.balance_contents()? {
             return Ok(true);

@@ -4,6 +4,7 @@ ghost use Rattle.febe_data.specs.Plain.{plain_change, plain_entry};
 ghost use Rattle.world_rules.specs.FlatView.{FlatView, after_entry};
 ghost use Rattle.world_rules.specs.InPlace.{DropsOnly, HasRoom};
 ghost use Rattle.tree_world.specs.Condition.{condition_of};
+ghost use Rattle.tree_world.specs.Nodes.{nodes_in};
 ghost use Rattle.tree_world.specs.Standing.{Stands};
 ghost use Rattle.tree_world.specs.Changed.{after_change};
 ghost use Rattle.tree_world.specs.Undone.{ChangeCame};
@@ -27,6 +28,7 @@ impl TreeWorld {
         ensures came { OnOk result (ChangeCame session (plain_change change.now) self.old self.new) }
         ensures in_place { DropsOnly change.now → IsOk result }
         ensures condition { condition_of self.new ≡ condition_of self.old }
+        ensures nodes { nodes_in self.new ≡ nodes_in self.old }
     {
         match change {
             Change::Restart => {
@@ -54,6 +56,7 @@ impl TreeWorld {
         ensures err { (view : FlatView) → Stands self.old view → OnErr result (Stands self.new view) }
         ensures in_place { (view : FlatView) → Stands self.old view → DropsOnly entry.now.change → HasRoom view.sessions entry.now.session → IsOk result }
         ensures condition { condition_of self.new ≡ condition_of self.old }
+        ensures nodes { nodes_in self.new ≡ nodes_in self.old }
     {
         self.sessions.reserve(entry.session)?;
         self.change_beside(alloc, entry.session, &entry.change)?;

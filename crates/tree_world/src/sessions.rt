@@ -5,6 +5,7 @@ ghost use Rattle.febe_data.specs.Plain.{restarted, ended, account_changed, docum
 ghost use Rattle.world_rules.specs.FlatView.{FlatView};
 ghost use Rattle.tree_world.specs.Standing.{Stands};
 ghost use Rattle.tree_world.specs.Condition.{condition_of};
+ghost use Rattle.tree_world.specs.Nodes.{nodes_in};
 ghost use Rattle.tree_world.specs.Changed.{after_change, MayWrite};
 
 use crate::world::TreeWorld;
@@ -38,6 +39,7 @@ impl TreeWorld {
         ensures stands { (view : FlatView) (session : ℕ) → Stands self.old view → Stands self.new (after_change view session restarted) }
         ensures sessions { self.new.sessions ≡ self.old.sessions }
         ensures beside { condition_of self.new ≡ condition_of self.old }
+        ensures nodes { nodes_in self.new ≡ nodes_in self.old }
     {
         self.access = AccessTable::new(self.alloc);
     }
@@ -47,6 +49,7 @@ impl TreeWorld {
         ensures stands { (view : FlatView) → Stands self.old view → Stands self.new (after_change view session ended) }
         ensures sessions { self.new.sessions ≡ self.old.sessions }
         ensures beside { condition_of self.new ≡ condition_of self.old }
+        ensures nodes { nodes_in self.new ≡ nodes_in self.old }
     {
         self.access.end(session);
     }
@@ -62,6 +65,7 @@ impl TreeWorld {
         ensures err { OnErr result (self.new ≡ self.old) }
         ensures sessions { self.new.sessions ≡ self.old.sessions }
         ensures beside { condition_of self.new ≡ condition_of self.old }
+        ensures nodes { nodes_in self.new ≡ nodes_in self.old }
     {
         self.access.set_account(alloc, session, account)?;
         Ok(())
@@ -79,6 +83,7 @@ impl TreeWorld {
         ensures err { OnErr result (self.new ≡ self.old) }
         ensures sessions { self.new.sessions ≡ self.old.sessions }
         ensures beside { condition_of self.new ≡ condition_of self.old }
+        ensures nodes { nodes_in self.new ≡ nodes_in self.old }
     {
         if !may_open(&self.access, session, document, mode) {
             return Err(Memory);
@@ -92,6 +97,7 @@ impl TreeWorld {
         ensures stands { (view : FlatView) → Stands self.old view → Stands self.new (after_change view session (document_closed document.now)) }
         ensures sessions { self.new.sessions ≡ self.old.sessions }
         ensures beside { condition_of self.new ≡ condition_of self.old }
+        ensures nodes { nodes_in self.new ≡ nodes_in self.old }
     {
         self.access.close(session, document);
     }

@@ -6,6 +6,7 @@ ghost use Rattle.world_rules.specs.FlatView.{FlatView, after_entry};
 ghost use Rattle.world_rules.specs.History.{is_durable};
 ghost use Rattle.world_rules.specs.InPlace.{DropsOnly, HasRoom};
 ghost use Rattle.tree_world.specs.Condition.{Condition, StaysInShape};
+ghost use Rattle.tree_world.specs.Nodes.{WorldNodes, AllGrown};
 
 use crate::world::TreeWorld;
 use febe_data::{Entry, Memory};
@@ -16,6 +17,9 @@ use world_rules::Apply;
 pub trait Rebalance: Apply {
     /// What contracts see of the trees, beside what they stand for.
     ghost condition: { Self → Condition };
+
+    /// The nodes of the trees' arenas.
+    ghost world_nodes: { Self → WorldNodes };
 
     /// What all trees owe for their shape together, up to 2^64 - 1. It looks at one node of each document's tree.
     fn debt(&self) -> u64
@@ -35,23 +39,38 @@ pub trait Rebalance: Apply {
         ensures { result ≡ (condition self.now).nodes };
 
     /// Changes the world by an entry that the limits do not count, as `apply` does. The trees stay as they are, also
-    /// where it is refused.
+    /// where it is refused, down to the last node.
     fn apply_beside(&mut self, alloc: Global, entry: &Entry) -> Result<(), Memory>
         requires { is_durable (plain_entry entry.now).change ≡ false }
         ensures ok { (view : FlatView) → Self.stands self.old view → OnOk result (Self.stands self.new (after_entry view (plain_entry entry.now))) }
         ensures err { (view : FlatView) → Self.stands self.old view → OnErr result (Self.stands self.new view) }
         ensures in_place { (view : FlatView) → Self.stands self.old view → DropsOnly entry.now.change → HasRoom view.sessions entry.now.session → IsOk result }
-        ensures condition { condition self.new ≡ condition self.old };
+        ensures condition { condition self.new ≡ condition self.old }
+        ensures nodes { world_nodes self.new ≡ world_nodes self.old };
+
+    /// Changes the world by an entry of a history that is told again, as `apply` does. Nodes only come in behind those that
+    /// are there. Where it is refused the trees are in the condition that they were in, with the very nodes that they had.
+    fn replay(&mut self, alloc: Global, entry: &Entry) -> Result<(), Memory>
+        ensures ok { (view : FlatView) → Self.stands self.old view → OnOk result (Self.stands self.new (after_entry view (plain_entry entry.now))) }
+        ensures err { (view : FlatView) → Self.stands self.old view → OnErr result (Self.stands self.new view) }
+        ensures in_place { (view : FlatView) → Self.stands self.old view → DropsOnly entry.now.change → HasRoom view.sessions entry.now.session → IsOk result }
+        ensures stays { OnErr result (condition self.new ≡ condition self.old) }
+        ensures grown { OnOk result (AllGrown (world_nodes self.old) (world_nodes self.new)) }
+        ensures same_nodes { OnErr result (world_nodes self.new ≡ world_nodes self.old) };
 
     /// Makes one step of the balancer in some tree that allows one, and tells whether one did. The world stands for what
     /// it stood for, whatever comes of it. Where no tree allows a step it takes no memory. It walks over no documents but
-    /// those that are marked, and each mark is dropped once.
+    /// those that are marked, and each mark is dropped once. Nodes only come in behind those that are there, and none where
+    /// no step was made.
     fn balance(&mut self) -> Result<bool, Memory>
         ensures stands { (view : FlatView) → Self.stands self.old view → Self.stands self.new view }
         ensures told { IfOk result (λ made. made ≡ (condition self.old).allows) }
         ensures lowers { OnOk result ((condition self.old).allows ≡ true → (condition self.new).debt + 1 ≤ (condition self.old).debt) }
         ensures idle { (condition self.old).allows ≡ false → IsOk result × (condition self.new ≡ condition self.old) }
-        ensures err { OnErr result (condition self.new ≡ condition self.old) };
+        ensures err { OnErr result (condition self.new ≡ condition self.old) }
+        ensures grown { AllGrown (world_nodes self.old) (world_nodes self.new) }
+        ensures idle_nodes { (condition self.old).allows ≡ false → world_nodes self.new ≡ world_nodes self.old }
+        ensures err_nodes { OnErr result (world_nodes self.new ≡ world_nodes self.old) };
 
     /// Lets go of all nodes that no tree's root reaches. The world stands for what it stood for, whatever comes of it, and
     /// the trees stay as deep and as near to balance.
@@ -60,13 +79,17 @@ pub trait Rebalance: Apply {
         ensures count { OnOk result ((condition self.new).nodes ≡ (condition self.old).reached) }
         ensures none_left { OnOk result ((condition self.new).unreached ≡ 0) }
         ensures shape { OnOk result (StaysInShape (condition self.old) (condition self.new)) }
-        ensures err { OnErr result (condition self.new ≡ condition self.old) };
+        ensures err { OnErr result (condition self.new ≡ condition self.old) }
+        ensures err_nodes { OnErr result (world_nodes self.new ≡ world_nodes self.old) };
 }
 
 impl Rebalance for TreeWorld {
     ghost use Rattle.tree_world.specs.Condition.{condition_of};
+    ghost use Rattle.tree_world.specs.Nodes.{nodes_in};
 
     ghost condition = { condition_of };
+
+    ghost world_nodes = { nodes_in };
 
     fn debt(&self) -> u64 {
         self.total_debt()
@@ -86,6 +109,10 @@ impl Rebalance for TreeWorld {
 
     fn apply_beside(&mut self, alloc: Global, entry: &Entry) -> Result<(), Memory> {
         self.apply_beside_trees(alloc, entry)
+    }
+
+    fn replay(&mut self, alloc: Global, entry: &Entry) -> Result<(), Memory> {
+        self.apply_entry(alloc, entry)
     }
 
     fn balance(&mut self) -> Result<bool, Memory> {

@@ -4,8 +4,9 @@ ghost use Rattle.febe_data.specs.Plain.{plain_change, plain_entry};
 ghost use Rattle.world_rules.specs.World.{link_address};
 ghost use Rattle.world_rules.specs.FlatView.{FlatView, after_entry};
 ghost use Rattle.tree_world.specs.Condition.{Condition, condition_of};
+ghost use Rattle.tree_world.specs.Nodes.{WorldNodes, nodes_in, AllGrown};
 ghost use Rattle.tree_world.specs.Standing.{Stands};
-ghost use Rattle.tree_world.specs.Undone.{Tables, IsRow, IsHome, IsKept, IsTouched, TablesWere, TablesMayGoBack, ComesBack, MayComeBack, ComesTo};
+ghost use Rattle.tree_world.specs.Undone.{Tables, IsRow, IsHome, IsKept, IsTouched, TablesWere, TablesMayGoBack, ComesBack, MayComeBack, ComesTo, ComesToNodes};
 
 use crate::tending::Rebalance;
 use crate::world::TreeWorld;
@@ -33,22 +34,31 @@ pub trait Undo: Rebalance {
     /// and without it the trees are in this condition.
     ghost comes_to: { Self → Self.UndoRecord → Condition → Type 0 };
 
+    /// What undoing the record's entry leads back to, seen as nodes: the entry is the last one that changed the world, and
+    /// without it the arenas hold these nodes.
+    ghost comes_to_nodes: { Self → Self.UndoRecord → WorldNodes → Type 0 };
+
     /// Changes the world as the entry says, and counts it, as `apply` does. It is for the changes that the limits count,
-    /// which alone are written down: a document made, a version, an edit, a link. Others are refused. Where it is refused
-    /// the trees are in the condition that they were in, with no node more.
+    /// which alone are written down: a document made, a version, an edit, a link. Others are refused. Nodes only come in
+    /// behind those that are there. Where it is refused the trees are in the condition that they were in, with the very
+    /// nodes that they had.
     fn apply_with_undo(&mut self, alloc: Global, entry: &Entry) -> Result<Self::UndoRecord, Memory>
         ensures ok { (view : FlatView) → Self.stands self.old view → IfOk result (λ undo. Self.stands self.new (after_entry view (plain_entry entry.now))) }
         ensures last { (view : FlatView) → Self.stands self.old view → IfOk result (may_come_back self.new) }
         ensures back { (view : FlatView) → Self.stands self.old view → IfOk result (λ undo. comes_back self.new undo view) }
         ensures was { (view : FlatView) → Self.stands self.old view → IfOk result (λ undo. comes_to self.new undo (Self.condition self.old)) }
         ensures err { (view : FlatView) → Self.stands self.old view → OnErr result (Self.stands self.new view) }
-        ensures stays { OnErr result (Self.condition self.new ≡ Self.condition self.old) };
+        ensures stays { OnErr result (Self.condition self.new ≡ Self.condition self.old) }
+        ensures grown { OnOk result (AllGrown (Self.world_nodes self.old) (Self.world_nodes self.new)) }
+        ensures were { (view : FlatView) → Self.stands self.old view → IfOk result (λ undo. comes_to_nodes self.new undo (Self.world_nodes self.old)) }
+        ensures same_nodes { OnErr result (Self.world_nodes self.new ≡ Self.world_nodes self.old) };
 
     /// Takes the last entry back. It takes no memory, and the time grows with what the entry brought.
     fn undo(&mut self, undo: Self::UndoRecord)
         requires { may_come_back self.old undo }
         ensures stands { (view : FlatView) → comes_back self.old undo view → Self.stands self.new view }
-        ensures condition { (was : Condition) → comes_to self.old undo was → Self.condition self.new ≡ was };
+        ensures condition { (was : Condition) → comes_to self.old undo was → Self.condition self.new ≡ was }
+        ensures nodes { (were : WorldNodes) → comes_to_nodes self.old undo were → Self.world_nodes self.new ≡ were };
 }
 
 /// What an entry is to touch in the tables, with what stands there before it.
@@ -220,6 +230,9 @@ impl TreeWorld {
         ensures was { (view : FlatView) → Stands self.old view → IfOk result (λ undo. ComesTo self.new undo (condition_of self.old)) }
         ensures err { (view : FlatView) → Stands self.old view → OnErr result (Stands self.new view) }
         ensures stays { OnErr result (condition_of self.new ≡ condition_of self.old) }
+        ensures grown { OnOk result (AllGrown (nodes_in self.old) (nodes_in self.new)) }
+        ensures were { (view : FlatView) → Stands self.old view → IfOk result (λ undo. ComesToNodes self.new undo (nodes_in self.old)) }
+        ensures same_nodes { OnErr result (nodes_in self.new ≡ nodes_in self.old) }
     {
         self.sessions.reserve(entry.session)?;
         let Some(undo) = self.kept(entry.session, &entry.change) else {
@@ -269,6 +282,7 @@ impl TreeWorld {
         requires { MayComeBack self.old undo.now }
         ensures stands { (view : FlatView) → ComesBack self.old undo.now view → Stands self.new view }
         ensures condition { (was : Condition) → ComesTo self.old undo.now was → condition_of self.new ≡ was }
+        ensures nodes { (were : WorldNodes) → ComesToNodes self.old undo.now were → nodes_in self.new ≡ were }
     {
         self.contents.back(&undo.contents);
         self.content = undo.content;
@@ -288,6 +302,8 @@ impl Undo for TreeWorld {
     ghost comes_back = { ComesBack };
 
     ghost comes_to = { ComesTo };
+
+    ghost comes_to_nodes = { ComesToNodes };
 
     fn apply_with_undo(&mut self, alloc: Global, entry: &Entry) -> Result<UndoRecord, Memory> {
         self.apply_kept(alloc, entry)

@@ -28,6 +28,25 @@ pub(crate) fn disk_failing(alloc: Global, failing: &[u64]) -> Result<MemoryDisk,
     Ok(MemoryDisk::new(alloc, List::from_slice(alloc, failing)?))
 }
 
+/// A call that no run here comes to.
+pub(crate) const FAR: u64 = 1_000;
+
+/// How many calls a disk has made whose call [`FAR`] fails: as many fewer as it can still make before that one.
+pub(crate) fn calls_made(disk: &mut MemoryDisk) -> u64 {
+    for left in 0..FAR {
+        let Ok(_) = disk.length(Area::Log) else {
+            return FAR - 1 - left;
+        };
+    }
+    0
+}
+
+/// How many calls a run makes of an empty disk that opens it and does nothing else.
+pub(crate) fn calls_to_open(alloc: Global) -> Result<u64, Fail> {
+    let mut ran = run_on(alloc, disk_failing(alloc, &[FAR])?, "")?;
+    Ok(calls_made(&mut ran.disk))
+}
+
 /// A disk with these bytes in its log.
 fn disk_with(alloc: Global, log: &[u8]) -> Result<MemoryDisk, Memory> {
     let mut disk = disk_failing(alloc, &[])?;
@@ -57,7 +76,7 @@ fn a_run_leaves_its_log(rt: HostRuntime) -> Result<(), Fail> {
     check_output(&rt, alloc, &ran, HELLO_ANSWERED)?;
     assert_eq!(rt; ran.disk.area(Area::Log), HELLO_LOG.as_slice());
     assert!(rt; ran.disk.area(Area::Home).is_empty());
-    assert!(rt; ran.disk.area(Area::Journal).is_empty());
+    assert!(rt; ran.disk.area(Area::Journal) == [0].as_slice());
     Ok(())
 }
 
@@ -113,27 +132,28 @@ fn a_log_decides_how_a_run_begins(rt: HostRuntime) -> Result<(), Fail> {
     Ok(())
 }
 
-/// Four calls open an empty log, and each edit has four more: its body is written and synced, then its gate.
-type Failing = (u64, u8, &'static str);
+/// Each edit has four calls: its body is written and synced, then its gate. The number is counted from the opening's calls on.
+type Failing = (u64, &'static str);
 
 const FAILING: &[Failing] = &[
-    (1, 7, ""),
-    (2, 7, ""),
-    (3, 7, ""),
-    (4, 7, ""),
-    (5, 0, "P0~ 34~ ?13~ ?2~ ?2~ 16~"),
-    (6, 0, "P0~ 34~ ?13~ ?2~ ?2~ 16~"),
-    (7, 0, "P0~ 34~ ?13~ ?2~ ?2~ 16~"),
-    (8, 0, "P0~ 34~ ?13~ ?2~ ?2~ 16~"),
-    (9, 0, "P0~ 34~ 11~A~ ?13~ 5~0~ 16~"),
-    (10, 0, "P0~ 34~ 11~A~ ?13~ 5~0~ 16~"),
-    (11, 0, "P0~ 34~ 11~A~ ?13~ 5~0~ 16~"),
-    (12, 0, "P0~ 34~ 11~A~ ?13~ 5~0~ 16~"),
-    (13, 0, HELLO_ANSWERED),
+    (1, "P0~ 34~ ?13~ ?2~ ?2~ 16~"),
+    (2, "P0~ 34~ ?13~ ?2~ ?2~ 16~"),
+    (3, "P0~ 34~ ?13~ ?2~ ?2~ 16~"),
+    (4, "P0~ 34~ ?13~ ?2~ ?2~ 16~"),
+    (5, "P0~ 34~ 11~A~ ?13~ 5~0~ 16~"),
+    (6, "P0~ 34~ 11~A~ ?13~ 5~0~ 16~"),
+    (7, "P0~ 34~ 11~A~ ?13~ 5~0~ 16~"),
+    (8, "P0~ 34~ 11~A~ ?13~ 5~0~ 16~"),
+    (9, HELLO_ANSWERED),
 ];
 
-fn check_failing(rt: &impl Abort, alloc: Global, row: &Failing) -> Result<(), Fail> {
-    let (call, status, output) = *row;
+fn check_failing(
+    rt: &impl Abort,
+    alloc: Global,
+    call: u64,
+    status: u8,
+    output: &str,
+) -> Result<(), Fail> {
     let ran = run_on(alloc, disk_failing(alloc, &[call])?, HELLO)?;
     assert_eq!(rt; ran.status, status, "at {call}");
     assert_eq!(rt;
@@ -145,9 +165,23 @@ fn check_failing(rt: &impl Abort, alloc: Global, row: &Failing) -> Result<(), Fa
 }
 
 #[test]
-fn a_disk_fails_at_each_call(rt: HostRuntime) -> Result<(), Fail> {
-    for row in FAILING {
-        check_failing(&rt, rt.alloc(), row)?;
+fn a_disk_fails_at_each_call_of_an_edit(rt: HostRuntime) -> Result<(), Fail> {
+    let alloc = rt.alloc();
+    let opening = calls_to_open(alloc)?;
+    for (behind, output) in FAILING {
+        let call = opening.saturating_add(*behind);
+        check_failing(&rt, alloc, call, 0, output)?;
+    }
+    Ok(())
+}
+
+#[test]
+fn a_disk_fails_at_each_call_that_opens_it(rt: HostRuntime) -> Result<(), Fail> {
+    let alloc = rt.alloc();
+    let opening = calls_to_open(alloc)?;
+    assert!(rt; opening > 4);
+    for before in 0..opening {
+        check_failing(&rt, alloc, before.saturating_add(1), 7, "")?;
     }
     Ok(())
 }

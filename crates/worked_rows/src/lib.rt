@@ -24,6 +24,18 @@ mod history_rows;
 #[cfg(test)]
 mod journal_rows;
 #[cfg(test)]
+mod page_bytes;
+#[cfg(test)]
+mod page_faults;
+#[cfg(test)]
+mod page_moments;
+#[cfg(test)]
+mod page_rows;
+#[cfg(test)]
+mod page_sessions;
+#[cfg(test)]
+mod paged_runs;
+#[cfg(test)]
 mod protocol_rows;
 #[cfg(test)]
 mod rows;

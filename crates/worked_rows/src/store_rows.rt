@@ -13,8 +13,8 @@ use tumbler::Text;
 
 /// A store and its disk.
 pub(crate) struct House {
-    store: Store,
-    disk: MemoryDisk,
+    pub(crate) store: Store,
+    pub(crate) disk: MemoryDisk,
 }
 
 /// By hand, so that a caller's exits do not look into the fields.
@@ -24,12 +24,22 @@ impl Drop for House {
     }
 }
 
-/// A store over an empty disk, with the limits of a back end that names none.
-pub(crate) fn fresh(alloc: Global) -> Result<House, Fail> {
-    let limits = Limits::new(4_194_304, 1_073_741_824, 256)?;
-    let mut disk = MemoryDisk::new(alloc, List::new(alloc));
+/// A store over this disk, which writes pages behind so many kept entries.
+pub(crate) fn house_over(alloc: Global, disk: MemoryDisk, flush: u32) -> Result<House, Fail> {
+    let limits = Limits::new(4_194_304, 1_073_741_824, flush)?;
+    let mut disk = disk;
     let store = Store::open(alloc, &mut disk, limits)?;
     Ok(House { store, disk })
+}
+
+/// A store over an empty disk, with the limits of a back end that names none.
+pub(crate) fn fresh(alloc: Global) -> Result<House, Fail> {
+    house_over(alloc, MemoryDisk::new(alloc, List::new(alloc)), 256)
+}
+
+/// A store over what a crash of this pick leaves of the other's disk. It writes pages behind each kept entry.
+pub(crate) fn reopened(alloc: Global, house: &House, pick: u64) -> Result<House, Fail> {
+    house_over(alloc, house.disk.crash(u64::MAX, pick)?, 1)
 }
 
 /// Begins a session, and gives its number.
@@ -54,6 +64,24 @@ pub(crate) fn ask(
     write_reply(alloc, &reply)
 }
 
+/// Makes a background step, and tells whether it has written pages for all kept entries.
+pub(crate) fn flushes(alloc: Global, house: &mut House) -> bool {
+    let answer = house.store.step(alloc, &mut house.disk, Step::Background);
+    matches!(&answer, StepAnswer::Flushed)
+}
+
+/// Makes a background step, and tells whether the disk failed while pages were written.
+pub(crate) fn stops(alloc: Global, house: &mut House) -> bool {
+    let answer = house.store.step(alloc, &mut house.disk, Step::Background);
+    matches!(&answer, StepAnswer::Disk)
+}
+
+/// Makes a background step, and tells whether nodes that no tree reaches were let go.
+pub(crate) fn sweeps(alloc: Global, house: &mut House) -> bool {
+    let answer = house.store.step(alloc, &mut house.disk, Step::Background);
+    matches!(&answer, StepAnswer::Swept)
+}
+
 /// Makes background steps until none applies. Gives whether no tree allows a step then.
 pub(crate) fn settles(alloc: Global, house: &mut House) -> bool {
     for _ in 0..100_000u32 {
@@ -76,7 +104,7 @@ fn end(alloc: Global, house: &mut House, session: u64) -> bool {
 }
 
 /// Makes one request, and compares its reply; where none is wanted the session is not live.
-fn check_request(
+pub(crate) fn check_request(
     rt: &impl Abort,
     alloc: Global,
     house: &mut House,
@@ -92,6 +120,23 @@ fn check_request(
         bytes_of(alloc, wanted)?.as_slice(),
         "at {session} {request}"
     );
+    Ok(())
+}
+
+/// A request and its reply.
+pub(crate) type Asked = (&'static str, &'static str);
+
+/// Makes these requests for the session, one after the other, and compares their replies.
+pub(crate) fn asks_all(
+    rt: &impl Abort,
+    alloc: Global,
+    house: &mut House,
+    session: u64,
+    asked: &[Asked],
+) -> Result<(), Fail> {
+    for (request, wanted) in asked {
+        check_request(rt, alloc, house, session, request, wanted)?;
+    }
     Ok(())
 }
 

@@ -15,7 +15,7 @@ const SUMMARY: &str = "start 7\nrequests 2010\nrefused 0\ndocuments 48\nbytes 83
     replies 14791272822984569365\n";
 
 /// The fold of the replies in that summary.
-const REPLIES: u64 = 14_791_272_822_984_569_365;
+pub(crate) const REPLIES: u64 = 14_791_272_822_984_569_365;
 
 /// Runs the start 7 over an empty disk. A write to the sink fails where its number is listed.
 fn run_generated(alloc: Global, writes: &[u64]) -> Result<Ran, Fail> {

@@ -2,8 +2,7 @@
 use Rattle.std.specs.Prelude.{◌≡◌, ℕ, ◌≤◌, List, ◌++◌, length, Option, None, Some}
 use Rattle.febe_data.specs.LimitsView.{LimitsView}
 use Rattle.febe_data.specs.Plain.{PlainEntry}
-use Rattle.green_io.specs.Areas.{is_log}
-use Rattle.green_io.specs.Disk.{DiskState, LeavesOnly, LeavesBut}
+use Rattle.green_io.specs.Disk.{DiskState, LeavesOnly}
 use Rattle.world_rules.specs.Legal.{Exchange}
 use Rattle.green_store.specs.Durable.{Keeps}
 use Rattle.green_store.specs.StoreView.{StoreView}
@@ -23,7 +22,7 @@ pub record StandsOn (limits : LimitsView) (session : ℕ) (exchanges : List Exch
 
 -- From one store over a disk to another these exchanges were made, the history grew, and the count of disk faults did not fall.
 -- A crash leaves meanwhile what some front of the history has, and the disk has all of it afterwards, if it had so before, after
--- some exchanges. The other areas are left alone.
+-- some exchanges.
 pub record Endures (limits : LimitsView) (session : ℕ) (exchanges : List Exchange) (disk : DiskState) (store : StoreView) (faults : ℕ) (after_disk : DiskState) (after : StoreView) (after_faults : ℕ) : Type 0 where
   pub grows : (added : List PlainEntry) × (after.history ≡ store.history ++ added)
   pub never_falls : faults ≤ after_faults
@@ -31,4 +30,3 @@ pub record Endures (limits : LimitsView) (session : ℕ) (exchanges : List Excha
       → LeavesOnly disk after_disk (HoldsFront limits session (earlier ++ exchanges) least after.history)
   pub stands : (earlier : List Exchange) (least faults_before : ℕ) → least ≤ length store.history → StandsOn limits session earlier least faults_before disk store faults
       → StandsOn limits session (earlier ++ exchanges) least faults_before after_disk after after_faults
-  pub others : LeavesBut is_log disk after_disk

@@ -4,8 +4,7 @@ use Rattle.febe_data.specs.declared.request.Request.{Request}
 use Rattle.febe_data.specs.declared.reply.Reply.{Reply}
 use Rattle.febe_data.specs.Plain.{PlainEntry, plain_request, plain_reply}
 use Rattle.febe_data.specs.Validity.{IsRequest}
-use Rattle.green_io.specs.Areas.{is_log}
-use Rattle.green_io.specs.Disk.{DiskState, LeavesOnly, LeavesBut}
+use Rattle.green_io.specs.Disk.{DiskState, LeavesOnly}
 use Rattle.world_rules.specs.Legal.{Exchange}
 use Rattle.green_store.specs.declared.step.Step.{Step}
 use Rattle.green_store.specs.declared.step.Step.TheVariants as steps
@@ -23,7 +22,6 @@ pub record HasStepped (step : Step) (answer : StepAnswer) (store : StoreView) (d
   pub limits_stay : store'.limits ≡ store.limits
   pub any_moment : (pending : Option PlainEntry) → Keeps disk store pending → LeavesOnly disk disk' (HoldsStep store pending step)
   pub keeps : (pending : Option PlainEntry) → Keeps disk store pending → KeepsStep store pending step store' answer disk'
-  pub others : LeavesBut is_log disk disk'
   pub never_falls : faults ≤ faults'
 
 -- the number of the session that an answer names, or 0
@@ -53,12 +51,11 @@ module _ {D : Type 0} (state : D → DiskState) (faults : D → ℕ) where
     pub exchange_is : exchange ≡ record { request = plain_request request; reply = plain_reply reply; point = point; added = legal.added; rose = has_risen (faults disk) (faults disk') }
     pub number_stays : serves'.session ≡ serves.session
 
-  -- a background step was made, which left the disk alone
+  -- a background step was made
   pub record HasTendedIn (serves : Serves) (disk : D) (serves' : Serves) (disk' : D) : Type 0 where
     pub answer : StepAnswer
     pub stepped : Stepped steps.Background answer serves disk serves' disk'
     pub number_stays : serves'.session ≡ serves.session
-    pub untouched : disk' ≡ disk
 
   -- an End of the session was made
   pub record HasEndedIn (serves : Serves) (disk : D) (serves' : Serves) (disk' : D) : Type 0 where

@@ -1,6 +1,4 @@
 use Rattle.std.proofs.Common.{◌∙◌, [], map, refl, subst, sym, inl, inr, string_bytes, arith}
-use Rattle.green_io.specs.Areas.{is_log}
-use Rattle.green_io.proofs.Beside.{then_others}
 use Rattle.green_io.proofs.Crash.{none_called}
 use Rattle.green_top.specs.IoState.{io_state}
 use Rattle.green_top.specs.Words.{HasLimits}
@@ -81,6 +79,3 @@ returns-clause-untouched g c = λ none. absurd (no_form _ c.in-Some.form c.in-So
 
 pub returns-clause-whole : goal.returns-clause-whole
 returns-clause-whole g c = λ entries whole. opened_begins c.serve_form-end.result.end entries _ _ _ _ (c.in-Ok.ensures.whole entries whole) c.serve_form-end.ensures.run.3.grows c.status.ensures c.into_history.ensures
-
-pub returns-clause-others : goal.returns-clause-others
-returns-clause-others g c = then_others is_log _ _ _ (g.met.D.Disk.is_disk c.open.new.disk) c.in-Ok.ensures.others c.serve_form-end.ensures.run.3.others

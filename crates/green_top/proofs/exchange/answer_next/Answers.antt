@@ -1,7 +1,7 @@
 use Rattle.std.proofs.Common.{◌≢◌, ◌∙◌, [], inr, refl, sym}
 use Rattle.febe_data.specs.Plain.{plain_request, quit}
 use Rattle.green_top.proofs.Chains.{chain_nothing, chain_tended}
-use Rattle.green_top.proofs.Rounds.{ended, asked, asked_quit, live_still}
+use Rattle.green_top.proofs.Rounds.{ended, handled_later, asked, asked_quit, live_still}
 use Rattle.green_top.proofs.exchange.answer_next.Goals as goal
 
 pub returns-in-Err-clause-round : goal.returns-in-Err-clause-round
@@ -13,7 +13,7 @@ returns-in-WriteFault-clause-round g c =
     let handled = one.answered in (
       handled.0,
       (
-        (plain_request c.in-Ok-Some.request, asked _ _ _ handled.0 _ _ _ c.in-WriteFault.is _ _ _ _ _ _ _ _ _ _ _ refl refl (rw c.in-Ok-Some.field-0-is at c.in-Ok-Some.ensures.next) handled.1),
+        (plain_request c.in-Ok-Some.request, asked _ _ _ handled.0 _ _ _ c.in-WriteFault.is _ _ _ _ _ _ _ _ _ _ refl (rw c.in-Ok-Some.field-0-is at c.in-Ok-Some.ensures.next) handled.1),
         live_still (g.P.PlaySession.seen c.answer_one-put.new.first c.answer_one-put.new.second) (g.P.PlaySession.seen c.answer_one-put.new.first c.answer_one-put.new.second) _ _ _ refl (sym one.number) one.live,
       ),
       handled.2,
@@ -25,7 +25,7 @@ returns-in-Memory-clause-round g c =
     let handled = one.answered in (
       handled.0,
       (
-        inr (plain_request c.in-Ok-Some.request, asked _ _ _ handled.0 _ _ _ c.in-Memory.is _ _ _ _ _ _ _ _ _ _ _ refl refl (rw c.in-Ok-Some.field-0-is at c.in-Ok-Some.ensures.next) handled.1),
+        inr (plain_request c.in-Ok-Some.request, asked _ _ _ handled.0 _ _ _ c.in-Memory.is _ _ _ _ _ _ _ _ _ _ refl (rw c.in-Ok-Some.field-0-is at c.in-Ok-Some.ensures.next) handled.1),
         live_still (g.P.PlaySession.seen c.answer_one-put.new.first c.answer_one-put.new.second) (g.P.PlaySession.seen c.answer_one-put.new.first c.answer_one-put.new.second) _ _ _ refl (sym one.number) one.live,
       ),
       handled.2,
@@ -37,7 +37,7 @@ returns-then-quits-clause-round g c =
     let handled = one.answered in (
       handled.0,
       (
-        asked_quit _ _ _ handled.0 c.in-Ok-Some.request _ _ c.in-Done.is _ _ _ _ _ _ _ _ _ _ _ c.tend.ensures.seen c.tend.ensures.faults (rw c.in-Ok-Some.field-0-is at c.in-Ok-Some.ensures.next) handled.1 (c.if-quits.ensures.0 refl),
+        asked_quit _ _ _ handled.0 c.in-Ok-Some.request _ _ c.in-Done.is _ _ _ _ _ _ _ _ _ _ c.tend.ensures.seen (rw c.in-Ok-Some.field-0-is at c.in-Ok-Some.ensures.next) (handled_later _ _ _ _ _ _ _ _ _ _ _ handled.0 c.in-Done.is c.tend.ensures.never_falls handled.1) (c.if-quits.ensures.0 refl),
         live_still _ _ _ _ _ c.tend.ensures.seen (sym one.number) one.live,
       ),
       chain_tended _ _ _ _ _ _ _ _ _ handled.2 c.tend.ensures.tended,
@@ -50,7 +50,7 @@ returns-clause-round g c =
     let no_quit : plain_request c.in-Ok-Some.request ≢ quit = λ quits. absurd (let never = c.if-quits.ensures.1 quits in cc) in (
       handled.0,
       (
-        (plain_request c.in-Ok-Some.request, no_quit, asked _ _ _ handled.0 c.in-Ok-Some.request _ _ c.in-Done.is _ _ _ _ _ _ _ _ _ _ _ c.tend.ensures.seen c.tend.ensures.faults (rw c.in-Ok-Some.field-0-is at c.in-Ok-Some.ensures.next) handled.1),
+        (plain_request c.in-Ok-Some.request, no_quit, asked _ _ _ handled.0 c.in-Ok-Some.request _ _ c.in-Done.is _ _ _ _ _ _ _ _ _ _ c.tend.ensures.seen (rw c.in-Ok-Some.field-0-is at c.in-Ok-Some.ensures.next) (handled_later _ _ _ _ _ _ _ _ _ _ _ handled.0 c.in-Done.is c.tend.ensures.never_falls handled.1)),
         live_still _ _ _ _ _ c.tend.ensures.seen (sym one.number) (one.live ∙ one.stays no_quit),
       ),
       chain_tended _ _ _ _ _ _ _ _ _ handled.2 c.tend.ensures.tended,

@@ -1,4 +1,4 @@
-use Rattle.std.proofs.Common.{List, ℕ, ap, sym, subst, Result}
+use Rattle.std.proofs.Common.{◌≤◌, List, ℕ, sym, subst, Result, arith}
 use Rattle.green_top.specs.declared.session_end.SessionEnd.{SessionEnd}
 use Rattle.green_top.specs.Summary.{replies_of}
 use Rattle.green_top.specs.inside.Summing.{IsOutput, IsInnerRun}
@@ -19,13 +19,14 @@ returns-in-Ok-clause-run g c =
     let served = c.serve_input-outcome in
     let run = served.ensures.run in
     let answered = subst (λ (r : Result (Unit {0}) SessionEnd). IsInnerRun c.args.start served.new.serves.session r served.new.serves.store.history run.0 served.result.points.items served.new.output.taken) c.in-Ok.is run.1 in
-    let still = ap g.D.Disk.fault_count c.settle.ensures.untouched in (
+    let still : g.D.Disk.fault_count served.new.disk ≤ g.D.Disk.fault_count c.settle.new.disk = (c.settle.ensures.endures c.args.serves.now.store.limits 0).never_falls in
+    let rises : g.D.Disk.fault_count c.args.disk.now ≤ g.D.Disk.fault_count c.settle.new.disk = omega (arith, run.3.never_falls, still) in (
       run.0,
       (λ left faults.
-          summed_later c.args.start _ _ run.0 _ left _ _ faults _ _ _ _ run.3.never_falls _ _ _ c.settle.ensures.number c.settle.ensures.history still c.write_summary-end.result served.new.output.taken answered
+          summed_later c.args.start _ _ run.0 _ left _ _ faults _ _ _ _ rises _ _ c.settle.ensures.number c.settle.ensures.history c.write_summary-end.result served.new.output.taken answered
           (c.write_summary-end.ensures (replies_of run.0) (subst (λ (output : List ℕ). IsOutput output (replies_of run.0)) (sym c.bytes.ensures) (is_output _ _ _ _ _ _ answered)))),
       alone_on _ _ _ _ _ run.0 _ _ _ c.settle.ensures.number c.settle.ensures.history still run.2,
-      endures_still _ _ run.0 _ _ _ _ _ _ _ _ _ (g.met.D.Disk.is_disk _) run.3 (c.settle.ensures.endures _ _),
+      endures_still _ _ run.0 _ _ _ _ _ _ _ _ _ run.3 (c.settle.ensures.endures _ _),
     )
 
 pub returns-clause-run : goal.returns-clause-run

@@ -7,6 +7,5 @@ abbrev pub invariant-loop : goal.invariant-loop
 invariant-loop g l = record {
   number : l.serves.session ≡ l.fn.serves.session;
   history : l.serves.store.history ≡ l.fn.serves.store.history;
-  untouched : l.disk ≡ l.fn.disk;
   endures : (limits : LimitsView) (session : ℕ) → Endures limits session [] (g.D.Disk.state l.fn.disk) l.fn.serves.store (g.D.Disk.fault_count l.fn.disk) (g.D.Disk.state l.disk) l.serves.store (g.D.Disk.fault_count l.disk);
 }

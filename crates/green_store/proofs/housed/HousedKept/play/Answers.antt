@@ -1,9 +1,16 @@
-use Rattle.std.proofs.Common.{◌≡◌, false, ap, subst}
-use Rattle.world_rules.specs.History.{is_live}
+use Rattle.std.proofs.Common.{◌≡◌, ◌<◌, false, ap, subst}
+use Rattle.world_rules.specs.History.{is_live, durable_entries}
 use Rattle.green_store.specs.Durable.{has_risen}
 use Rattle.green_store.specs.HousedView.{HousedView}
-use Rattle.green_store.specs.IsStep.{IsStep, UnlessAsked}
-use Rattle.green_store.proofs.HousedSteps.{step_plays, step_grows, unless_asked}
+use Rattle.green_store.specs.IsStep.{IsStep, UnlessTended, OnTended, unsaved}
+use Rattle.green_io.specs.Areas.{is_log}
+use Rattle.green_io.specs.Disk.{LeavesBut}
+use Rattle.green_io.proofs.Beside.{untouched_others}
+use Rattle.green_io.proofs.Crash.{none_called}
+use Rattle.page_journal.specs.Images.{is_paged}
+use Rattle.green_store.specs.HousePlays.{step_for}
+use Rattle.green_store.specs.Paged.{MayLoad}
+use Rattle.green_store.proofs.HousedSteps.{step_plays, step_grows, on_tended, unless_tended, if_tended}
 use Rattle.green_store.proofs.housed.HousedKept.play.Goals as goal
 
 pub returns-clause-grows : goal.returns-clause-grows
@@ -22,5 +29,25 @@ returns-clause-plays g c =
     let old = g.D.Disk.fault_count c.args.self.now.disk in
     let new = g.D.Disk.fault_count c.step-answer.new.self.disk in
     let step = subst (λ s. IsStep before s after c.step-answer.result (has_risen old new)) c.in-Some.ensures.0 c.step-answer.ensures.step in
-    let still = subst (λ s. UnlessAsked s (new ≡ old)) c.in-Some.ensures.0 (unless_asked c.in-Some.step (ap g.D.Disk.fault_count) c.step-answer.ensures.untouched) in
-    rw c.number_behind-number.ensures (step_plays before after old new c.args.number c.args.job c.step-answer.result c.in-Some.ensures.1 still step)
+    let alone = subst (λ s. OnTended s (unsaved before < before.limits.flush → new ≡ old)) c.in-Some.ensures.0 (on_tended c.in-Some.step (λ (f : unsaved before < before.limits.flush → c.step-answer.new.self.disk ≡ c.args.self.now.disk) (few : unsaved before < before.limits.flush). ap g.D.Disk.fault_count (f few)) c.step-answer.ensures.left_alone) in
+    rw c.number_behind-number.ensures (step_plays before after old new c.args.number c.args.job c.step-answer.result c.in-Some.ensures.1 alone step)
+
+pub returns-clause-pages_any_moment : goal.returns-clause-pages_any_moment
+returns-clause-pages_any_moment g c = c.step-answer.ensures.pages_any_moment
+
+pub returns-clause-others : goal.returns-clause-others
+returns-clause-others g c = subst (λ s. UnlessTended s (LeavesBut is_log (g.D.Disk.state c.args.self.now.disk) (g.D.Disk.state c.step-answer.new.self.disk))) c.in-Some.ensures.0 c.step-answer.ensures.others
+
+pub returns-clause-log : goal.returns-clause-log
+returns-clause-log g c = subst (λ s. OnTended s (LeavesBut is_paged (g.D.Disk.state c.args.self.now.disk) (g.D.Disk.state c.step-answer.new.self.disk))) c.in-Some.ensures.0 c.step-answer.ensures.log
+
+-- ---- there is no step
+
+pub returns-in_default-clause-pages_any_moment : goal.returns-in_default-clause-pages_any_moment
+returns-in_default-clause-pages_any_moment g c was now paged = none_called (g.D.Disk.state c.args.self.now.disk) (MayLoad was now (durable_entries c.args.self.now.store.history))
+
+pub returns-in_default-clause-others : goal.returns-in_default-clause-others
+returns-in_default-clause-others g c = unless_tended (step_for c.args.number c.args.job) (untouched_others is_log (g.D.Disk.state c.args.self.now.disk))
+
+pub returns-in_default-clause-log : goal.returns-in_default-clause-log
+returns-in_default-clause-log g c = if_tended (step_for c.args.number c.args.job) (untouched_others is_paged (g.D.Disk.state c.args.self.now.disk))

@@ -10,6 +10,8 @@ use Rattle.edit_log.specs.Images.{IsAppendable}
 use Rattle.green_store.specs.Durable.{Keeps, HoldsWith, IsThat}
 use Rattle.green_store.specs.inside.{MayBeKept, KeepsEdit}
 use Rattle.green_store.specs.StoreView.{StoreView}
+use Rattle.tree_world.specs.Nodes.{AllGrown}
+use Rattle.green_store.proofs.Paging.{same_grown}
 use Rattle.green_store.proofs.Edits.{appendable, has_one_more, stays_pending}
 use Rattle.green_store.proofs.Regulars.{kept_leaves, regular_changed, entries_counted}
 use Rattle.green_store.proofs.Stores.{entry_is, history_is, stands_after, same_store, gone_on, has_serial}
@@ -54,17 +56,31 @@ returns-in_default-clause-keeps g c =
     let d = g.D.Disk.state c.args.disk.now in
     let e = g.D.Disk.state c.keep.new.disk in
     let h = plain_history c.self.inside.history.items in
-    let after : StoreView = record { history = plain_history c.reserve.new.self.items; limits = c.self.inside.limits; log = c.keep.new.log; trees = g.W.Rebalance.condition c.undo.new.self; base = c.self.inside.base } in
+    let after : StoreView = record { history = plain_history c.reserve.new.self.items; limits = c.self.inside.limits; log = c.keep.new.log; trees = g.W.Rebalance.condition c.undo.new.self; base = c.self.inside.base; nodes = g.W.Rebalance.world_nodes c.undo.new.self; flush = c.self.inside.flush; flushed = c.self.inside.flushed } in
     subst (λ (v : StoreView). (pending : Option PlainEntry) → Keeps d v pending → KeepsEdit v pending (entry_after v.history c.args.session (plain_effect c.args.made)) after (refused Disk) e)
     c.self.view_is
-    (λ pending has. stays_pending (record { history = h; limits = c.self.inside.limits; log = c.self.inside.log; trees = g.W.Rebalance.condition c.self.inside.world; base = c.self.inside.base }) after e pending (entry_after h c.args.session (plain_effect c.args.made)) (refused Disk) (ap plain_history c.reserve.ensures.items) refl
+    (λ pending has. stays_pending (record { history = h; limits = c.self.inside.limits; log = c.self.inside.log; trees = g.W.Rebalance.condition c.self.inside.world; base = c.self.inside.base; nodes = g.W.Rebalance.world_nodes c.self.inside.world; flush = c.self.inside.flush; flushed = c.self.inside.flushed }) after e pending (entry_after h c.args.session (plain_effect c.args.made)) (refused Disk) (ap plain_history c.reserve.ensures.items) refl
     (c.in_default.ensures.pending (durable_entries h) pending (entry_after h c.args.session (plain_effect c.args.made)) (ready g (goal.at.returns-in_default-clause-keeps g c).After-keep) has))
 
 pub returns-in_default-clause-trees : goal.returns-in_default-clause-trees
 returns-in_default-clause-trees g c same =
     c.undo.ensures.condition (g.W.Rebalance.condition c.self.inside.world) (c.in_ok-undo.ensures.was (view_of (plain_history c.self.inside.history.items)) c.self.invariant.world_stands) ∙ ap (λ (v : StoreView). v.trees) c.self.view_is
 
+pub returns-in_default-clause-nodes : goal.returns-in_default-clause-nodes
+returns-in_default-clause-nodes g c same =
+    c.undo.ensures.nodes (g.W.Rebalance.world_nodes c.self.inside.world) (c.in_ok-undo.ensures.were (view_of (plain_history c.self.inside.history.items)) c.self.invariant.world_stands) ∙ ap (λ (v : StoreView). v.nodes) c.self.view_is
+
+pub returns-in_default-clause-grown : goal.returns-in_default-clause-grown
+returns-in_default-clause-grown g c =
+    same_grown c.args.self.now.nodes _ (c.undo.ensures.nodes (g.W.Rebalance.world_nodes c.self.inside.world) (c.in_ok-undo.ensures.were (view_of (plain_history c.self.inside.history.items)) c.self.invariant.world_stands) ∙ ap (λ (v : StoreView). v.nodes) c.self.view_is)
+
 -- ---- where there was no memory for the trees
+
+pub returns-in_err-undo-clause-nodes : goal.returns-in_err-undo-clause-nodes
+returns-in_err-undo-clause-nodes g c same = c.in_err-undo.ensures.same_nodes ∙ ap (λ (v : StoreView). v.nodes) c.self.view_is
+
+pub returns-in_err-undo-clause-grown : goal.returns-in_err-undo-clause-grown
+returns-in_err-undo-clause-grown g c = same_grown c.args.self.now.nodes _ (c.in_err-undo.ensures.same_nodes ∙ ap (λ (v : StoreView). v.nodes) c.self.view_is)
 
 pub returns-in_err-undo-clause-trees : goal.returns-in_err-undo-clause-trees
 returns-in_err-undo-clause-trees g c same = c.in_err-undo.ensures.stays ∙ ap (λ (v : StoreView). v.trees) c.self.view_is
@@ -90,8 +106,8 @@ invariant_of-self-2 g c =
     let after = stands_after (g.W.LookUp.stands c.apply_with_undo.new.self) (view_of h) _ entry same (c.in_ok-undo.ensures.ok (view_of h) c.self.invariant.world_stands) in
     let room : length c.self.inside.live.items ≤ c.push_reserved.new.self.spare = search rules in
     let leaves = kept_leaves (plain_change c.args.made.change) may.counted in
-    same_store _ _ _ _ _ _ _ _ (history_grows g (goal.at.invariant_of-self-2 g c).After-push_reserved) refl refl
-    (gone_on h _ c.push_reserved.new.self.spare _ (g.W.LookUp.stands c.apply_with_undo.new.self) _ _ entry c.self.invariant live leaves after room
+    same_store _ _ _ _ _ _ _ _ _ (history_grows g (goal.at.invariant_of-self-2 g c).After-push_reserved) refl refl
+    (gone_on h _ c.push_reserved.new.self.spare _ (g.W.LookUp.stands c.apply_with_undo.new.self) _ _ _ entry c.self.invariant live leaves after room
     (regular_changed h c.args.session (plain_effect c.args.made) leaves may.placed c.self.invariant.regular)
     (entries_counted h entry may.counted (ready g at_keep).next c.self.invariant.entries))
 
@@ -109,7 +125,7 @@ returns-clause-keeps g c =
     let h = plain_history c.self.inside.history.items in
     let entry = entry_after h c.args.session (plain_effect c.args.made) in
     let at_keep = (goal.at.returns-clause-keeps g c).After-keep in
-    let after : StoreView = record { history = plain_history c.push_reserved.new.self.items; limits = c.self.inside.limits; log = c.keep.new.log; trees = g.W.Rebalance.condition c.apply_with_undo.new.self; base = c.self.inside.base } in
+    let after : StoreView = record { history = plain_history c.push_reserved.new.self.items; limits = c.self.inside.limits; log = c.keep.new.log; trees = g.W.Rebalance.condition c.apply_with_undo.new.self; base = c.self.inside.base; nodes = g.W.Rebalance.world_nodes c.apply_with_undo.new.self; flush = c.self.inside.flush; flushed = c.self.inside.flushed } in
     subst (λ (v : StoreView). (pending : Option PlainEntry) → Keeps d v pending → KeepsEdit v pending (entry_after v.history c.args.session (plain_effect c.args.made)) after (plain_reply c.args.made.reply) e)
     c.self.view_is
     (λ pending has. inl (has_one_more e c.keep.new.log h (plain_history c.push_reserved.new.self.items) entry (may_here g at_keep).counted (history_grows g (goal.at.returns-clause-keeps g c).After-push_reserved)
@@ -122,3 +138,14 @@ returns-clause-trees g c same =
     let grows : pushed ≡ c.args.self.now.history ++ entry ∷ [] =
     history_grows g (goal.at.returns-clause-trees g c).After-push_reserved ∙ ap (λ (v : StoreView). v.history ++ entry_after v.history c.args.session (plain_effect c.args.made) ∷ []) c.self.view_is in
     absurd (is_one_more c.args.self.now.history pushed entry c.requires.may.counted grows same)
+
+pub returns-clause-nodes : goal.returns-clause-nodes
+returns-clause-nodes g c same =
+    let pushed = plain_history c.push_reserved.new.self.items in
+    let entry = entry_after c.args.self.now.history c.args.session (plain_effect c.args.made) in
+    let grows : pushed ≡ c.args.self.now.history ++ entry ∷ [] =
+    history_grows g (goal.at.returns-clause-nodes g c).After-push_reserved ∙ ap (λ (v : StoreView). v.history ++ entry_after v.history c.args.session (plain_effect c.args.made) ∷ []) c.self.view_is in
+    absurd (is_one_more c.args.self.now.history pushed entry c.requires.may.counted grows same)
+
+pub returns-clause-grown : goal.returns-clause-grown
+returns-clause-grown g c = subst (λ (v : StoreView). AllGrown v.nodes (g.W.Rebalance.world_nodes c.apply_with_undo.new.self)) c.self.view_is c.in_ok-undo.ensures.grown

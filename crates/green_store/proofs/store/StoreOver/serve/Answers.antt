@@ -13,7 +13,8 @@ use Rattle.green_store.specs.StoreView.{StoreView}
 use Rattle.green_store.proofs.Accepting.{may_be_kept}
 use Rattle.green_store.proofs.Edits.{made_keeps, edit_leaves, kept_keeps}
 use Rattle.green_store.proofs.Legals.{refused_here, answered_here, changed_here, allowed_here, effect_here, edit_here, kept_here}
-use Rattle.green_store.proofs.Unkept.{made_trees}
+use Rattle.green_store.proofs.Unkept.{made_trees, made_nodes, made_pages}
+use Rattle.green_store.proofs.Paging.{same_grown}
 use Rattle.green_store.proofs.store.StoreOver.serve.Given as given
 use Rattle.green_store.proofs.store.StoreOver.serve.Goals as goal
 use Rattle.green_store.proofs.store.StoreOver.serve.Goals.{In_ok-refusal, After-make_kept}
@@ -112,3 +113,15 @@ returns-in-Changed-2-clause-keeps g c pending has =
 pub returns-in-Changed-2-clause-trees : goal.returns-in-Changed-2-clause-trees
 returns-in-Changed-2-clause-trees g c same =
     made_trees c.args.self.now c.make.new.self c.make.result (entry_after c.args.self.now.history c.args.session (plain_effect c.in-Changed.made)) c.make.ensures.ok c.make.ensures.err
+
+pub returns-in-Changed-2-clause-nodes : goal.returns-in-Changed-2-clause-nodes
+returns-in-Changed-2-clause-nodes g c same =
+    made_nodes c.args.self.now c.make.new.self c.make.result (entry_after c.args.self.now.history c.args.session (plain_effect c.in-Changed.made)) c.make.ensures.ok c.make.ensures.err
+
+pub returns-in-Changed-2-clause-grown : goal.returns-in-Changed-2-clause-grown
+returns-in-Changed-2-clause-grown g c =
+    same_grown c.args.self.now.nodes c.make.new.self.nodes (made_nodes c.args.self.now c.make.new.self c.make.result (entry_after c.args.self.now.history c.args.session (plain_effect c.in-Changed.made)) c.make.ensures.ok c.make.ensures.err)
+
+pub returns-in-Changed-2-clause-pages : goal.returns-in-Changed-2-clause-pages
+returns-in-Changed-2-clause-pages g c =
+    made_pages c.args.self.now c.make.new.self c.make.result (entry_after c.args.self.now.history c.args.session (plain_effect c.in-Changed.made)) c.make.ensures.ok c.make.ensures.err

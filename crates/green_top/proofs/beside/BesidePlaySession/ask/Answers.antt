@@ -12,7 +12,7 @@ returns-clause-replied g c =
       reply = c.in-Reply.reply;
       point = c.in-Reply.point;
       valid = c.requires.valid;
-      stepped = record { is_step = t.step; limits_stay = t.limits; any_moment = t.any_moment; keeps = t.keeps; others = t.others; never_falls = t.never_falls };
+      stepped = record { is_step = t.step; limits_stay = t.limits; any_moment = t.any_moment; keeps = t.keeps; never_falls = t.never_falls };
       legal = legal;
       exchange_is = refl;
       number_stays = refl;

@@ -1,4 +1,5 @@
-use Rattle.std.proofs.Common.{◌∙◌, ℕ, ◌+◌, ◌≤◌, List, true≢false, refl, sym, ap, subst}
+use Rattle.std.proofs.Common.{◌∙◌, ℕ, ◌+◌, ◌≤◌, List, Result, Ok, Err, true≢false, refl, sym, ap, subst}
+use Rattle.std.specs.Prelude.{OnErr}
 use Rattle.enfilade_core.specs.declared.tree.Node.{Node}
 use Rattle.enfilade_core.specs.Rows.{Shape}
 use Rattle.enfilade_balance.specs.Laws.{DebtsStay}
@@ -11,7 +12,14 @@ use Rattle.tree_world.proofs.Roots.{root_stands}
 use Rattle.tree_world.proofs.SameRows.{sound_over}
 use Rattle.tree_world.proofs.Balanced.{step_same, step_lowers}
 use Rattle.tree_world.proofs.Marked.{stay_self, due_grown, due_rooted, some_row, place, step_found}
+use Rattle.tree_world.specs.Nodes.{nodes_in}
+use Rattle.tree_world.proofs.Grown.{grown_as, all_same, documents_back}
+use Rattle.tree_world.proofs.Undone.{grown_none}
 use Rattle.tree_world.proofs.world.TreeWorld.balance_documents.Goals as goal
+
+on_err : {A E : Type 0} (r : Result A E) (X : Type 0) → X → OnErr r X
+on_err (Ok v) X x = tt
+on_err (Err e) X x = x
 
 pub balance-requires : goal.balance-requires
 balance-requires c = (root_stands c.self.inside.pooms c.self.inside.documents c.in-Some.due.0 c.in-Some.due.1 c.self.invariant.0 c.in-Some.ensures.some.root).there
@@ -61,3 +69,24 @@ returns-clause-lowers c made =
 
 pub returns-clause-idle : goal.returns-clause-idle
 returns-clause-idle c off = absurd (true≢false (sym (ap (λ (t : Trees). documents_allow t.nodes t.documents) (sym c.self.view_is) ∙ (some_row c.self.inside.pooms c.self.inside.documents c.in-Some.due.0 c.in-Some.due.1 c.in-Some.ensures.some.root c.in-Some.ensures.some.allows)) ∙ off))
+
+pub returns-in_default-clause-grown : goal.returns-in_default-clause-grown
+returns-in_default-clause-grown c = grown_as _ _ _ _ (ap nodes_in c.self.view_is) refl (all_same _)
+
+pub returns-in_default-clause-idle_nodes : goal.returns-in_default-clause-idle_nodes
+returns-in_default-clause-idle_nodes c off = ap nodes_in c.self.view_is
+
+pub returns-in_err-made-clause-grown : goal.returns-in_err-made-clause-grown
+returns-in_err-made-clause-grown c = grown_as _ _ _ _ (ap nodes_in c.self.view_is) refl (record { contents = grown_none _; documents = c.in_err-made.ensures.grows; index = grown_none _; from = grown_none _; to = grown_none _; three = grown_none _ })
+
+pub returns-in_err-made-clause-err_nodes : goal.returns-in_err-made-clause-err_nodes
+returns-in_err-made-clause-err_nodes c = on_err c.from_residual.result _ (documents_back _ _ _ (ap nodes_in c.self.view_is) c.in_err-made.ensures.refused)
+
+pub returns-in_err-made-clause-idle_nodes : goal.returns-in_err-made-clause-idle_nodes
+returns-in_err-made-clause-idle_nodes c off = absurd (true≢false (sym (ap (λ (t : Trees). documents_allow t.nodes t.documents) (sym c.self.view_is) ∙ (some_row c.self.inside.pooms c.self.inside.documents c.in-Some.due.0 c.in-Some.due.1 c.in-Some.ensures.some.root c.in-Some.ensures.some.allows)) ∙ off))
+
+pub returns-clause-grown : goal.returns-clause-grown
+returns-clause-grown c = grown_as _ _ _ _ (ap nodes_in c.self.view_is) refl (record { contents = grown_none _; documents = c.in_ok-made.ensures.grows; index = grown_none _; from = grown_none _; to = grown_none _; three = grown_none _ })
+
+pub returns-clause-idle_nodes : goal.returns-clause-idle_nodes
+returns-clause-idle_nodes c off = absurd (true≢false (sym (ap (λ (t : Trees). documents_allow t.nodes t.documents) (sym c.self.view_is) ∙ (some_row c.self.inside.pooms c.self.inside.documents c.in-Some.due.0 c.in-Some.due.1 c.in-Some.ensures.some.root c.in-Some.ensures.some.allows)) ∙ off))

@@ -1,8 +1,11 @@
 use Rattle.std.proofs.Common.{sym, subst}
 use Rattle.std.specs.Prelude.{OnOk}
 use Rattle.febe_data.specs.Plain.{plain_change, plain_specs, text_inserted, specs_copied}
+use Rattle.world_rules.specs.World.{link_address}
 use Rattle.tree_world.specs.Standing.{Stands}
 use Rattle.tree_world.specs.Changed.{after_change}
+use Rattle.tree_world.specs.Undone.{DocumentCame, DocumentEdited, LinkCame}
+use Rattle.tree_world.proofs.Grown.{entry_grown, still_grown}
 use Rattle.tree_world.proofs.world.TreeWorld.change.Goals as goal
 
 pub returns-in-Insert-clause-ok : goal.returns-in-Insert-clause-ok
@@ -23,3 +26,30 @@ returns-in-Copy-clause-ok c view stands =
 
 pub returns-in-Link-clause-ok : goal.returns-in-Link-clause-ok
 returns-in-Link-clause-ok c view stands = subst (λ x. OnOk c.make_link.result (Stands c.make_link.new.self (after_change view c.args.session (plain_change x)))) (sym c.in-Link.is) (c.make_link.ensures.ok view c.args.session stands)
+
+pub returns-in-Create-clause-grown : goal.returns-in-Create-clause-grown
+returns-in-Create-clause-grown c = entry_grown c.create.result (DocumentCame c.args.session c.in-Create.document) _ _ c.create.ensures.came
+
+pub returns-in-Version-clause-grown : goal.returns-in-Version-clause-grown
+returns-in-Version-clause-grown c = entry_grown c.version.result (DocumentCame c.args.session c.in-Version.document) _ _ c.version.ensures.came
+
+pub returns-in-OpenCopy-clause-grown : goal.returns-in-OpenCopy-clause-grown
+returns-in-OpenCopy-clause-grown c = entry_grown c.version-in-OpenCopy.result (DocumentCame c.args.session c.in-OpenCopy.document) _ _ c.version-in-OpenCopy.ensures.came
+
+pub returns-in-Insert-clause-grown : goal.returns-in-Insert-clause-grown
+returns-in-Insert-clause-grown c = entry_grown c.insert.result (DocumentEdited c.in-Insert.document) _ _ c.insert.ensures.came
+
+pub returns-in-Delete-clause-grown : goal.returns-in-Delete-clause-grown
+returns-in-Delete-clause-grown c = entry_grown c.delete.result (DocumentEdited c.in-Delete.document) _ _ c.delete.ensures.came
+
+pub returns-in-Rearrange-clause-grown : goal.returns-in-Rearrange-clause-grown
+returns-in-Rearrange-clause-grown c = entry_grown c.rearrange.result (DocumentEdited c.in-Rearrange.document) _ _ c.rearrange.ensures.came
+
+pub returns-in-Copy-clause-grown : goal.returns-in-Copy-clause-grown
+returns-in-Copy-clause-grown c = entry_grown c.copy.result (DocumentEdited c.in-Copy.document) _ _ c.copy.ensures.came
+
+pub returns-in-Link-clause-grown : goal.returns-in-Link-clause-grown
+returns-in-Link-clause-grown c = entry_grown c.make_link.result (LinkCame c.in-Link.home (link_address c.in-Link.home c.in-Link.number)) _ _ c.make_link.ensures.came
+
+pub returns-in_default-clause-grown : goal.returns-in_default-clause-grown
+returns-in_default-clause-grown c = still_grown c.change_beside.result _ _ c.change_beside.ensures.nodes

@@ -1,0 +1,11 @@
+pub mod MaySave
+pub mod Alongside
+pub mod SameOrder
+pub mod ReadRows
+pub mod FoundRows
+pub mod SideRows
+pub mod Alike
+pub mod Taken
+pub mod Told
+pub mod Compared
+pub mod Listed
