@@ -6,8 +6,6 @@ mod bytes;
 pub mod laws;
 mod place;
 mod stretch;
-#[cfg(test)]
-mod tests;
 mod text;
 
 pub use bytes::same_bytes;

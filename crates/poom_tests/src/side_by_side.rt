@@ -2,13 +2,13 @@
 ghost use Rattle.std.specs.Prelude.{◌<◌, IfOk};
 ghost use Rattle.tumbler.specs.Address.{IsDocument};
 
-use crate::{same_bytes, same_text};
 use enfilade_core::{Arena, Children, Row};
 use granfilade::Granfilade;
 use poom::Poom;
 use std::alloc::Global;
 use std::process::Abort;
 use std::test::Fail;
+use tree_compare::{same_bytes, same_text};
 use tumbler::{List, Memory, Tumbler};
 
 fn at(alloc: Global, places: &[u32]) -> Result<Tumbler, Memory> {

@@ -1,8 +1,8 @@
 //! A store behind no lock yet, as a pass would play it. The expected values are worked out by hand.
 
-use crate::{HouseJob, Housed, StepAnswer, Store};
 use febe_data::{Limits, List};
 use green_fakes::MemoryDisk;
+use green_store::{HouseJob, Housed, StepAnswer, Store};
 use history_lock::Kept;
 use std::alloc::Global;
 use std::process::Abort;

@@ -1,9 +1,9 @@
 //! Two sessions in one store over a disk in memory, and a disk of which each call fails once. The expected values are
 //! worked out by hand.
 
-use super::*;
 use febe_data::{Change, Entry, Limits, List, Mode, Refusal, Reply, Request, Rule, Tumbler};
 use green_fakes::MemoryDisk;
+use green_store::{OpenFault, Step, StepAnswer, Store};
 use std::alloc::Global;
 use std::process::Abort;
 use std::test::Fail;

@@ -1,9 +1,9 @@
 //! Background steps of a store over a disk in memory.
 
-use crate::tests::{DOCUMENT, Opened};
-use crate::{Step, StepAnswer, Store};
+use crate::sessions::{DOCUMENT, Opened};
 use febe_data::{Item, Limits, List, Reply, Request, Spec, Tumbler};
 use green_fakes::MemoryDisk;
+use green_store::{Step, StepAnswer, Store};
 use std::alloc::Global;
 use std::process::Abort;
 use std::test::Fail;

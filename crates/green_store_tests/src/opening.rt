@@ -1,9 +1,9 @@
 //! Logs that stores are opened with. Their bytes and the places in them are counted by hand.
 
-use crate::{OpenFault, Store};
 use febe_data::{Limits, List};
 use green_fakes::MemoryDisk;
 use green_io::{Area, Disk};
+use green_store::{OpenFault, Store};
 use std::alloc::Global;
 use std::test::Fail;
 
