@@ -10,7 +10,7 @@ from tests.places import CLIENT, TOP
 
 class Sources(unittest.TestCase):
     def test_they_are_python_3_8(self) -> None:
-        files = [CLIENT / "notes", TOP / "docs" / "vectors.py", *CLIENT.glob("*/*.py")]
+        files = [CLIENT / "notes", CLIENT / "hostile", TOP / "docs" / "vectors.py", *CLIENT.glob("*/*.py")]
         self.assertGreater(len(files), 10)
         for file in files:
             with self.subTest(file.name):
