@@ -190,6 +190,9 @@ def vectors() -> Iterator[Vector]:
     for table in ("EDITS", "VERSIONS", "LINKS", "ACCESS"):
         for name, row in numbered(table.lower(), told[table]):
             yield steps(name, row)
+    alone = [row for row in told["PRIVATE"] if all(of == 1 for of, _, _ in row)]
+    for name, row in numbered("private", alone):
+        yield steps(name, row)
     for name, (entries, text, row) in numbered("limited", told["LIMITED"]):
         yield steps(name, row)._replace(words=("FOLDER", "--limits", str(entries), str(text), "256"))
     for name, row in numbered("wrong-words", Constants("faults.rt")["WRONG"]):

@@ -98,6 +98,13 @@ class _Words:
         show = self._word("show", Desk.show, "show a document or a passage")
         show.add_argument("passage", metavar="PASSAGE")
         show.add_argument("--marks", action="store_true", help="mark what is at the end of a link")
+        publish = self._word(
+            "publish",
+            Desk.publish,
+            "let all accounts read a document",
+            "There is no way back. Its versions stay private.",
+        )
+        publish.add_argument("document", metavar="DOCUMENT")
         insert = self._word("insert", Desk.insert, "put text into a document, at its end or where it is told")
         insert.add_argument("document", metavar="DOCUMENT")
         _add_text(insert)
@@ -123,7 +130,9 @@ class _Words:
         links.add_argument("passage", metavar="PASSAGE")
         backlinks = self._word("backlinks", Desk.backlinks, "show the links that go to a passage")
         backlinks.add_argument("passage", metavar="PASSAGE")
-        who = self._word("who-quotes", Desk.who_quotes, "show where else a passage stands, in all documents")
+        who = self._word(
+            "who-quotes", Desk.who_quotes, "show where else a passage stands, in all documents that may be read"
+        )
         who.add_argument("passage", metavar="PASSAGE")
 
     def _for_versions(self) -> None:

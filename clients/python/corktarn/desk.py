@@ -87,6 +87,12 @@ class Desk:
         self._notes.insert(document, at, text)
         yield f"{self._name(document)}:{at}-{at + len(text) - 1}" if text else "nothing"
 
+    def publish(self, words: argparse.Namespace) -> Iterator[str]:
+        """Lets every account read a document, and says so."""
+        document = self._document(words.document)
+        self._notes.publish(document)
+        yield f"{self._name(document)} is published"
+
     def delete(self, words: argparse.Namespace) -> Iterator[str]:
         """Takes a passage out of its document."""
         passage = self._part(words.passage)
@@ -241,6 +247,8 @@ class Desk:
             yield f"  {end:>4} {self._where(passage)}"
         for document in place.gone:
             yield f"  {end:>4} {self._name(document)}, which does not show it now"
+        if not place.passages and not place.gone:
+            yield f"  {end:>4} nothing that this account may read"
 
 
 def _cut(text: str) -> str:

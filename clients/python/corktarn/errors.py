@@ -69,7 +69,7 @@ class Refused(CorktarnError):
 
 def arguments_of(request: requests.Request, refusal: Refusal) -> Tuple[Argument, ...]:
     """The arguments of the request that the refusal may be about."""
-    if refusal in (Refusal.NO_SUCH_DOCUMENT, Refusal.NOT_OPEN):
+    if refusal in (Refusal.NO_SUCH_DOCUMENT, Refusal.PRIVATE, Refusal.NOT_OPEN):
         return _once(_documents(request))
     if refusal in (Refusal.NOT_OPEN_FOR_WRITING, Refusal.NOT_OWNER, Refusal.CONFLICT):
         return tuple(_documents(request))[:1]

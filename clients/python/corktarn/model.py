@@ -236,6 +236,7 @@ class Refusal(enum.IntEnum):
     FULL = 12
     DISK = 13
     MEMORY = 14
+    PRIVATE = 15
 
     @property
     def meaning(self) -> str:
@@ -258,4 +259,5 @@ _MEANINGS = {
     Refusal.FULL: "the store has taken all that its limits allow",
     Refusal.DISK: "the disk failed, and nothing was changed",
     Refusal.MEMORY: "the program has no memory or no address left for this",
+    Refusal.PRIVATE: "the document is private to its account",
 }

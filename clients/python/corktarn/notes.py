@@ -82,7 +82,8 @@ class Passage:
 
 @dataclass(frozen=True)
 class Place:
-    """What an end of a link holds: passages where its origins show it now, and the origins that show none of a run."""
+    """What an end of a link holds: passages where its origins show it now, and the origins that show none of a run.
+    Origins that this account may not read are in neither."""
 
     passages: Tuple[Passage, ...]
     gone: Tuple[Tumbler, ...]
@@ -176,16 +177,18 @@ class Notes:
 
     def _family(self, above: Tumbler, *field: int) -> Iterator[Note]:
         """The documents that are `above`, the field and one place more, each before its versions. Their numbers have no
-        gaps, so the first that is not there ends them."""
+        gaps, so the first that is not there ends them. One that another account keeps private is passed over; what
+        lies below it may be published."""
         for number in itertools.count(1):
+            document = above.child(*field, number)
             try:
-                note = Note(self.whole(above.child(*field, number)))
+                yield Note(self.whole(document))
             except Refused as error:
-                if error.refusal is not Refusal.NO_SUCH_DOCUMENT:
+                if error.refusal is Refusal.NO_SUCH_DOCUMENT:
+                    return
+                if error.refusal is not Refusal.PRIVATE:
                     raise
-                return
-            yield note
-            yield from self._family(note.document)
+            yield from self._family(document)
 
     def make(self, text: bytes) -> Tumbler:
         """Makes a document with this text."""
@@ -193,6 +196,11 @@ class Notes:
         self._open[document] = Mode.WRITE
         self.insert(document, 1, text)
         return document
+
+    def publish(self, document: Tumbler) -> None:
+        """Lets every account read the document, for good."""
+        self.hold(document)
+        self._session.publish(document)
 
     def whole(self, document: Tumbler) -> Passage:
         """All text of a document, in as many requests as it takes."""
@@ -300,7 +308,7 @@ class Notes:
         return Place(passages, gone)
 
     def quoters(self, passage: Passage) -> List[Shared]:
-        """Where else content of the passage stands, in all documents of the store."""
+        """Where else content of the passage stands, in all documents that this account may read."""
         found = self._session.find_documents(passage.specs).documents
         return [shared for document in found for shared in self._shared_with(passage, document)]
 

@@ -126,7 +126,7 @@ class HasQuit(Reply):
 
 @dataclass(frozen=True)
 class Followed(Reply):
-    """For each run of the end its origin, and where that shows the run now."""
+    """For each run of the end whose origin may be read: that origin, and where it shows the run now."""
 
     number = 18
     specs: SpecSet
@@ -202,6 +202,13 @@ class Closed(Reply):
     """The document is closed."""
 
     number = 36
+
+
+@dataclass(frozen=True)
+class Published(Reply):
+    """The document is published."""
+
+    number = 40
 
 
 @dataclass(frozen=True)

@@ -216,3 +216,12 @@ class Close(Request):
     number = 36
     name = "close"
     document: Tumbler
+
+
+@dataclass(frozen=True)
+class Publish(Request):
+    """Lets every session read the document, for good."""
+
+    number = 40
+    name = "publish"
+    document: Tumbler

@@ -139,6 +139,10 @@ class Session:
         """Closes an open document."""
         return self._told(requests.Close(document), replies.Closed)
 
+    def publish(self, document: Tumbler) -> replies.Published:
+        """Lets every session read a document that is open for writing. There is no way back."""
+        return self._told(requests.Publish(document), replies.Published)
+
     def insert(self, document: Tumbler, address: Tumbler, text: bytes) -> replies.Inserted:
         """Puts the text before the byte at the V-address, or behind the last one."""
         return self._told(requests.Insert(document, address, text), replies.Inserted)
@@ -172,7 +176,7 @@ class Session:
         return self._told(requests.Relation(left, right), replies.Related)
 
     def find_documents(self, specs: SpecSet) -> replies.Documents:
-        """The documents that show any content that the specs pick, also those that are not open."""
+        """The documents that show any content that the specs pick and that may be read, open or not."""
         return self._told(requests.FindDocuments(specs), replies.Documents)
 
     def create_link(
@@ -182,23 +186,23 @@ class Session:
         return self._told(requests.CreateLink(home, from_, to, three), replies.Linked)
 
     def follow_link(self, link: Tumbler, end: int) -> replies.Followed:
-        """Where the origins of an end show its content now."""
+        """Where those origins of an end that may be read show its content now."""
         return self._told(requests.FollowLink(link, end), replies.Followed)
 
     def end_sets(self, specs: SpecSet) -> replies.EndSetsAre:
-        """Which of the picked text is in an end of some link."""
+        """Which of the picked text is in an end of some link whose home may be read."""
         return self._told(requests.EndSets(specs), replies.EndSetsAre)
 
     def count_links(self, want: Want) -> replies.LinkCount:
-        """How many links there are of this kind."""
+        """How many links of this kind there are whose home may be read."""
         return self._told(requests.CountLinks(want), replies.LinkCount)
 
     def find_links(self, want: Want) -> replies.Links:
-        """The links of this kind. Refused where they are more than a list has."""
+        """These links. Refused where they are more than a list has."""
         return self._told(requests.FindLinks(want), replies.Links)
 
     def next_links(self, want: Want, behind: Tumbler, count: int) -> replies.LinksBehind:
-        """The first so many links of this kind whose ids are above `behind`."""
+        """The first so many of these links whose ids are above `behind`."""
         return self._told(requests.NextLinks(want, behind, count), replies.LinksBehind)
 
     def quit(self) -> replies.HasQuit:

@@ -308,6 +308,7 @@ REQUEST_FIELDS: Dict[Type[requests.Request], Tuple[Field[Any], ...]] = {
     requests.Account: (TUMBLER,),
     requests.Open: (TUMBLER, MODE, RULE),
     requests.Close: (TUMBLER,),
+    requests.Publish: (TUMBLER,),
 }
 
 REPLY_FIELDS: Dict[Type[replies.Reply], Tuple[Field[Any], ...]] = {
@@ -332,6 +333,7 @@ REPLY_FIELDS: Dict[Type[replies.Reply], Tuple[Field[Any], ...]] = {
     replies.AccountSet: (),
     replies.Opened: (TUMBLER,),
     replies.Closed: (),
+    replies.Published: (),
 }
 
 _REQUESTS = {b"%d" % kind.number: kind for kind in REQUEST_FIELDS}

@@ -18,7 +18,7 @@ from tests.places import CLIENT
 from tests.program import program
 
 _WORDS = (
-    "make list show insert delete move quote link links backlinks who-quotes compare version versions".split()
+    "make list show publish insert delete move quote link links backlinks who-quotes compare version versions".split()
 )
 
 
@@ -130,8 +130,23 @@ class Output(unittest.TestCase):
     def test_a_version_of_another_account_is_named_whole(self) -> None:
         with tempfile.TemporaryDirectory() as store:
             _run("make", "x", store=store)
+            self.assertEqual(_run("publish", "1", store=store)[1], b"1 is published\n")
             self.assertEqual(_run("--account", "1.1.0.2", "version", "1.1.0.1.0.1", store=store)[1], b"1\n")
+            self.assertEqual(_run("who-quotes", "1", store=store)[1], b"")
+            _run("--account", "1.1.0.2", "publish", "1", store=store)
             self.assertEqual(_run("who-quotes", "1", store=store)[1], b'1.1.0.2.0.1:1-1 "x"\n')
+
+    def test_a_link_to_what_is_private(self) -> None:
+        with tempfile.TemporaryDirectory() as store:
+            _run("make", "x", store=store)
+            _run("make", "", store=store)
+            _run("quote", "1", "2", store=store)
+            _run("publish", "2", store=store)
+            _, output, _ = _run("--account", "1.1.0.2", "links", "1.1.0.1.0.2", store=store)
+            name = b"1.1.0.1.0.2"
+            self.assertEqual(
+                output, b'%s#1\n  from %s:1-1 "x"\n    to nothing that this account may read\n' % (name, name)
+            )
 
     def test_colours_are_for_a_terminal(self) -> None:
         for is_terminal, env, wanted in (

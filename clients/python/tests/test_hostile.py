@@ -9,7 +9,7 @@ import unittest
 from tests.places import CLIENT
 from tests.program import HAS_SERVER, server
 
-_CASES = ("silent", "half", "reset", "garbage", "unread", "pieces", "rush")
+_CASES = ("silent", "half", "reset", "garbage", "unread", "hidden", "pieces", "rush")
 
 
 class Hostile(unittest.TestCase):

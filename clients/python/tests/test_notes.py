@@ -7,7 +7,7 @@ import unittest
 from typing import List, Tuple
 from unittest import mock
 
-from corktarn import Refused, Session, Tumbler
+from corktarn import Refusal, Refused, Session, Tumbler
 from corktarn.notes import Notes, NotesError, Passage, Shared
 from tests.program import program
 
@@ -162,7 +162,43 @@ class Versions(_Kept):
         self.assertEqual([(it.left, it.right, it.length) for it in told.diagonals], [(1, 1, 9), (10, 17, 9)])
 
     def test_another_account_makes_a_version_of_its_own(self) -> None:
+        self.notes.publish(self.text)
         others = Notes(self.session, _OTHER)
         self.assertEqual(others.version(self.text), Tumbler.parse("1.1.0.2.0.1"))
         with self.assertRaises(Refused):
             others.insert(self.text, 1, b"x")
+
+
+class Privacy(_Kept):
+    def test_what_is_private_is_not_read(self) -> None:
+        others = Notes(self.session, _OTHER)
+        with self.assertRaises(Refused) as caught:
+            others.whole(self.text)
+        self.assertIs(caught.exception.refusal, Refusal.PRIVATE)
+        self.assertEqual(list(others.documents()), [])
+
+    def test_a_private_version_is_passed_over(self) -> None:
+        self.notes.publish(self.text)
+        below = self.notes.version(self.notes.version(self.text))
+        second = self.notes.version(self.text)
+        self.notes.publish(below)
+        self.notes.publish(second)
+        others = Notes(self.session, _OTHER)
+        self.assertEqual([it.note.document for it in others.versions(self.text)], [below, second])
+
+    def test_a_private_quotation_is_not_told(self) -> None:
+        self.notes.publish(self.text)
+        quoting = self.notes.make(b"")
+        self.notes.quote(self.notes.find(self.text, b"not"), quoting, 1)
+        others = Notes(self.session, _OTHER)
+        whole = others.whole(self.text)
+        self.assertEqual((others.quoters(whole), others.backlinks(whole), others.linked(whole)), ([], [], []))
+
+    def test_a_link_from_what_is_private(self) -> None:
+        quoting = self.notes.make(b"[]")
+        self.notes.quote(self.notes.find(self.text, b"not"), quoting, 2)
+        self.notes.publish(quoting)
+        others = Notes(self.session, _OTHER)
+        (seen,) = others.links(others.whole(quoting))
+        self.assertEqual([it.text for it in seen.from_.passages], [b"not"])
+        self.assertEqual((seen.to.passages, seen.to.gone), ((), ()))

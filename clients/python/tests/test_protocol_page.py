@@ -12,6 +12,8 @@ from tests.places import TOP
 from tests.vectors import Vector, read_vectors
 
 _STANDS_FOR = (
+    ("PUBLINK", "0.1.1.0.1.0.2.0.2.1~"),
+    ("PUB", "0.1.1.0.1.0.2~"),
     ("LINK", "0.1.1.0.1.0.1.0.2.1~"),
     ("DOC", "0.1.1.0.1.0.1~"),
 )

@@ -33,6 +33,7 @@ from tests.program import HAS_SERVER, program
 from tests.serving import serving
 
 _ACCOUNT = Tumbler.parse("1.1.0.1")
+_OTHER = Tumbler.parse("1.1.0.2")
 _FIRST = Tumbler.parse("1.1.0.1.0.1")
 
 
@@ -88,6 +89,7 @@ def _use(test: unittest.TestCase, session: Session) -> None:
     session.delete(version, text_span(1, 1))
     test.assertEqual(session.open(version, Mode.READ, Rule.REFUSE).document, version)
     session.close(version)
+    test.assertEqual(session.publish(left), replies.Published())
     session.quit()
 
 
@@ -128,7 +130,7 @@ class OverNothing(unittest.TestCase):
             self.assertTrue(told.is_closed)
 
     def test_replies_that_end_a_session(self) -> None:
-        for reply, error in ((b"34", SessionEnded), (b"34x", Malformed), (b"?15~", Malformed)):
+        for reply, error in ((b"34", SessionEnded), (b"34x", Malformed), (b"?16~", Malformed)):
             told = _Told(b"P0~", reply)
             # no quit is sent behind it, though the error is taken in the session
             with Session(told) as session, self.assertRaises(error):
@@ -150,6 +152,7 @@ class OverAPipe(_Sessions):
             session.account(_ACCOUNT)
             session.insert(session.create_document().document, byte(1), b"hello")
         with self.session() as session:
+            session.account(_ACCOUNT)
             session.open(_FIRST)
             self.assertEqual(session.retrieve((Spec.of(_FIRST, ALL_TEXT),)).text, b"hello")
 
@@ -159,6 +162,7 @@ class OverAPipe(_Sessions):
             session.create_document()
             raise ZeroDivisionError
         with self.session() as session:
+            session.account(_ACCOUNT)
             self.assertEqual(session.open(_FIRST), replies.Opened(_FIRST))
 
     def test_many_requests_ahead(self) -> None:
@@ -194,6 +198,26 @@ class OverAPipe(_Sessions):
             self._check(session, requests.Rearrange(document, ()), Refusal.BAD_CUTS, "cuts none")
             session.close(document)
             self._check(session, requests.SpanSet(document), Refusal.NOT_OPEN, f"document {document}")
+
+    def test_a_document_is_private_until_it_is_published(self) -> None:
+        with self.session() as session:
+            session.account(_ACCOUNT)
+            document = session.create_document().document
+            session.insert(document, byte(1), b"hello")
+            link = session.create_link(document, (Spec.of(document, ALL_TEXT),), ()).link
+            session.account(_OTHER)
+            self._check(session, requests.SpanSet(document), Refusal.PRIVATE, f"document {document}")
+            self._check(session, requests.FollowLink(link, 1), Refusal.NO_SUCH_LINK, f"link {link}")
+            self.assertEqual(session.count_links(Want()).count, 0)
+            session.account(_ACCOUNT)
+            session.publish(document)
+            session.account(_OTHER)
+            self.assertEqual(session.retrieve((Spec.of(document, ALL_TEXT),)).text, b"hello")
+            self.assertEqual(session.find_links(Want()).links, (link,))
+            version = session.create_version(document).document
+            session.account(_ACCOUNT)
+            self._check(session, requests.WholeSpan(version), Refusal.PRIVATE, f"document {version}")
+            session.close(version)
 
     def _check(self, session: Session, request: requests.Request, refusal: Refusal, *named: str) -> None:
         error = self.refusal(session, request)

@@ -45,7 +45,7 @@ class WithoutProgram(unittest.TestCase):
         vectors = read_vectors()
         self.assertEqual(len({it.name for it in vectors}), len(vectors))
         asked = {type(request) for it in vectors for request in _judged(it.input)[0]}
-        self.assertEqual(len(asked), 21)
+        self.assertEqual(len(asked), 22)
 
     def test_inputs_are_judged(self) -> None:
         for vector in read_vectors():

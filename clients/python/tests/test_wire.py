@@ -38,6 +38,7 @@ _REQUESTS: Tuple[Tuple[requests.Request, bytes], ...] = (
     (requests.Account(_parse("1.1.0.1")), b"34~0.1.1.0.1~"),
     (requests.Open(_DOCUMENT, Mode.READ, Rule.ALWAYS_COPY), b"35~0.1.1.0.1.0.1~1~3~"),
     (requests.Close(_DOCUMENT), b"36~0.1.1.0.1.0.1~"),
+    (requests.Publish(_DOCUMENT), b"40~0.1.1.0.1.0.1~"),
 )
 
 _REPLIES: Tuple[Tuple[replies.AnyReply, bytes], ...] = (
@@ -62,12 +63,15 @@ _REPLIES: Tuple[Tuple[replies.AnyReply, bytes], ...] = (
     (replies.AccountSet(), b"34~"),
     (replies.Opened(_DOCUMENT), b"35~0.1.1.0.1.0.1~"),
     (replies.Closed(), b"36~"),
+    (replies.Published(), b"40~"),
     *((replies.RefusedReply(it), b"?%d~" % it) for it in Refusal),
 )
 
 _WRONG_REQUESTS = (
     (b"P", 0),
     (b"15~", 1),
+    (b"4~", 1),
+    (b"41~", 1),
     (b"110~", 2),
     (b"34~24", 4),
     (b"34~23~", 5),
@@ -90,10 +94,11 @@ _WRONG_REQUESTS = (
 
 _WRONG_REPLIES = (
     (b"~", 0),
-    (b"4~", 0),
+    (b"6~", 0),
+    (b"4~", 1),
     (b"?0~", 1),
-    (b"?15~", 2),
-    (b"?140~", 3),
+    (b"?16~", 2),
+    (b"?150~", 3),
     (b"5~1~T", 4),
     (b"5~2~t1:a~", 8),
     (b"10~1~1.", 5),

@@ -30,6 +30,10 @@ const COPIED: &[u8] =
 const LINKED: &[u8] =
     b"\x00\x00\x00\x2b\x01\x00\x00\x00\x00\x00\x00\x00\x02\x00\x00\x00\x00\x00\x00\x00\x01\x08\x01\x00\x00\x00\x07\x00\x00\x00\x01\x00\x00\x00\x01\x00\x00\x00\x00\x00\x00\x00\x00\x00\x00\x00\x00";
 
+/// The first session publishes its document.
+const PUBLISHED: &[u8] =
+    b"\x00\x00\x00\x2b\x01\x00\x00\x00\x00\x00\x00\x00\x01\x00\x00\x00\x00\x00\x00\x00\x05\x09\x06\x00\x00\x00\x01\x00\x00\x00\x01\x00\x00\x00\x00\x00\x00\x00\x01\x00\x00\x00\x00\x00\x00\x00\x01";
+
 /// Nothing.
 const NOTHING: &[u8] = b"";
 
@@ -43,7 +47,7 @@ const BAD: &[(usize, u8)] = &[
     (4, 2),
     (21, 0),
     (21, 2),
-    (21, 9),
+    (21, 10),
     (22, 5),
     (22, 7),
     (22, 25),
@@ -68,11 +72,16 @@ fn again(alloc: Global, body: &[u8]) -> Result<Text, Fail> {
 #[test]
 fn bodies_both_ways(rt: HostRuntime) -> Result<(), Fail> {
     let alloc = rt.alloc();
-    for body in [CREATED, INSERTED, DELETED, SWAPPED, COPIED, LINKED].as_slice() {
+    for body in [
+        CREATED, INSERTED, DELETED, SWAPPED, COPIED, LINKED, PUBLISHED,
+    ]
+    .as_slice()
+    {
         assert!(rt; again(alloc, body)?.as_slice() == *body);
     }
     assert_eq!(rt; CREATED.len(), 47);
     assert_eq!(rt; INSERTED.len(), 64);
+    assert_eq!(rt; PUBLISHED.len(), 47);
     Ok(())
 }
 
@@ -97,7 +106,11 @@ fn check_fronts(rt: &impl Abort, alloc: Global, body: &[u8]) -> Result<(), Fail>
 #[test]
 fn bodies_cut_at_every_byte(rt: HostRuntime) -> Result<(), Fail> {
     let alloc = rt.alloc();
-    for body in [CREATED, INSERTED, DELETED, SWAPPED, COPIED, LINKED].as_slice() {
+    for body in [
+        CREATED, INSERTED, DELETED, SWAPPED, COPIED, LINKED, PUBLISHED,
+    ]
+    .as_slice()
+    {
         check_fronts(&rt, alloc, body)?;
     }
     assert!(rt; !is_body(alloc, NOTHING)?);

@@ -53,7 +53,8 @@ fn places_of_wrong_bytes(rt: HostRuntime) -> Result<(), Fail> {
     let alloc = rt.alloc();
     for (input, wanted) in [
         ("P0~007~", Some(4)),
-        ("P0~4~", Some(3)),
+        ("P0~4~", Some(4)),
+        ("P0~6~", Some(3)),
         ("P1~", Some(1)),
         ("Q", Some(0)),
         ("P0P", Some(2)),
@@ -81,19 +82,20 @@ fn places_of_wrong_bytes(rt: HostRuntime) -> Result<(), Fail> {
     Ok(())
 }
 
-const REQUESTS: [&str; 5] = [
+const REQUESTS: [&str; 6] = [
     "0~0.1.1.0.1.0.1~0.1.1~t7:16~P0~x",
     "11~",
     "5~2~0.1.1.0.1.0.1~1~0.1.1~1.5~0.1~0~",
     "35~0.1.1.0.1.0.1~2~3~",
     "31~1~0~0.1~0~0~1~0.1~0~2.7~4294967295~",
+    "40~0.1.1.0.1.0.1~",
 ];
 
 /// A greeting and so many requests.
 fn stream_of(alloc: Global, count: usize) -> Result<Text, Fail> {
     let mut stream = List::from_slice(alloc, b"P0~")?;
     for k in 0..count {
-        stream.extend_from_slice(REQUESTS[k % 5].as_bytes())?;
+        stream.extend_from_slice(REQUESTS[k % 6].as_bytes())?;
     }
     Ok(stream)
 }

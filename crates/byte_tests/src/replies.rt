@@ -111,6 +111,14 @@ fn replies_that_give_nothing(rt: HostRuntime) -> Result<(), Fail> {
 }
 
 #[test]
+fn replies_on_private_documents(rt: HostRuntime) -> Result<(), Fail> {
+    let alloc = rt.alloc();
+    spells(&rt, alloc, Reply::Published, b"40~")?;
+    spells(&rt, alloc, Reply::Refused(Refusal::Private), b"?15~")?;
+    Ok(())
+}
+
+#[test]
 fn items_that_were_retrieved(rt: HostRuntime) -> Result<(), Fail> {
     let alloc = rt.alloc();
     spells(&rt, alloc, Reply::Retrieved(List::new(alloc)), b"5~0~")?;

@@ -38,6 +38,7 @@ fn name_of(request: &Request) -> &'static str {
         Request::Account { .. } => "account",
         Request::Open { .. } => "open",
         Request::Close { .. } => "close",
+        Request::Publish { .. } => "publish",
     }
 }
 
@@ -294,7 +295,7 @@ fn put_request(out: &mut List<usize>, request: &Request) -> Result<(), Memory> {
         Request::SpanSet { document } => put_tumbler(out, document),
         Request::Version { document } => put_tumbler(out, document),
         Request::WholeSpan { document } => put_tumbler(out, document),
-        Request::Close { document } => put_tumbler(out, document),
+        Request::Close { document } | Request::Publish { document } => put_tumbler(out, document),
         other => put_other(out, other),
     }
 }

@@ -16,7 +16,7 @@ use Rattle.world_rules.specs.World.{is_same, is_child_of}
 use Rattle.world_rules.specs.Counting.{count_in, CountsAs}
 use Rattle.world_rules.proofs.CountSteps.{same_is}
 use Rattle.doc_table.specs.declared.rows.DocumentRow.{DocumentRow}
-use Rattle.doc_table.specs.DocumentRows.{is_of, documents_in, has_in, root_in, content_in, added, removed, row_cmp, most_documents, next_document_in}
+use Rattle.doc_table.specs.DocumentRows.{is_of, documents_in, has_in, root_in, content_in, published_in, added, removed, row_cmp, most_documents, next_document_in}
 use Rattle.doc_table.specs.inside.Kept.{unboxed, IsAscending, is_before, IsAt, HoldsCounts, first_sibling}
 use Rattle.doc_table.proofs.Placed.{absent, found, has_found, lacks_found, inserted, taken_out, changed, changed_there}
 use Rattle.doc_table.proofs.Ordered.{long, documents_added, documents_removed, documents_changed}
@@ -78,6 +78,13 @@ module _ {R A : Type 0} (document : List ℕ) (boxes : List (Box (DocumentRow R)
 
     pub content_none : has_in (unboxed boxes) document ≡ false → 0 ≡ content_in shown document
     content_none lacks = sym (ap (λ (o : Option (DocumentRow R)). unwrap_or (option_map (λ (r : DocumentRow R). r.content) o) 0) (lacks_shown lacks))
+
+    pub published_there : (at : ℕ) (x : Box (DocumentRow R) A) (row : DocumentRow R) → IsAt document boxes at → x ≡ get_or boxes at x → row ≡ x.value → row.published ≡ published_in shown document
+    published_there at x row it item own =
+        ap (λ (r : DocumentRow R). r.published) own ∙ sym (ap (λ (o : Option (DocumentRow R)). unwrap_or (option_map (λ (r : DocumentRow R). r.published) o) false) (find_shown at x it item))
+
+    pub published_none : has_in (unboxed boxes) document ≡ false → false ≡ published_in shown document
+    published_none lacks = sym (ap (λ (o : Option (DocumentRow R)). unwrap_or (option_map (λ (r : DocumentRow R). r.published) o) false) (lacks_shown lacks))
 
     has_step : (bs : List (Box (DocumentRow R) A)) → boxes ≡ bs → (at : ℕ) → IsAt document boxes at → has_in shown document ≡ true
     has_step [] is at it = absurd (no_item (subst (λ xs. at < length xs) is it.within))
@@ -153,7 +160,7 @@ module _ {R A : Type 0} (document : List ℕ) (boxes : List (Box (DocumentRow R)
           (omega (arith, same, holds.0), subst IsAscending (sym documents) holds.1, subst (λ ds. HoldsCounts ds counts) (sym documents) holds.2)
 
 abbrev pub fresh : {R : Type 0} → List ℕ → R → DocumentRow R
-fresh document root = record { document = document; root = root; content = 0 }
+fresh document root = record { document = document; root = root; content = 0; published = false }
 
 pub add_shows : {R A : Type 0} (document held : List ℕ) (boxes after : List (Box (DocumentRow R) A)) (at : ℕ) (new : Box (DocumentRow R) A) (shown : List (DocumentRow R)) (root : R) → at ≡ prefix_len (is_before document) boxes
     → has_in shown document ≡ false → new.value ≡ fresh held root → held ≡ document → after ≡ insert boxes at new → unboxed boxes ≡ shown → unboxed after ≡ added shown document root
@@ -174,6 +181,9 @@ row_with_root root row = record row { root = root }
 
 abbrev pub row_with_content : {R : Type 0} → ℕ → DocumentRow R → DocumentRow R
 row_with_content bytes row = record row { content = bytes }
+
+abbrev pub row_with_mark : {R : Type 0} → Bool → DocumentRow R → DocumentRow R
+row_with_mark mark row = record row { published = mark }
 
 -- ---- next addresses
 

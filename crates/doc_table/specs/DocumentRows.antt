@@ -1,5 +1,5 @@
 -- What the table of documents shows: the rows that came in and were not taken back, each once and in ascending order of documents.
-use Rattle.std.specs.Prelude.{ℕ, length, ◌++◌, ◌∷◌, ◌&&◌, Bool, if◌then◌else◌, nat_lt, not, List, [], map, filter, Option}
+use Rattle.std.specs.Prelude.{ℕ, length, ◌++◌, ◌∷◌, ◌&&◌, Bool, false, if◌then◌else◌, nat_lt, not, List, [], map, filter, Option}
 use Rattle.std.specs.List.{find, list_any}
 use Rattle.std.specs.Option.{option_map, unwrap_or}
 use Rattle.std.specs.declared.cmp.Ordering.{Ordering}
@@ -34,20 +34,24 @@ module _ {R : Type 0} where
   abbrev pub content_in : List (DocumentRow R) → List ℕ → ℕ
   content_in rows document = unwrap_or (option_map (λ (row : DocumentRow R). row.content) (find (is_of document) rows)) 0
 
+  -- whether the document is published, and false where it is not there
+  abbrev pub published_in : List (DocumentRow R) → List ℕ → Bool
+  published_in rows document = unwrap_or (option_map (λ (row : DocumentRow R). row.published) (find (is_of document) rows)) false
+
   -- ---- changes
 
   abbrev pub row_cmp : DocumentRow R → DocumentRow R → Ordering
   row_cmp a b = slice_cmp nat_cmp a.document b.document
 
-  -- the document comes in at its place
+  -- the document comes in at its place, and is not published yet
   abbrev pub added : List (DocumentRow R) → List ℕ → R → List (DocumentRow R)
-  added rows document root = insert_key row_cmp rows (record { document = document; root = root; content = 0 })
+  added rows document root = insert_key row_cmp rows (record { document = document; root = root; content = 0; published = false })
 
   -- it goes
   abbrev pub removed : List (DocumentRow R) → List ℕ → List (DocumentRow R)
   removed rows document = filter (λ (row : DocumentRow R). not (is_of document row)) rows
 
-  -- it gets another root, or another number of content bytes
+  -- it gets another root, another number of content bytes, or another mark
   abbrev pub with_root : List (DocumentRow R) → List ℕ → R → List (DocumentRow R)
   with_root rows document root = map (λ (row : DocumentRow R). if is_of document row then record row { root = root } else row) rows
 
@@ -59,6 +63,9 @@ module _ {R : Type 0} where
 
   abbrev pub with_content : List (DocumentRow R) → List ℕ → ℕ → List (DocumentRow R)
   with_content rows document bytes = map (λ (row : DocumentRow R). if is_of document row then record row { content = bytes } else row) rows
+
+  abbrev pub with_mark : List (DocumentRow R) → List ℕ → Bool → List (DocumentRow R)
+  with_mark rows document mark = map (λ (row : DocumentRow R). if is_of document row then record row { published = mark } else row) rows
 
 -- ---- next addresses
 

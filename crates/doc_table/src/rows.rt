@@ -6,12 +6,13 @@ ghost use Rattle.doc_table.specs.inside.Kept.{unboxed, IsAscending, is_before, I
 
 use tumbler::Tumbler;
 
-/// A document, the root of its tree, and how many content bytes it has.
+/// A document, the root of its tree, how many content bytes it has, and whether it is published.
 #[derive(Debug, Drop)]
 pub struct DocumentRow<R> {
     pub document: Tumbler,
     pub root: R,
     pub content: u32,
+    pub published: bool,
 }
 
 /// How many documents come before this one.

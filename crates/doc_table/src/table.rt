@@ -1,12 +1,12 @@
 //! The table of documents.
-ghost use Rattle.std.specs.Prelude.{◌≡◌, ℕ, ◌+◌, ◌<◌, ◌≤◌, List, [], ◌∷◌, ◌++◌, length, slice_get, count_by, OnOk, OnErr, IsTrue, false};
+ghost use Rattle.std.specs.Prelude.{◌≡◌, ℕ, ◌+◌, ◌<◌, ◌≤◌, List, [], ◌∷◌, ◌++◌, length, slice_get, count_by, OnOk, OnErr, IsTrue, true, false};
 ghost use Rattle.std.specs.Option.{option_map, option_copied};
 ghost use Rattle.std.specs.Ordering.{nat_cmp};
 ghost use Rattle.std.specs.Cmp.Lexicographic.{slice_cmp};
 ghost use Rattle.std.specs.List.Sorted.{IsStrictlySortedBy};
 ghost use Rattle.tumbler.specs.Address.{IsAccount, IsDocument};
 ghost use Rattle.world_rules.specs.World.{is_child_of};
-ghost use Rattle.doc_table.specs.DocumentRows.{most_documents, documents_in, has_in, root_in, content_in, added, removed, with_root, with_roots, with_content, next_document_in, version_address_in};
+ghost use Rattle.doc_table.specs.DocumentRows.{most_documents, documents_in, has_in, root_in, content_in, published_in, added, removed, with_root, with_roots, with_content, with_mark, next_document_in, version_address_in};
 
 use crate::rows::{DocumentRow, find, place, set_roots};
 use crate::siblings::first_sibling;
@@ -15,7 +15,7 @@ use std::alloc::Global;
 use std::collections::BTreeMap;
 use std::marker::Model;
 use tumbler::{Memory, Tumbler};
-use world_rules::{count_down, count_of, count_up, is_of_account};
+use world_rules::{Readers, count_down, count_of, count_up, is_of_account};
 
 /// The documents that there are, in ascending order.
 ///
@@ -84,6 +84,18 @@ impl<R: Copy> DocTable<R> {
         row.content
     }
 
+    /// Whether the document is published, and false where it is not there. It takes no memory.
+    pub fn published(&self, document: &Tumbler) -> bool
+        ensures { result ≡ published_in self.now document.now }
+    {
+        let rows = self.rows.as_slice();
+        let Some(at) = find(rows, document) else {
+            return false;
+        };
+        let row = &rows[at];
+        row.published
+    }
+
     /// The `k`-th document in ascending order, counted from 0.
     pub fn nth(&self, k: u32) -> Option<&Tumbler>
         ensures { option_copied result ≡ slice_get (documents_in self.now) k }
@@ -119,7 +131,7 @@ impl<R: Copy> DocTable<R> {
         let _rows = self.rows.as_slice();
     }
 
-    /// Puts a document in, with no byte of content yet.
+    /// Puts a document in, with no byte of content yet, and not published.
     pub fn add(&mut self, alloc: Global, document: &Tumbler, root: R) -> Result<(), Memory>
         requires absent { has_in self.old document.now ≡ false }
         requires room { length self.old < most_documents }
@@ -133,6 +145,7 @@ impl<R: Copy> DocTable<R> {
                 document: document.copy(),
                 root,
                 content: 0,
+                published: false,
             },
         )?;
         self.rows.reserve(1)?;
@@ -185,6 +198,34 @@ impl<R: Copy> DocTable<R> {
         };
         let row = &mut self.rows[at];
         row.content = bytes;
+    }
+
+    /// Publishes the document. One that is published stays so. It takes no memory.
+    pub fn publish(&mut self, document: &Tumbler)
+        requires { IsTrue (has_in self.old document.now) }
+        ensures { self.new ≡ with_mark self.old document.now true }
+    {
+        self.set_published(document, true);
+    }
+
+    /// Sets whether the document is published, by which the mark of before comes back. It takes no memory.
+    pub fn set_published(&mut self, document: &Tumbler, mark: bool)
+        requires { IsTrue (has_in self.old document.now) }
+        ensures { self.new ≡ with_mark self.old document.now mark }
+    {
+        let Some(at) = find(self.rows.as_slice(), document) else {
+            unreachable!()
+        };
+        let row = &mut self.rows[at];
+        row.published = mark;
+    }
+}
+
+impl<R: Copy> Readers for DocTable<R> {
+    ghost publishes = { λ rows document. published_in rows document };
+
+    fn is_published(&self, document: &Tumbler) -> bool {
+        self.published(document)
     }
 }
 

@@ -4,13 +4,13 @@ use Rattle.std.proofs.lemmas.Bool.{cases_Bool, eqb-true}
 use Rattle.std.proofs.lemmas.Option.{some_pair_parts}
 use Rattle.tumbler.specs.declared.span.Span.{Span}
 use Rattle.tumbler.specs.Places.{IsTumbler}
-use Rattle.febe_data.specs.Plain.{PlainSpec, PlainChange, restarted, began, ended, account_changed, document_opened, document_closed, document_created, version_made, copy_opened, text_inserted, span_deleted, blocks_swapped, specs_copied, link_made}
+use Rattle.febe_data.specs.Plain.{PlainSpec, PlainChange, restarted, began, ended, account_changed, document_opened, document_closed, document_created, version_made, copy_opened, text_inserted, span_deleted, blocks_swapped, specs_copied, link_made, document_published}
 use Rattle.febe_data.specs.Validity.{IsText, IsSpan, IsList, IsSpecSet}
 use Rattle.febe_fields.specs.Reading.{◌>>=◌}
 use Rattle.febe_fields.proofs.ListLaws.{ReadsAgain}
 use Rattle.entry_codec.specs.Format.{u32_bytes, tumbler_bytes, span_bytes, list_bytes, specs_bytes, text_bytes, kind_of, change_bytes}
 use Rattle.entry_codec.specs.Bodies.{IsU32, IsEncodable}
-use Rattle.entry_codec.specs.Reading.{u32_at, tumbler_at, text_at, span_at, numbers_at, specs_at, create_at, version_at, open_copy_at, insert_at, delete_at, rearrange_at, copy_at, link_at, change_at}
+use Rattle.entry_codec.specs.Reading.{u32_at, tumbler_at, text_at, span_at, numbers_at, specs_at, create_at, version_at, open_copy_at, insert_at, delete_at, rearrange_at, copy_at, link_at, publish_at, change_at}
 use Rattle.entry_codec.proofs.FieldLaws.{AreBytes, ReadsRight, field, u32_right, u32_again, tumbler_right, tumbler_again, text_right, text_again, list_right, list_again}
 use Rattle.entry_codec.proofs.SpecLaws.{two, span_right, span_again, specs_right, specs_again}
 
@@ -104,6 +104,13 @@ link_right bytes rest change are e =
     let p = some_pair_parts (link_made home.value number.value place.value from.value to.value three.value) change three.rest rest three.goes in
     subst (IsChange 8 bytes rest) p.0 (record { split = two bytes (tumbler_bytes home.value) home.rest (u32_bytes number.value ++ (u32_bytes place.value ++ (specs_bytes from.value ++ (specs_bytes to.value ++ (specs_bytes three.value))))) rest home.split (two home.rest (u32_bytes number.value) number.rest (u32_bytes place.value ++ (specs_bytes from.value ++ (specs_bytes to.value ++ (specs_bytes three.value)))) rest number.split (two number.rest (u32_bytes place.value) place.rest (specs_bytes from.value ++ (specs_bytes to.value ++ (specs_bytes three.value))) rest place.split (two place.rest (specs_bytes from.value) from.rest (specs_bytes to.value ++ (specs_bytes three.value)) rest from.split (two from.rest (specs_bytes to.value) to.rest (specs_bytes three.value) rest to.split (last to.rest (specs_bytes three.value) three.rest rest three.split p.1))))); right = (home.right, number.right, place.right, from.right, to.right, three.right); kind_is = refl })
 
+publish_right : GivesChanges 9 publish_at
+unfolding publish_at
+publish_right bytes rest change are e =
+    let document = field IsTumbler tumbler_at tumbler_bytes tumbler_right bytes are (λ document. Some (document_published document.0, document.1)) (change, rest) e in
+    let p = some_pair_parts (document_published document.value) change document.rest rest document.goes in
+    subst (IsChange 9 bytes rest) p.0 (record { split = last bytes (tumbler_bytes document.value) document.rest rest document.split p.1; right = document.right; kind_is = refl })
+
 of_kind : (n kind : ℕ) (read : List ℕ → Option (PlainChange × List ℕ)) (bytes rest : List ℕ) (change : PlainChange) → GivesChanges n read → AreBytes bytes → kind ≡ n → read bytes ≡ Some (change, rest) → IsChange kind bytes rest change
 of_kind n kind read bytes rest change gives are is e = subst (λ (k : ℕ). IsChange k bytes rest change) (sym is) (gives bytes rest change are e)
 
@@ -134,7 +141,11 @@ change_right kind bytes rest change are e0 =
                                               elim (cases_Bool (kind == 8)) [
                                                 | inl y ↦ let e8 = rw y at e7 in of_kind 8 kind link_at bytes rest change link_right are (eqb-true _ _ y) e8
                                                 | inr n8 ↦ let e8 = rw n8 at e7 in
-                                                    absurd (cc e8)
+                                                    elim (cases_Bool (kind == 9)) [
+                                                      | inl y ↦ let e9 = rw y at e8 in of_kind 9 kind publish_at bytes rest change publish_right are (eqb-true _ _ y) e9
+                                                      | inr n9 ↦ let e9 = rw n9 at e8 in
+                                                          absurd (cc e9)
+                                                    ]
                                               ]
                                         ]
                                   ]
@@ -209,6 +220,11 @@ link_again home number place from to three rest h =
     ap link_at (six_parts (tumbler_bytes home) (u32_bytes number) (u32_bytes place) (specs_bytes from) (specs_bytes to) (specs_bytes three) rest)
     ∙ rw (tumbler_again home (u32_bytes number ++ (u32_bytes place ++ (specs_bytes from ++ (specs_bytes to ++ (specs_bytes three ++ rest))))) h.0, u32_again number (u32_bytes place ++ (specs_bytes from ++ (specs_bytes to ++ (specs_bytes three ++ rest)))) h.1, u32_again place (specs_bytes from ++ (specs_bytes to ++ (specs_bytes three ++ rest))) h.2, specs_again from (specs_bytes to ++ (specs_bytes three ++ rest)) h.3, specs_again to (specs_bytes three ++ rest) h.4, specs_again three rest h.5) refl
 
+publish_again : (document : List ℕ) (rest : List ℕ) → IsEncodable (document_published document) → ChangeAgain (document_published document) rest
+unfolding change_at publish_at
+publish_again document rest h =
+    rw (tumbler_again document rest h) refl
+
 pub change_again : (change : PlainChange) (rest : List ℕ) → IsEncodable change → ChangeAgain change rest
 change_again (document_created document) rest h = create_again document rest h
 change_again (version_made source document) rest h = version_again source document rest h
@@ -218,6 +234,7 @@ change_again (span_deleted document span) rest h = delete_again document span re
 change_again (blocks_swapped document cuts) rest h = rearrange_again document cuts rest h
 change_again (specs_copied document at specs) rest h = copy_again document at specs rest h
 change_again (link_made home number place from to three) rest h = link_again home number place from to three rest h
+change_again (document_published document) rest h = publish_again document rest h
 change_again restarted rest h = absurd h
 change_again began rest h = absurd h
 change_again ended rest h = absurd h

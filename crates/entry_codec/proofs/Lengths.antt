@@ -6,7 +6,7 @@ use Rattle.std.proofs.lemmas.List.Elements.{All-head, All-tail}
 use Rattle.std.proofs.lemmas.List.Sums.{sum_by-cons}
 use Rattle.tumbler.specs.declared.span.Span.{Span}
 use Rattle.tumbler.specs.Places.{IsTumbler}
-use Rattle.febe_data.specs.Plain.{PlainSpec, PlainChange, PlainEntry, restarted, began, ended, account_changed, document_opened, document_closed, document_created, version_made, copy_opened, text_inserted, span_deleted, blocks_swapped, specs_copied, link_made}
+use Rattle.febe_data.specs.Plain.{PlainSpec, PlainChange, PlainEntry, restarted, began, ended, account_changed, document_opened, document_closed, document_created, version_made, copy_opened, text_inserted, span_deleted, blocks_swapped, specs_copied, link_made, document_published}
 use Rattle.febe_data.specs.Validity.{IsSpan, IsSpec, IsSpecSet, spans_in_all}
 use Rattle.entry_codec.specs.Format.{u32_bytes, u64_bytes, tumbler_bytes, span_bytes, list_bytes, spec_bytes, specs_bytes, text_bytes, kind_of, change_bytes, entry_bytes}
 use Rattle.entry_codec.specs.Bodies.{IsEncodable, HasBody}
@@ -67,6 +67,7 @@ change_length (link_made home number place from to three) h =
       specs_length three h.5,
       tumbler_length home h.0,
     )
+change_length (document_published document) h = omega (arith, tumbler_length document h)
 change_length restarted h = absurd h
 change_length began h = absurd h
 change_length ended h = absurd h

@@ -2,7 +2,7 @@
 use Rattle.std.specs.Prelude.{◌≡◌, ℕ, ◌<◌, List, ◌++◌, Option, Some, None}
 use Rattle.tumbler.specs.Places.{IsTumbler}
 use Rattle.febe_data.specs.declared.entry.Entry.{Entry}
-use Rattle.febe_data.specs.Plain.{PlainChange, PlainEntry, document_created, version_made, copy_opened, text_inserted, span_deleted, blocks_swapped, specs_copied, link_made, plain_entry}
+use Rattle.febe_data.specs.Plain.{PlainChange, PlainEntry, document_created, version_made, copy_opened, text_inserted, span_deleted, blocks_swapped, specs_copied, link_made, document_published, plain_entry}
 use Rattle.febe_data.specs.Validity.{IsText, IsSpan, IsList, IsSpecSet}
 use Rattle.entry_codec.specs.Format.{body_of}
 
@@ -25,6 +25,7 @@ IsEncodable (span_deleted document span) = IsTumbler document × IsSpan span
 IsEncodable (blocks_swapped document cuts) = IsTumbler document × IsList IsU32 cuts
 IsEncodable (specs_copied document at specs) = IsTumbler document × IsU32 at × IsSpecSet specs
 IsEncodable (link_made home number place from to three) = IsTumbler home × IsU32 number × IsU32 place × IsSpecSet from × IsSpecSet to × IsSpecSet three
+IsEncodable (document_published document) = IsTumbler document
 IsEncodable other = ⊥
 
 -- such a change, by a session and with a serial that eight bytes have room for

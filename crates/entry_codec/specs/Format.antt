@@ -3,7 +3,7 @@ use Rattle.std.specs.Prelude.{ℕ, List, [], ◌∷◌, ◌++◌, length}
 use Rattle.std.specs.List.{flat_map}
 use Rattle.std.specs.Int.{w32, w64, to_be_bytes}
 use Rattle.tumbler.specs.declared.span.Span.{Span}
-use Rattle.febe_data.specs.Plain.{PlainSpec, PlainChange, PlainEntry, document_created, version_made, copy_opened, text_inserted, span_deleted, blocks_swapped, specs_copied, link_made}
+use Rattle.febe_data.specs.Plain.{PlainSpec, PlainChange, PlainEntry, document_created, version_made, copy_opened, text_inserted, span_deleted, blocks_swapped, specs_copied, link_made, document_published}
 
 -- a number in four bytes
 abbrev pub u32_bytes : ℕ → List ℕ
@@ -46,6 +46,7 @@ kind_of (span_deleted document span) = 5
 kind_of (blocks_swapped document cuts) = 6
 kind_of (specs_copied document at specs) = 7
 kind_of (link_made home number place from to three) = 8
+kind_of (document_published document) = 9
 -- the others are never logged
 kind_of other = 0
 
@@ -60,6 +61,7 @@ change_bytes (blocks_swapped document cuts) = tumbler_bytes document ++ list_byt
 change_bytes (specs_copied document at specs) = tumbler_bytes document ++ (u32_bytes at ++ specs_bytes specs)
 change_bytes (link_made home number place from to three) =
     tumbler_bytes home ++ (u32_bytes number ++ (u32_bytes place ++ (specs_bytes from ++ (specs_bytes to ++ specs_bytes three))))
+change_bytes (document_published document) = tumbler_bytes document
 change_bytes other = []
 
 -- what stands behind the length of a body: the number of the format, which is 1, who made the change, what kind it is, and its fields

@@ -2,7 +2,7 @@
 use Rattle.std.specs.Prelude.{ℕ, ◌==◌, List, [], ◌∷◌, length, take, drop, Option, Some, None, nat_lt, if◌then◌else◌}
 use Rattle.std.specs.Int.{w32, w64, from_be_bytes}
 use Rattle.tumbler.specs.declared.span.Span.{Span}
-use Rattle.febe_data.specs.Plain.{PlainSpec, PlainChange, PlainEntry, document_created, version_made, copy_opened, text_inserted, span_deleted, blocks_swapped, specs_copied, link_made}
+use Rattle.febe_data.specs.Plain.{PlainSpec, PlainChange, PlainEntry, document_created, version_made, copy_opened, text_inserted, span_deleted, blocks_swapped, specs_copied, link_made, document_published}
 use Rattle.febe_data.specs.Validity.{spans_in_all}
 use Rattle.febe_fields.specs.Reading.{◌>>=◌, ends_well, many_at}
 
@@ -124,6 +124,11 @@ link_at bytes = do
   three ← specs_at to.1
   Some (link_made home.0 number.0 place.0 from.0 to.0 three.0, three.1)
 
+unfoldable pub publish_at : List ℕ → Option (PlainChange × List ℕ)
+publish_at bytes = do
+  document ← tumbler_at bytes
+  Some (document_published document.0, document.1)
+
 -- the change of this kind
 unfoldable pub change_at : ℕ → List ℕ → Option (PlainChange × List ℕ)
 change_at kind bytes =
@@ -134,7 +139,8 @@ change_at kind bytes =
     if kind == 5 then delete_at bytes else (
     if kind == 6 then rearrange_at bytes else (
     if kind == 7 then copy_at bytes else (
-    if kind == 8 then link_at bytes else None)))))))
+    if kind == 8 then link_at bytes else (
+    if kind == 9 then publish_at bytes else None))))))))
 
 -- ---- entries
 

@@ -1,7 +1,7 @@
 //! Changes, each read from the fields behind its kind.
 ghost use Rattle.febe_data.specs.Plain.{plain_change};
 ghost use Rattle.febe_fields.specs.Reading.{Reads, ReadsIfOk};
-ghost use Rattle.entry_codec.specs.Reading.{create_at, version_at, open_copy_at, insert_at, delete_at, rearrange_at, copy_at, link_at, change_at};
+ghost use Rattle.entry_codec.specs.Reading.{create_at, version_at, open_copy_at, insert_at, delete_at, rearrange_at, copy_at, link_at, publish_at, change_at};
 
 use crate::fields::{text_at, tumbler_at, u32_at};
 use crate::lists::{numbers_at, span_at, specs_at};
@@ -156,6 +156,16 @@ fn link_at(alloc: Global, bytes: &[u8]) -> Result<Option<(Change, &[u8])>, Memor
     )))
 }
 
+#[tactic(auto, unfolding(crate::specs::Reading::publish_at))]
+fn publish_at(alloc: Global, bytes: &[u8]) -> Option<(Change, &[u8])>
+    ensures { Reads (λ x. (plain_change x.0, x.1.now)) result (publish_at bytes.now) }
+{
+    let Some((document, rest)) = tumbler_at(alloc, bytes) else {
+        return None;
+    };
+    Some((Change::Publish { document }, rest))
+}
+
 /// The change of this kind.
 #[tactic(auto, unfolding(crate::specs::Reading::change_at))]
 pub(crate) fn change_at(
@@ -174,6 +184,7 @@ pub(crate) fn change_at(
         6 => rearrange_at(alloc, bytes),
         7 => copy_at(alloc, bytes),
         8 => link_at(alloc, bytes),
+        9 => Ok(publish_at(alloc, bytes)),
         _ => Ok(None),
     }
 }

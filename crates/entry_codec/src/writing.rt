@@ -150,6 +150,7 @@ pub(crate) fn kind_of(change: &Change) -> u8
             to: _,
             three: _,
         } => 8,
+        Change::Publish { document: _ } => 9,
         _ => 0,
     }
 }
@@ -261,6 +262,7 @@ pub(crate) fn append_change(out: &mut Text, change: &Change) -> Result<(), Memor
                 three.as_slice(),
             )
         }
+        Change::Publish { document } => append_tumbler(out, document),
         _ => Ok(()),
     }
 }

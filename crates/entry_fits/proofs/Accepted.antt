@@ -14,7 +14,7 @@ use Rattle.febe_data.specs.declared.access.Rule.{Rule}
 use Rattle.febe_data.specs.declared.access.Rule.TheVariants.{Refuse, Copy, Always}
 use Rattle.febe_data.specs.declared.refusal.Refusal.TheVariants.{BadAddress}
 use Rattle.febe_data.specs.LimitsView.{LimitsView}
-use Rattle.febe_data.specs.Plain.{PlainSpec, PlainRequest, insert, copy, rearrange, create, delete, version, quit, create_link, set_account, opens, closes, PlainChange, document_created, version_made, text_inserted, span_deleted, blocks_swapped, specs_copied, link_made}
+use Rattle.febe_data.specs.Plain.{PlainSpec, PlainRequest, insert, copy, rearrange, create, delete, version, quit, create_link, set_account, opens, closes, publish, PlainChange, document_created, version_made, text_inserted, span_deleted, blocks_swapped, specs_copied, link_made}
 use Rattle.world_rules.specs.World.{World, has_document, account_of_session, next_version, next_document, is_of_account, text_length, content_length, link_length, links_made_in}
 use Rattle.world_rules.specs.Picking.{picked_addresses, runs_of}
 use Rattle.world_rules.specs.Apply.{world_of}
@@ -99,8 +99,8 @@ module _ (limits : LimitsView) (counted : ℕ) (world : World) (session : ℕ) (
 
   insert_fits : (document at text : List ℕ) → FitsAs (insert document at text) (text_inserted document (position_of at) (content_length world document + 1) text)
   insert_fits document at text none place =
-      let long : is_too_large (text_length world document + length text) ≡ false = test (insert document at text) 4 (omega arith) none in
-      let full : nat_lt limits.text (length world.bytes + length text) ≡ false = test (insert document at text) 6 (omega arith) none in
+      let long : is_too_large (text_length world document + length text) ≡ false = test (insert document at text) 5 (omega arith) none in
+      let full : nat_lt limits.text (length world.bytes + length text) ≡ false = test (insert document at text) 7 (omega arith) none in
       record {
         comes_in = place;
         positions = ltb-false 1073741824 (text_length world document + length text) long;
@@ -110,9 +110,9 @@ module _ (limits : LimitsView) (counted : ℕ) (world : World) (session : ℕ) (
   copy_fits : (document at : List ℕ) (specs : List PlainSpec) → FitsAs (copy document at specs) (specs_copied document (position_of at) specs)
   copy_fits document at specs none place =
       let lacks : (not (has_document world document) || lacks_document world specs) ≡ false = test (copy document at specs) 0 (omega arith) none in
-      let bad = test (copy document at specs) 3 (omega arith) none in
-      let long : is_too_large (text_length world document + length (picked_addresses world specs)) ≡ false = test (copy document at specs) 4 (omega arith) none in
-      let many : is_too_long (length (runs_of world specs)) ≡ false = test (copy document at specs) 5 (omega arith) none in
+      let bad = test (copy document at specs) 4 (omega arith) none in
+      let long : is_too_large (text_length world document + length (picked_addresses world specs)) ≡ false = test (copy document at specs) 5 (omega arith) none in
+      let many : is_too_long (length (runs_of world specs)) ≡ false = test (copy document at specs) 6 (omega arith) none in
       record {
         comes_in = place;
         each = specs_fit world specs (or_parts (not (has_document world document)) (lacks_document world specs) lacks).1 (or_parts _ (has_bad_span specs) bad).1;
@@ -128,7 +128,7 @@ module _ (limits : LimitsView) (counted : ℕ) (world : World) (session : ℕ) (
 
   delete_fits : (document : List ℕ) (span : Span) → FitsAs (delete document span) (span_deleted document span)
   delete_fits document span none place =
-      (not-false (has_document world document) (test (delete document span) 0 (omega arith) none), not-false (fits span.start span.width) (test (delete document span) 3 (omega arith) none))
+      (not-false (has_document world document) (test (delete document span) 0 (omega arith) none), not-false (fits span.start span.width) (test (delete document span) 4 (omega arith) none))
 
   version_request_fits : (document : List ℕ) → FitsAs (version document) (version_made document (version_to_come world session document))
   version_request_fits document none place =
@@ -137,8 +137,8 @@ module _ (limits : LimitsView) (counted : ℕ) (world : World) (session : ℕ) (
   link_fits : (home : List ℕ) (from to three : List PlainSpec) → FitsAs (create_link home from to three) (link_made home (links_made_in world home + 1) (link_length world home + 1) from to three)
   link_fits home from to three none place =
       let lacks : (not (has_document world home) || lacks_document world (from ++ to ++ three)) ≡ false = test (create_link home from to three) 0 (omega arith) none in
-      let bad : has_bad_span (from ++ to ++ three) ≡ false = test (create_link home from to three) 3 (omega arith) none in
-      let many : is_too_long (runs_in_all world from to three) ≡ false = test (create_link home from to three) 4 (omega arith) none in
+      let bad : has_bad_span (from ++ to ++ three) ≡ false = test (create_link home from to three) 4 (omega arith) none in
+      let many : is_too_long (runs_in_all world from to three) ≡ false = test (create_link home from to three) 5 (omega arith) none in
       let all = specs_fit world (from ++ to ++ three) (or_parts (not (has_document world home)) (lacks_document world (from ++ to ++ three)) lacks).1 bad in
       let outer = all_parts (SpecFits world) (from ++ to) three all in
       let inner = all_parts (SpecFits world) from to outer.0 in
@@ -171,6 +171,7 @@ module _ (limits : LimitsView) (counted : ℕ) (world : World) (session : ℕ) (
   change_fits (opens document mode rule) made none e place counts =
       by_effect (opens document mode rule) _ made e place counts (λ p c. open_fits document mode rule (opens_version world session document mode rule) refl none c)
   change_fits (closes document) made none e place counts = by_effect (closes document) _ made e place counts (λ p c. absurd (true≢false (sym c)))
+  change_fits (publish document) made none e place counts = by_effect (publish document) _ made e place counts (λ p c. p)
   change_fits other made none e place counts = cc
 
 -- ---- the entry

@@ -3,7 +3,7 @@ use Rattle.std.proofs.Common.{◌≡◌, ◌⊎◌, ℕ, true, List, [], ◌∷�
 use Rattle.std.specs.Prelude.{IsTrue}
 use Rattle.std.proofs.lemmas.Grind.{fold-append}
 use Rattle.std.proofs.lemmas.List.{append_assoc, append-nil}
-use Rattle.febe_data.specs.Plain.{PlainChange, PlainEntry, restarted, began, ended, account_changed, document_opened, document_closed, document_created, version_made, copy_opened, text_inserted, span_deleted, blocks_swapped, specs_copied, link_made}
+use Rattle.febe_data.specs.Plain.{PlainChange, PlainEntry, restarted, began, ended, account_changed, document_opened, document_closed, document_created, version_made, copy_opened, text_inserted, span_deleted, blocks_swapped, specs_copied, link_made, document_published}
 use Rattle.world_rules.specs.World.{World, empty_world, has_document}
 use Rattle.world_rules.specs.Apply.{apply, world_of}
 use Rattle.world_rules.specs.History.{durable_entries, is_durable}
@@ -38,6 +38,7 @@ fits_placed world (span_deleted document span) fits = tt
 fits_placed world (blocks_swapped document cuts) fits = fits.1
 fits_placed world (specs_copied document at specs) fits = fits.comes_in
 fits_placed world (link_made home number place from to three) fits = fits.comes_in
+fits_placed world (document_published document) fits = fits
 fits_placed world restarted fits = absurd fits
 fits_placed world began fits = absurd fits
 fits_placed world ended fits = absurd fits

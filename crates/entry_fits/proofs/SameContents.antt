@@ -1,6 +1,6 @@
 -- A change fits two worlds of the same contents alike.
 use Rattle.std.proofs.Common.{◌≡◌, ◌⊎◌, ℕ, List, All, sym, subst, inl, inr}
-use Rattle.febe_data.specs.Plain.{PlainSpec, PlainChange, restarted, began, ended, account_changed, document_opened, document_closed, document_created, version_made, copy_opened, text_inserted, span_deleted, blocks_swapped, specs_copied, link_made}
+use Rattle.febe_data.specs.Plain.{PlainSpec, PlainChange, restarted, began, ended, account_changed, document_opened, document_closed, document_created, version_made, copy_opened, text_inserted, span_deleted, blocks_swapped, specs_copied, link_made, document_published}
 use Rattle.world_rules.specs.declared.rows.OpenRow.{OpenRow}
 use Rattle.world_rules.specs.declared.rows.AccountRow.{AccountRow}
 use Rattle.world_rules.specs.World.{World}
@@ -55,10 +55,11 @@ module _ (world : World) (open_rows : List OpenRow) (accounts : List AccountRow)
     three_each = specs_too three fits.three_each;
     runs = fits.runs;
   }
+  fits_without (document_published document) fits = fits
 
 -- the one world, with the open documents and accounts of the other, is the other
 alike : (one two : World) → HasContentsOf one two → record one { open_rows = two.open_rows; accounts = two.accounts } ≡ two
-alike one two same = λ i. record { documents = same.documents i; rows = same.rows i; bytes = same.bytes i; links = same.links i; open_rows = two.open_rows; accounts = two.accounts }
+alike one two same = λ i. record { documents = same.documents i; rows = same.rows i; bytes = same.bytes i; links = same.links i; published = same.published i; open_rows = two.open_rows; accounts = two.accounts }
 
 pub fits_too : (one two : World) → HasContentsOf one two → (change : PlainChange) → ChangeFits two change → ChangeFits one change
 fits_too one two same change fits =

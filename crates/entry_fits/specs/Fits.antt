@@ -2,7 +2,7 @@
 use Rattle.std.specs.Prelude.{◌≡◌, ◌⊎◌, ℕ, ◌+◌, ◌<◌, ◌≤◌, false, List, [], ◌∷◌, ◌++◌, length, All, IsTrue, ⊤}
 use Rattle.tumbler.specs.Span.{SpanFits}
 use Rattle.tumbler.specs.Address.{IsAccount}
-use Rattle.febe_data.specs.Plain.{PlainSpec, PlainChange, PlainEntry, document_created, version_made, copy_opened, text_inserted, span_deleted, blocks_swapped, specs_copied, link_made}
+use Rattle.febe_data.specs.Plain.{PlainSpec, PlainChange, PlainEntry, document_created, version_made, copy_opened, text_inserted, span_deleted, blocks_swapped, specs_copied, link_made, document_published}
 use Rattle.world_rules.specs.World.{World, has_document, next_document, next_version, is_of_account, text_length}
 use Rattle.world_rules.specs.Picking.{picked_addresses, runs_of}
 use Rattle.world_rules.specs.Apply.{world_of}
@@ -81,6 +81,7 @@ ChangeFits world (span_deleted document span) = IsTrue (has_document world docum
 ChangeFits world (blocks_swapped document cuts) = IsTrue (has_document world document) × IsCutAt world document cuts
 ChangeFits world (specs_copied document at specs) = CopyFits world document at specs
 ChangeFits world (link_made home number place from to three) = LinkFits world home number place from to three
+ChangeFits world (document_published document) = IsTrue (has_document world document)
 ChangeFits world other = ⊥
 
 -- every serial of the session is below this one

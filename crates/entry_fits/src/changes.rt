@@ -211,6 +211,7 @@ pub(crate) fn change_fits<W: Find>(
             to.as_slice(),
             three.as_slice(),
         )?),
+        Change::Publish { document } => Ok(world.has_document(document)),
         _ => Ok(false),
     }
 }

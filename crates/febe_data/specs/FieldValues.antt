@@ -4,7 +4,7 @@ use Rattle.tumbler.specs.declared.span.Span.{Span}
 use Rattle.febe_data.specs.declared.access.Mode.{Mode}
 use Rattle.febe_data.specs.declared.access.Rule.{Rule}
 use Rattle.febe_data.specs.declared.run.Diagonal.{Diagonal}
-use Rattle.febe_data.specs.Plain.{PlainSpec, PlainWant, PlainItem, PlainRequest, insert, span_set, copy, rearrange, retrieve, relate, create, delete, version, whole_span, quit, follow, find_documents, create_link, end_sets, count_links, find_links, next_links, set_account, opens, closes, PlainReply, inserted, copied, rearranged, deleted, has_quit, account_set, closed, gave_span_set, gave_whole_span, retrieved, related, created, versioned, linked, opened, followed, found_documents, gave_end_sets, counted_links, found_links, gave_next_links, refused}
+use Rattle.febe_data.specs.Plain.{PlainSpec, PlainWant, PlainItem, PlainRequest, insert, span_set, copy, rearrange, retrieve, relate, create, delete, version, whole_span, quit, follow, find_documents, create_link, end_sets, count_links, find_links, next_links, set_account, opens, closes, publish, PlainReply, inserted, copied, rearranged, deleted, has_quit, account_set, closed, gave_span_set, gave_whole_span, retrieved, related, created, versioned, linked, opened, followed, found_documents, gave_end_sets, counted_links, found_links, gave_next_links, refused, published}
 
 -- the value of one field
 pub data FieldValue : Type 0 where
@@ -44,6 +44,7 @@ request_number (next_links want after limit) = 31
 request_number (set_account account) = 34
 request_number (opens document mode rule) = 35
 request_number (closes document) = 36
+request_number (publish document) = 40
 
 -- what a request gives for the links that it looks for, with other values behind
 abbrev pub want_values : PlainWant → List FieldValue → List FieldValue
@@ -72,6 +73,7 @@ request_values (next_links want after limit) = want_values want (tumbler_value a
 request_values (set_account account) = tumbler_value account ∷ []
 request_values (opens document mode rule) = tumbler_value document ∷ mode_value mode ∷ rule_value rule ∷ []
 request_values (closes document) = tumbler_value document ∷ []
+request_values (publish document) = tumbler_value document ∷ []
 
 -- the field values of a reply, in their order
 abbrev pub reply_values : PlainReply → List FieldValue
@@ -97,3 +99,4 @@ reply_values (counted_links count) = number_value count ∷ []
 reply_values (found_links ids) = tumblers_value ids ∷ []
 reply_values (gave_next_links ids) = tumblers_value ids ∷ []
 reply_values (refused refusal) = []
+reply_values published = []

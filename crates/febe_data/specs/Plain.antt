@@ -62,6 +62,7 @@ pub data PlainRequest : Type 0 where
   set_account : (account : List ℕ) → PlainRequest
   opens : (document : List ℕ) (mode : Mode) (rule : Rule) → PlainRequest
   closes : (document : List ℕ) → PlainRequest
+  publish : (document : List ℕ) → PlainRequest
 
 abbrev pub plain_request : Request → PlainRequest
 plain_request (requests.Insert document at text) = insert document at text.items
@@ -85,6 +86,7 @@ plain_request (requests.NextLinks want after limit) = next_links (plain_want wan
 plain_request (requests.Account account) = set_account account
 plain_request (requests.Open document mode rule) = opens document mode rule
 plain_request (requests.Close document) = closes document
+plain_request (requests.Publish document) = publish document
 
 -- a piece of what was retrieved
 pub data PlainItem : Type 0 where
@@ -119,6 +121,7 @@ pub data PlainReply : Type 0 where
   found_links : (ids : List (List ℕ)) → PlainReply
   gave_next_links : (ids : List (List ℕ)) → PlainReply
   refused : Refusal → PlainReply
+  published : PlainReply
 
 abbrev pub plain_reply : Reply → PlainReply
 plain_reply replies.Inserted = inserted
@@ -143,6 +146,7 @@ plain_reply (replies.LinkCount count) = counted_links count
 plain_reply (replies.Links ids) = found_links ids.items
 plain_reply (replies.NextLinks ids) = gave_next_links ids.items
 plain_reply (replies.Refused refusal) = refused refusal
+plain_reply replies.Published = published
 
 -- what an entry changed
 pub data PlainChange : Type 0 where
@@ -160,6 +164,7 @@ pub data PlainChange : Type 0 where
   blocks_swapped : (document : List ℕ) (cuts : List ℕ) → PlainChange
   specs_copied : (document : List ℕ) (at : ℕ) (specs : List PlainSpec) → PlainChange
   link_made : (home : List ℕ) (number place : ℕ) (from to three : List PlainSpec) → PlainChange
+  document_published : (document : List ℕ) → PlainChange
 
 abbrev pub plain_change : Change → PlainChange
 plain_change changes.Restart = restarted
@@ -176,6 +181,7 @@ plain_change (changes.Delete document span) = span_deleted document span
 plain_change (changes.Rearrange document cuts) = blocks_swapped document cuts.items
 plain_change (changes.Copy document at specs) = specs_copied document at (plain_specs specs.items)
 plain_change (changes.Link home number place from to three) = link_made home number place (plain_specs from.items) (plain_specs to.items) (plain_specs three.items)
+plain_change (changes.Publish document) = document_published document
 
 -- one change, by one session
 pub record PlainEntry : Type 0 where

@@ -82,6 +82,10 @@ pub enum Change {
         to: List<Spec>,
         three: List<Spec>,
     },
+    /// The session published a document.
+    Publish {
+        document: Tumbler,
+    },
 }
 
 /// By hand, so that a caller's exits do not look into the variants.
@@ -133,6 +137,7 @@ impl Drop for Change {
                 to: _,
                 three: _,
             } => {}
+            Change::Publish { document: _ } => {}
         }
     }
 }
@@ -209,6 +214,9 @@ impl Change {
                 from: clone_specs(alloc, from.as_slice())?,
                 to: clone_specs(alloc, to.as_slice())?,
                 three: clone_specs(alloc, three.as_slice())?,
+            },
+            Change::Publish { document } => Change::Publish {
+                document: document.copy(),
             },
         })
     }

@@ -3,13 +3,16 @@ ghost use Rattle.std.specs.Prelude.{◌≡◌};
 
 use std::fmt;
 
-/// The refusals, in the order in which they are asked: the first one whose condition holds is given.
+/// The refusals, in the order in which they are asked, which is not that of their numbers: the first one whose condition
+/// holds is given.
 #[derive(Clone, Copy, Debug, PartialEq, Eq)]
 pub enum Refusal {
     /// The session has set no account.
     NoAccount,
     /// A document that the request names does not exist.
     NoSuchDocument,
+    /// A document that the request names is another account's, and is not published.
+    Private,
     /// The session has not opened a document that the request names.
     NotOpen,
     /// The session opened the document that the request would change for reading alone.
@@ -39,13 +42,14 @@ pub enum Refusal {
 impl Refusal {
     ghost use Rattle.febe_data.specs.Refusal.{refusal_number};
 
-    /// The number that stands for the refusal in a reply, from 1 to 14.
+    /// The number that stands for the refusal in a reply, from 1 to 15.
     pub fn number(&self) -> u8
         ensures { result ≡ refusal_number self.now }
     {
         match self {
             Refusal::NoAccount => 1,
             Refusal::NoSuchDocument => 2,
+            Refusal::Private => 15,
             Refusal::NotOpen => 3,
             Refusal::NotOpenForWriting => 4,
             Refusal::NotOwner => 5,

@@ -74,6 +74,7 @@ pub enum Reply {
     Links(List<Tumbler>),
     NextLinks(List<Tumbler>),
     Refused(Refusal),
+    Published,
 }
 
 /// By hand, so that a caller's exits do not look into the variants.
@@ -106,6 +107,7 @@ impl Drop for Reply {
             Reply::Links(_) => {}
             Reply::NextLinks(_) => {}
             Reply::Refused(_) => {}
+            Reply::Published => {}
         }
     }
 }
@@ -146,6 +148,7 @@ impl Reply {
             Reply::Links(ids) => Reply::Links(clone_tumblers(alloc, ids.as_slice())?),
             Reply::NextLinks(ids) => Reply::NextLinks(clone_tumblers(alloc, ids.as_slice())?),
             Reply::Refused(refusal) => Reply::Refused(refusal.copy()),
+            Reply::Published => Reply::Published,
         })
     }
 }

@@ -108,6 +108,10 @@ pub enum Request {
     Close {
         document: Tumbler,
     },
+    /// Lets every session read a document, for good.
+    Publish {
+        document: Tumbler,
+    },
 }
 
 /// By hand, so that a caller's exits do not look into the variants.
@@ -162,6 +166,7 @@ impl Drop for Request {
                 rule: _,
             } => {}
             Request::Close { document: _ } => {}
+            Request::Publish { document: _ } => {}
         }
     }
 }
@@ -257,6 +262,9 @@ impl Request {
                 rule: rule.copy(),
             },
             Request::Close { document } => Request::Close {
+                document: document.copy(),
+            },
+            Request::Publish { document } => Request::Publish {
                 document: document.copy(),
             },
         })

@@ -141,6 +141,7 @@ impl Request {
                 rule: _,
             } => is_tumbler(document),
             Request::Close { document } => is_tumbler(document),
+            Request::Publish { document } => is_tumbler(document),
         }
     }
 }

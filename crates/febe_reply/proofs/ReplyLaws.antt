@@ -9,10 +9,10 @@ use Rattle.std.proofs.lemmas.List.Elements.{All-nil, All-cons}
 use Rattle.tumbler.specs.declared.span.Span.{Span}
 use Rattle.tumbler.specs.Places.{IsTumbler}
 use Rattle.febe_data.specs.declared.refusal.Refusal.{Refusal}
-use Rattle.febe_data.specs.declared.refusal.Refusal.TheVariants.{NoAccount, NoSuchDocument, NotOpen, NotOpenForWriting, NotOwner, Conflict, BadAddress, BadCuts, NoSuchLink, NoSuchEnd, TooLong, Full, Disk, Memory}
+use Rattle.febe_data.specs.declared.refusal.Refusal.TheVariants.{NoAccount, NoSuchDocument, Private, NotOpen, NotOpenForWriting, NotOwner, Conflict, BadAddress, BadCuts, NoSuchLink, NoSuchEnd, TooLong, Full, Disk, Memory}
 use Rattle.febe_data.specs.declared.run.Diagonal.{Diagonal}
 use Rattle.febe_data.specs.Refusal.{refusal_number}
-use Rattle.febe_data.specs.Plain.{PlainSpec, PlainItem, bytes, link, PlainReply, inserted, copied, rearranged, deleted, has_quit, account_set, closed, gave_span_set, gave_whole_span, retrieved, related, created, versioned, linked, opened, followed, found_documents, gave_end_sets, counted_links, found_links, gave_next_links, refused}
+use Rattle.febe_data.specs.Plain.{PlainSpec, PlainItem, bytes, link, PlainReply, inserted, copied, rearranged, deleted, has_quit, account_set, closed, gave_span_set, gave_whole_span, retrieved, related, created, versioned, linked, opened, followed, found_documents, gave_end_sets, counted_links, found_links, gave_next_links, refused, published}
 use Rattle.febe_data.specs.FieldValues.{reply_values}
 use Rattle.febe_data.specs.Spelling.{spell_number, spell_tumbler, spell_text, spell_span, spell_list, spell_spec, spell_item, spell_text_address, spell_diagonal, spell_value}
 use Rattle.febe_data.specs.Validity.{IsList, IsItem, IsDiagonal, IsReply}
@@ -36,6 +36,7 @@ three_parts a b c rest = simp (append_assoc, append-nil)
 refusal_again : (r : Refusal) → refusal_of (refusal_number r) ≡ Some r
 refusal_again NoAccount = refl
 refusal_again NoSuchDocument = refl
+refusal_again Private = refl
 refusal_again NotOpen = refl
 refusal_again NotOpenForWriting = refl
 refusal_again NotOwner = refl
@@ -50,9 +51,10 @@ refusal_again Disk = refl
 refusal_again Memory = refl
 
 -- the numbers of refusals
-pub refusal_bounds : (r : Refusal) → (1 ≤ refusal_number r) × (refusal_number r ≤ 14)
+pub refusal_bounds : (r : Refusal) → (1 ≤ refusal_number r) × (refusal_number r ≤ 15)
 refusal_bounds NoAccount = (omega arith, omega arith)
 refusal_bounds NoSuchDocument = (omega arith, omega arith)
+refusal_bounds Private = (omega arith, omega arith)
 refusal_bounds NotOpen = (omega arith, omega arith)
 refusal_bounds NotOpenForWriting = (omega arith, omega arith)
 refusal_bounds NotOwner = (omega arith, omega arith)
@@ -207,6 +209,7 @@ reply_again deleted rest h = nothing_alone 12 deleted rest (omega arith) refl
 reply_again has_quit rest h = nothing_alone 16 has_quit rest (omega arith) refl
 reply_again account_set rest h = nothing_alone 34 account_set rest (omega arith) refl
 reply_again closed rest h = nothing_alone 36 closed rest (omega arith) refl
+reply_again published rest h = nothing_alone 40 published rest (omega arith) refl
 reply_again (gave_span_set spans) rest h = behind_number 1 (spell_list spell_span spans ++ []) rest (gave_span_set spans, rest) (omega arith) (span_set_again spans rest h)
 reply_again (gave_whole_span span) rest h = behind_number 14 (spell_span span ++ []) rest (gave_whole_span span, rest) (omega arith) (whole_span_again span rest h)
 reply_again (retrieved items) rest h = behind_number 5 (spell_list spell_item items ++ []) rest (retrieved items, rest) (omega arith) (retrieved_again items rest h)

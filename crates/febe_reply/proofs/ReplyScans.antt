@@ -10,7 +10,7 @@ use Rattle.std.proofs.lemmas.List.{append-nil, length-drop, take-append-drop}
 use Rattle.febe_data.specs.declared.refusal.Refusal.{Refusal}
 use Rattle.febe_data.specs.declared.refusal.Refusal.TheVariants as refusals
 use Rattle.febe_data.specs.Refusal.{refusal_number}
-use Rattle.febe_data.specs.Plain.{PlainReply, inserted, copied, rearranged, deleted, has_quit, account_set, closed, gave_span_set, gave_whole_span, retrieved, related, created, versioned, linked, opened, followed, found_documents, gave_end_sets, counted_links, found_links, gave_next_links, refused}
+use Rattle.febe_data.specs.Plain.{PlainReply, inserted, copied, rearranged, deleted, has_quit, account_set, closed, gave_span_set, gave_whole_span, retrieved, related, created, versioned, linked, opened, followed, found_documents, gave_end_sets, counted_links, found_links, gave_next_links, refused, published}
 use Rattle.febe_data.specs.FieldValues.{reply_values}
 use Rattle.febe_data.specs.Spelling.{spell_number, spell_item, spell_diagonal, spell_list, spell_value}
 use Rattle.febe_data.specs.Validity.{IsReply}
@@ -33,7 +33,7 @@ use Rattle.febe_reply.specs.declared.scan.NumberRole.TheVariants as soughts
 use Rattle.febe_reply.specs.ReplyGrammar.{reply_head, spell_reply, HasBytes, SpellsReply, IsSpelledReply}
 use Rattle.febe_reply.specs.inside.Reading.{reply_at}
 use Rattle.febe_reply.specs.Reads.{IsReadReply}
-use Rattle.febe_reply.specs.inside.ReplyMachine.{Behind, these, some_items, some_diagonals, ReplyState, at_start, one_digit, two_digits, in_fields, at_number, at_zero, in_number, at_item, in_item, at_address, payload_of, number_ended, begun, behind_next, named, reply_step}
+use Rattle.febe_reply.specs.inside.ReplyMachine.{Behind, these, some_items, some_diagonals, ReplyState, at_start, one_digit, at_four, two_digits, in_fields, at_number, at_zero, in_number, at_item, in_item, at_address, payload_of, number_ended, begun, behind_next, named, reply_step}
 use Rattle.febe_reply.proofs.CountScans.{most_some, count_takes, count_again}
 use Rattle.febe_reply.proofs.ItemScans as item_scans
 use Rattle.febe_reply.proofs.ItemScans.{SpellsItems, prefix_again, one_item_goes_on, items_go_on}
@@ -155,6 +155,9 @@ named_35 input h = record { reply = opened h.values.0; valid = h.valid; texts = 
 named_36 : (input : List ℕ) → SpellsBehind (these []) input → NamedReply 36 input
 named_36 input h = record { reply = closed; valid = h.valid; texts = tt; head = refl; parts = h.spelled }
 
+named_40 : (input : List ℕ) → SpellsBehind (these []) input → NamedReply 40 input
+named_40 input h = record { reply = published; valid = h.valid; texts = tt; head = refl; parts = h.spelled }
+
 at_number_of : (n k : ℕ) (made given : Behind) (input : List ℕ) → n == k ≡ true → Some made ≡ Some given → (SpellsBehind made input → NamedReply k input) → SpellsBehind given input → NamedReply n input
 at_number_of n k made given input is e by h = subst (λ (m : ℕ). NamedReply m input) (sym (eqb-true _ _ is)) (by (subst (λ (b : Behind). SpellsBehind b input) (sym (same_Some made given e)) h))
 
@@ -224,7 +227,11 @@ reply_named n b input e h =
                                                                                                                             elim (chosen (n == 36) (Some (these [])) _ (Some b) not35.1) [
                                                                                                                               | inl is ↦ at_number_of n 36 (these []) b input is.0 is.1 (named_36 input) h
                                                                                                                               | inr not36 ↦
-                                                                                                                                  absurd (cc not36.1)
+                                                                                                                                  elim (chosen (n == 40) (Some (these [])) _ (Some b) not36.1) [
+                                                                                                                                    | inl is ↦ at_number_of n 40 (these []) b input is.0 is.1 (named_40 input) h
+                                                                                                                                    | inr not40 ↦
+                                                                                                                                        absurd (cc not40.1)
+                                                                                                                                  ]
                                                                                                                             ]
                                                                                                                       ]
                                                                                                                 ]
@@ -333,6 +340,10 @@ name_36 : (parts : List ℕ) → follows reply_step (behind_next (these [])) par
 unfolding digits
 name_36 parts h = one_taken reply_step at_start 51 (54 ∷ 126 ∷ parts) (one_taken reply_step (one_digit 3 (these [])) 54 (126 ∷ parts) (one_taken reply_step (two_digits (these [])) 126 parts h))
 
+name_40 : (parts : List ℕ) → follows reply_step (behind_next (these [])) parts → takes reply_step at_start (spell_number 40 ++ parts)
+unfolding digits
+name_40 parts h = one_taken reply_step at_start 52 (48 ∷ 126 ∷ parts) (one_taken reply_step at_four 48 (126 ∷ parts) (one_taken reply_step (two_digits (these [])) 126 parts h))
+
 -- a refusal is taken
 refused_taken : (r : Refusal) → takes reply_step at_start (spell_reply (refused r))
 refused_taken r =
@@ -364,6 +375,7 @@ spelled_taken account_set h texts = name_34 (flat_map spell_value (reply_values 
 spelled_taken (opened document) h texts = name_35 (flat_map spell_value (reply_values (opened document))) (begun_in (fields_next (fields.Tumbler ∷ [])) (flat_map spell_value (reply_values (opened document))) (fields_again (fields.Tumbler ∷ []) (document, tt) h))
 spelled_taken closed h texts = name_36 (flat_map spell_value (reply_values closed)) (begun_in (fields_next []) (flat_map spell_value (reply_values closed)) (fields_again [] tt h))
 spelled_taken (refused r) h texts = refused_taken r
+spelled_taken published h texts = name_40 (flat_map spell_value (reply_values published)) (begun_in (fields_next []) (flat_map spell_value (reply_values published)) (fields_again [] tt h))
 
 reply_taken : (input : List ℕ) → IsSpelledReply input → takes reply_step at_start input
 reply_taken input h = subst (takes reply_step at_start) (sym h.spells.spelled) (spelled_taken h.reply h.spells.valid h.spells.texts)
@@ -429,19 +441,33 @@ one_digit_takes b with_it (c ∷ input) low high e h =
       ]
     ]
 
+four_takes : (input : List ℕ) → takes reply_step at_four input → IsSpelledReply (52 ∷ input)
+four_takes [] h = absurd (takes_some reply_step at_four h)
+four_takes (c ∷ input) h =
+    let f = takes_one reply_step at_four c input h in
+    elim (cases_Bool (is_ascii_digit c)) [
+      | inl digit ↦
+          let g = named_goes (λ with_it. two_digits with_it) (payload_of (4 * 10 + (c - 48))) input (rw digit at f) in
+          two_digits_take 52 c g.0 input (omega arith) (omega arith) digit g.1 g.2
+      | inr none ↦ absurd (rw none at f)
+    ]
+
 number_takes : (b : ℕ) (input : List ℕ) → b == 63 ≡ false → takes reply_step at_start (b ∷ input) → IsSpelledReply (b ∷ input)
 number_takes b input mark h =
     let f = takes_one reply_step at_start b input h in
-    elim (cases_Bool (is_ascii_digit b)) [
-      | inl digit ↦
-          let range = is_digit b digit in
-          let g = named_goes (λ with_it. one_digit (b - 48) with_it) (payload_of (b - 48)) input (rw (mark, digit) at f) in
-          one_digit_takes b g.0 input range.0 range.1 g.1 g.2
-      | inr none ↦ absurd (rw (mark, none) at f)
+    elim (cases_Bool (b == 52)) [
+      | inl four ↦ subst (λ (x : ℕ). IsSpelledReply (x ∷ input)) (sym (eqb-true _ _ four)) (four_takes input (rw (mark, four) at f))
+      | inr other ↦ elim (cases_Bool (is_ascii_digit b)) [
+        | inl digit ↦
+            let range = is_digit b digit in
+            let g = named_goes (λ with_it. one_digit (b - 48) with_it) (payload_of (b - 48)) input (rw (mark, other, digit) at f) in
+            one_digit_takes b g.0 input range.0 range.1 g.1 g.2
+        | inr none ↦ absurd (rw (mark, other, none) at f)
+      ]
     ]
 
 -- the refusal of a number
-refusal_numbered : (n : ℕ) → 1 ≤ n → n ≤ 14 → (r : Refusal) × (refusal_number r ≡ n)
+refusal_numbered : (n : ℕ) → 1 ≤ n → n ≤ 15 → (r : Refusal) × (refusal_number r ≡ n)
 refusal_numbered zero low high = absurd (omega arith)
 refusal_numbered (suc zero) low high = (refusals.NoAccount, refl)
 refusal_numbered (suc (suc zero)) low high = (refusals.NoSuchDocument, refl)
@@ -457,7 +483,8 @@ refusal_numbered (suc (suc (suc (suc (suc (suc (suc (suc (suc (suc (suc zero))))
 refusal_numbered (suc (suc (suc (suc (suc (suc (suc (suc (suc (suc (suc (suc zero)))))))))))) low high = (refusals.Full, refl)
 refusal_numbered (suc (suc (suc (suc (suc (suc (suc (suc (suc (suc (suc (suc (suc zero))))))))))))) low high = (refusals.Disk, refl)
 refusal_numbered (suc (suc (suc (suc (suc (suc (suc (suc (suc (suc (suc (suc (suc (suc zero)))))))))))))) low high = (refusals.Memory, refl)
-refusal_numbered (suc (suc (suc (suc (suc (suc (suc (suc (suc (suc (suc (suc (suc (suc (suc n))))))))))))))) low high = absurd (omega arith)
+refusal_numbered (suc (suc (suc (suc (suc (suc (suc (suc (suc (suc (suc (suc (suc (suc (suc zero))))))))))))))) low high = (refusals.Private, refl)
+refusal_numbered (suc (suc (suc (suc (suc (suc (suc (suc (suc (suc (suc (suc (suc (suc (suc (suc n)))))))))))))))) low high = absurd (omega arith)
 
 refused_takes : (input : List ℕ) → takes reply_step (at_number soughts.Refusal) input → IsSpelledReply (63 ∷ input)
 refused_takes input h =
@@ -530,6 +557,9 @@ reply_goes_on at_start =
 reply_goes_on (one_digit number b) =
     let on = behind_goes_on b in
     (126 ∷ on.0, one_taken reply_step (one_digit number b) 126 on.0 on.1)
+reply_goes_on at_four =
+    let on = behind_goes_on (these []) in
+    (48 ∷ 126 ∷ on.0, one_taken reply_step at_four 48 (126 ∷ on.0) (one_taken reply_step (two_digits (these [])) 126 on.0 on.1))
 reply_goes_on (two_digits b) =
     let on = behind_goes_on b in
     (126 ∷ on.0, one_taken reply_step (two_digits b) 126 on.0 on.1)

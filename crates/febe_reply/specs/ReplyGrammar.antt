@@ -3,7 +3,7 @@ use Rattle.std.specs.Prelude.{◌≡◌, ◌<◌, ℕ, List, ◌++◌, codes, Al
 use Rattle.std.specs.List.{flat_map, AllByRecursion}
 use Rattle.febe_data.specs.Refusal.{refusal_number}
 use Rattle.febe_data.specs.FieldValues.{FieldValue, tumbler_value, number_value, text_value, span_value, spans_value, tumblers_value, spec_value, specs_value, mode_value, rule_value, items_value, diagonals_value, reply_values}
-use Rattle.febe_data.specs.Plain.{PlainItem, bytes, link, PlainReply, inserted, copied, rearranged, deleted, has_quit, account_set, closed, gave_span_set, gave_whole_span, retrieved, related, created, versioned, linked, opened, followed, found_documents, gave_end_sets, counted_links, found_links, gave_next_links, refused}
+use Rattle.febe_data.specs.Plain.{PlainItem, bytes, link, PlainReply, inserted, copied, rearranged, deleted, has_quit, account_set, closed, gave_span_set, gave_whole_span, retrieved, related, created, versioned, linked, opened, followed, found_documents, gave_end_sets, counted_links, found_links, gave_next_links, refused, published}
 use Rattle.febe_data.specs.Spelling.{spell_number, spell_value}
 use Rattle.febe_data.specs.Validity.{IsReply}
 
@@ -30,6 +30,7 @@ reply_head (gave_next_links ids) = spell_number 31
 reply_head account_set = spell_number 34
 reply_head (opened document) = spell_number 35
 reply_head closed = spell_number 36
+reply_head published = spell_number 40
 reply_head (refused refusal) = codes "?" ++ spell_number (refusal_number refusal)
 
 -- the one spelling of a reply: its head, then what it gives

@@ -19,7 +19,7 @@ pub(crate) fn payload_of(number: u32) -> Option<Payload>
     ensures { payload_seen result ≡ payload_of number }
 {
     let fields: &'static [Field] = match number {
-        0 | 2 | 3 | 12 | 16 | 34 | 36 => &[],
+        0 | 2 | 3 | 12 | 16 | 34 | 36 | 40 => &[],
         1 => &[Field::Spans],
         5 => return Some(Payload::Items),
         10 => return Some(Payload::Diagonals),

@@ -28,6 +28,7 @@ fn refusal_of(number: u32) -> Option<Refusal>
         12 => Refusal::Full,
         13 => Refusal::Disk,
         14 => Refusal::Memory,
+        15 => Refusal::Private,
         _ => return None,
     })
 }
@@ -55,6 +56,7 @@ fn with_nothing_at(number: u32, bytes: &[u8]) -> Option<(Reply, &[u8])>
         16 => Some((Reply::Quit, bytes)),
         34 => Some((Reply::AccountSet, bytes)),
         36 => Some((Reply::Closed, bytes)),
+        40 => Some((Reply::Published, bytes)),
         _ => None,
     }
 }

@@ -13,7 +13,7 @@ use febe_fields::{Field, Progress, Scanned, Scanner, start};
 /// What a number is read for.
 #[derive(Clone, Copy, Debug, PartialEq, Eq)]
 pub enum NumberRole {
-    /// It says why a request was refused, from 1 to 14.
+    /// It says why a request was refused, from 1 to 15.
     Refusal,
     /// So many items come.
     Items,
@@ -33,6 +33,8 @@ pub enum ReplyScanner {
     Start,
     /// One digit of the reply's number was read, behind which this comes.
     OneDigit { number: u32, payload: Payload },
+    /// A 4 was read, which begins the number of a reply and is none.
+    Four,
     /// Two digits were read.
     TwoDigits { payload: Payload },
     Fields { scanner: Scanner },
@@ -101,7 +103,7 @@ impl NumberRole {
         ensures { result ≡ most_of self }
     {
         match self {
-            NumberRole::Refusal => 14,
+            NumberRole::Refusal => 15,
             NumberRole::Items | NumberRole::Diagonals => MOST_ITEMS,
             NumberRole::Left { .. } | NumberRole::Right { .. } | NumberRole::Length { .. } =>
                 u32::MAX,
@@ -252,6 +254,9 @@ impl Payload {
 fn first_digit(byte: u8) -> ReplyProgress
     ensures { outcome_of result ≡ first_digit byte }
 {
+    if byte == b'4' {
+        return ReplyProgress::Goes(ReplyScanner::Four);
+    }
     let digit @ b'0'..=b'9' = byte else {
         return ReplyProgress::Fails;
     };
@@ -301,6 +306,7 @@ impl ReplyScanner {
                 b'~' => payload.begin(),
                 _ => second_digit(number, byte),
             },
+            ReplyScanner::Four => second_digit(4, byte),
             ReplyScanner::TwoDigits { payload } => match byte {
                 b'~' => payload.begin(),
                 _ => ReplyProgress::Fails,

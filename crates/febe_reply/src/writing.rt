@@ -39,6 +39,7 @@ fn append_head(out: &mut Text, reply: &Reply) -> Result<(), Memory>
         Reply::AccountSet => append_number(out, 34),
         Reply::Opened(_) => append_number(out, 35),
         Reply::Closed => append_number(out, 36),
+        Reply::Published => append_number(out, 40),
         Reply::Refused(refusal) => {
             out.push(b'?')?;
             append_number(out, u32::from(refusal.number()))
@@ -58,7 +59,8 @@ fn append_payload(out: &mut Text, reply: &Reply) -> Result<(), Memory>
         | Reply::Quit
         | Reply::AccountSet
         | Reply::Closed
-        | Reply::Refused(_) => Ok(()),
+        | Reply::Refused(_)
+        | Reply::Published => Ok(()),
         Reply::SpanSet(spans) => append_spans(out, spans.as_slice()),
         Reply::WholeSpan(span) => append_span(out, span),
         Reply::Retrieved(items) => append_items(out, items.as_slice()),

@@ -9,7 +9,7 @@ use Rattle.tumbler.specs.Places.{IsTumbler}
 use Rattle.febe_data.specs.declared.access.Mode.{Mode}
 use Rattle.febe_data.specs.declared.access.Rule.{Rule}
 use Rattle.febe_data.specs.Access.{mode_number, rule_number}
-use Rattle.febe_data.specs.Plain.{PlainSpec, PlainWant, PlainRequest, insert, span_set, copy, rearrange, retrieve, relate, create, delete, version, whole_span, quit, follow, find_documents, create_link, end_sets, count_links, find_links, next_links, set_account, opens, closes}
+use Rattle.febe_data.specs.Plain.{PlainSpec, PlainWant, PlainRequest, insert, span_set, copy, rearrange, retrieve, relate, create, delete, version, whole_span, quit, follow, find_documents, create_link, end_sets, count_links, find_links, next_links, set_account, opens, closes, publish}
 use Rattle.febe_data.specs.FieldValues.{request_number, request_values}
 use Rattle.febe_data.specs.Spelling.{spell_number, spell_tumbler, spell_text, spell_span, spell_list, spell_spec, spell_value}
 use Rattle.febe_data.specs.Validity.{IsSpan, IsList, IsSpec, IsRequest}
@@ -167,6 +167,7 @@ parts_again (next_links want after limit) rest h = next_links_again want after l
 parts_again (set_account account) rest h = tumbler_alone 34 account rest (set_account account) h.0 refl
 parts_again (opens document mode rule) rest h = open_again document mode rule rest h
 parts_again (closes document) rest h = tumbler_alone 36 document rest (closes document) h.0 refl
+parts_again (publish document) rest h = tumbler_alone 40 document rest (publish document) h.0 refl
 
 number_small : (r : PlainRequest) → request_number r < 4294967296
 number_small (insert document at text) = omega arith
@@ -190,6 +191,7 @@ number_small (next_links want after limit) = omega arith
 number_small (set_account account) = omega arith
 number_small (opens document mode rule) = omega arith
 number_small (closes document) = omega arith
+number_small (publish document) = omega arith
 
 behind_number : (n : ℕ) (parts rest : List ℕ) (x : PlainRequest × List ℕ) → n < 4294967296 → request_of n (parts ++ rest) ≡ Some x → request_at ((spell_number n ++ parts) ++ rest) ≡ Some x
 unfolding request_at

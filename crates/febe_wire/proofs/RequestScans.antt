@@ -6,7 +6,7 @@ use Rattle.std.specs.Char.{is_ascii_digit}
 use Rattle.std.proofs.lemmas.Bool.{cases_Bool, eqb-true, eqb-false, le-ltb}
 use Rattle.std.proofs.lemmas.Option.{same_Some, some_pair_parts}
 use Rattle.std.proofs.lemmas.List.{take-append-drop}
-use Rattle.febe_data.specs.Plain.{PlainRequest, insert, span_set, copy, rearrange, retrieve, relate, create, delete, version, whole_span, quit, follow, find_documents, create_link, end_sets, count_links, find_links, next_links, set_account, opens, closes}
+use Rattle.febe_data.specs.Plain.{PlainRequest, insert, span_set, copy, rearrange, retrieve, relate, create, delete, version, whole_span, quit, follow, find_documents, create_link, end_sets, count_links, find_links, next_links, set_account, opens, closes, publish}
 use Rattle.febe_data.specs.FieldValues.{request_number}
 use Rattle.febe_data.specs.Spelling.{spell_number}
 use Rattle.febe_data.specs.Validity.{IsRequest}
@@ -28,7 +28,7 @@ use Rattle.febe_wire.specs.Grammar.{spell_values, spell_request, Spells, IsSpell
 use Rattle.febe_wire.specs.inside.Reading.{request_at}
 use Rattle.febe_wire.specs.Reads.{IsRead}
 use Rattle.febe_wire.proofs.RequestLaws.{request_again}
-use Rattle.febe_wire.specs.RequestMachine.{RequestState, at_start, one_digit, two_digits, in_fields, fields_of, begun, named, request_step}
+use Rattle.febe_wire.specs.RequestMachine.{RequestState, at_start, one_digit, at_four, two_digits, in_fields, fields_of, begun, named, request_step}
 
 -- ---- the fields within a request
 
@@ -130,6 +130,9 @@ named_35 bytes h = record { request = opens h.values.0 h.values.1.0 h.values.1.1
 named_36 : (bytes : List ℕ) → SpellsFields (fields.Tumbler ∷ []) bytes → NamedRequest 36 bytes
 named_36 bytes h = record { request = closes h.values.0; valid = h.valid; number = refl; parts = h.spelled }
 
+named_40 : (bytes : List ℕ) → SpellsFields (fields.Tumbler ∷ []) bytes → NamedRequest 40 bytes
+named_40 bytes h = record { request = publish h.values.0; valid = h.valid; number = refl; parts = h.spelled }
+
 at_number : (n k : ℕ) (made given : List Field) (bytes : List ℕ) → n == k ≡ true → Some made ≡ Some given → (SpellsFields made bytes → NamedRequest k bytes) → SpellsFields given bytes → NamedRequest n bytes
 at_number n k made given bytes is e by h = subst (λ (m : ℕ). NamedRequest m bytes) (sym (eqb-true _ _ is)) (by (subst (λ (behind : List Field). SpellsFields behind bytes) (sym (same_Some made given e)) h))
 
@@ -199,7 +202,11 @@ request_named n behind bytes e h =
                                                                                                                             elim (chosen (n == 36) (Some (fields.Tumbler ∷ [])) _ (Some behind) not35.1) [
                                                                                                                               | inl is ↦ at_number n 36 (fields.Tumbler ∷ []) behind bytes is.0 is.1 (named_36 bytes) h
                                                                                                                               | inr not36 ↦
-                                                                                                                                  absurd (cc not36.1)
+                                                                                                                                  elim (chosen (n == 40) (Some (fields.Tumbler ∷ [])) _ (Some behind) not36.1) [
+                                                                                                                                    | inl is ↦ at_number n 40 (fields.Tumbler ∷ []) behind bytes is.0 is.1 (named_40 bytes) h
+                                                                                                                                    | inr not40 ↦
+                                                                                                                                        absurd (cc not40.1)
+                                                                                                                                  ]
                                                                                                                             ]
                                                                                                                       ]
                                                                                                                 ]
@@ -308,6 +315,10 @@ name_36 : (parts : List ℕ) → follows request_step (begun (fields_next (field
 unfolding digits
 name_36 parts h = one_taken request_step at_start 51 (54 ∷ 126 ∷ parts) (one_taken request_step (one_digit 3 (fields.Tumbler ∷ fields.Tumblers ∷ [])) 54 (126 ∷ parts) (one_taken request_step (two_digits (fields.Tumbler ∷ [])) 126 parts h))
 
+name_40 : (parts : List ℕ) → follows request_step (begun (fields_next (fields.Tumbler ∷ []))) parts → takes request_step at_start (spell_number 40 ++ parts)
+unfolding digits
+name_40 parts h = one_taken request_step at_start 52 (48 ∷ 126 ∷ parts) (one_taken request_step at_four 48 (126 ∷ parts) (one_taken request_step (two_digits (fields.Tumbler ∷ [])) 126 parts h))
+
 -- a valid request is taken
 spelled_taken : (r : PlainRequest) → IsRequest r → takes request_step at_start (spell_request r)
 spelled_taken (insert document at text) h = name_0 (spell_values (insert document at text)) (begun_in (fields_next (fields.Tumbler ∷ fields.Tumbler ∷ fields.Text ∷ [])) (spell_values (insert document at text)) (fields_again (fields.Tumbler ∷ fields.Tumbler ∷ fields.Text ∷ []) (document, (at, (text, tt))) h))
@@ -331,6 +342,7 @@ spelled_taken (next_links want after limit) h = name_31 (spell_values (next_link
 spelled_taken (set_account account) h = name_34 (spell_values (set_account account)) (begun_in (fields_next (fields.Tumbler ∷ [])) (spell_values (set_account account)) (fields_again (fields.Tumbler ∷ []) (account, tt) h))
 spelled_taken (opens document mode rule) h = name_35 (spell_values (opens document mode rule)) (begun_in (fields_next (fields.Tumbler ∷ fields.Mode ∷ fields.Rule ∷ [])) (spell_values (opens document mode rule)) (fields_again (fields.Tumbler ∷ fields.Mode ∷ fields.Rule ∷ []) (document, (mode, (rule, tt))) h))
 spelled_taken (closes document) h = name_36 (spell_values (closes document)) (begun_in (fields_next (fields.Tumbler ∷ [])) (spell_values (closes document)) (fields_again (fields.Tumbler ∷ []) (document, tt) h))
+spelled_taken (publish document) h = name_40 (spell_values (publish document)) (begun_in (fields_next (fields.Tumbler ∷ [])) (spell_values (publish document)) (fields_again (fields.Tumbler ∷ []) (document, tt) h))
 
 pub request_taken : (bytes : List ℕ) → IsSpelled bytes → takes request_step at_start bytes
 request_taken bytes h = subst (takes request_step at_start) (sym h.spells.spelled) (spelled_taken h.request h.spells.valid)
@@ -392,16 +404,30 @@ one_digit_takes b behind (c ∷ bytes) low high e h =
       ]
     ]
 
+four_takes : (bytes : List ℕ) → takes request_step at_four bytes → IsSpelled (52 ∷ bytes)
+four_takes [] h = absurd (takes_some request_step at_four h)
+four_takes (c ∷ bytes) h =
+    let f = takes_one request_step at_four c bytes h in
+    elim (cases_Bool (is_ascii_digit c)) [
+      | inl digit ↦
+          let g = named_goes (λ behind. two_digits behind) (fields_of (4 * 10 + (c - 48))) bytes (rw digit at f) in
+          two_digits_take 52 c g.0 bytes (omega arith) (omega arith) digit g.1 g.2
+      | inr none ↦ absurd (rw none at f)
+    ]
+
 pub request_takes : (bytes : List ℕ) → takes request_step at_start bytes → IsSpelled bytes
 request_takes [] h = absurd (takes_some request_step at_start h)
 request_takes (b ∷ bytes) h =
     let f = takes_one request_step at_start b bytes h in
-    elim (cases_Bool (is_ascii_digit b)) [
-      | inl digit ↦
-          let range = is_digit b digit in
-          let g = named_goes (λ behind. one_digit (b - 48) behind) (fields_of (b - 48)) bytes (rw digit at f) in
-          one_digit_takes b g.0 bytes range.0 range.1 g.1 g.2
-      | inr none ↦ absurd (rw none at f)
+    elim (cases_Bool (b == 52)) [
+      | inl four ↦ subst (λ (x : ℕ). IsSpelled (x ∷ bytes)) (sym (eqb-true _ _ four)) (four_takes bytes (rw four at f))
+      | inr other ↦ elim (cases_Bool (is_ascii_digit b)) [
+        | inl digit ↦
+            let range = is_digit b digit in
+            let g = named_goes (λ behind. one_digit (b - 48) behind) (fields_of (b - 48)) bytes (rw (other, digit) at f) in
+            one_digit_takes b g.0 bytes range.0 range.1 g.1 g.2
+        | inr none ↦ absurd (rw (other, none) at f)
+      ]
     ]
 
 -- ---- each state goes on
@@ -416,6 +442,9 @@ request_goes_on at_start = (49 ∷ 54 ∷ 126 ∷ [], one_taken request_step at_
 request_goes_on (one_digit number behind) =
     let on = begun_goes_on behind in
     (126 ∷ on.0, one_taken request_step (one_digit number behind) 126 on.0 on.1)
+request_goes_on at_four =
+    let on = begun_goes_on (fields.Tumbler ∷ []) in
+    (48 ∷ 126 ∷ on.0, one_taken request_step at_four 48 (126 ∷ on.0) (one_taken request_step (two_digits (fields.Tumbler ∷ [])) 126 on.0 on.1))
 request_goes_on (two_digits behind) =
     let on = begun_goes_on behind in
     (126 ∷ on.0, one_taken request_step (two_digits behind) 126 on.0 on.1)

@@ -10,7 +10,7 @@ use Rattle.std.proofs.lemmas.List.Sums.{sum_by-cons}
 use Rattle.tumbler.specs.declared.span.Span.{Span}
 use Rattle.tumbler.specs.Places.{IsTumbler}
 use Rattle.febe_data.specs.Access.{mode_number, rule_number}
-use Rattle.febe_data.specs.Plain.{PlainSpec, PlainWant, PlainRequest, insert, span_set, copy, rearrange, retrieve, relate, create, delete, version, whole_span, quit, follow, find_documents, create_link, end_sets, count_links, find_links, next_links, set_account, opens, closes}
+use Rattle.febe_data.specs.Plain.{PlainSpec, PlainWant, PlainRequest, insert, span_set, copy, rearrange, retrieve, relate, create, delete, version, whole_span, quit, follow, find_documents, create_link, end_sets, count_links, find_links, next_links, set_account, opens, closes, publish}
 use Rattle.febe_data.specs.FieldValues.{FieldValue, tumbler_value, number_value, text_value, span_value, spans_value, tumblers_value, spec_value, specs_value, mode_value, rule_value, items_value, diagonals_value, request_number, request_values, want_values}
 use Rattle.febe_data.specs.Spelling.{zeros_of, spell_places, spell_number, spell_tumbler, spell_text, spell_span, spell_list, spell_spec, spell_value}
 use Rattle.febe_data.specs.Validity.{IsShort, IsSpan, IsList, IsSpec, spans_in_all, IsFieldValue, IsRequest}
@@ -244,7 +244,8 @@ tumbler_named n places r e =
     by_test (n == 13) (Some (version places)) _ r P e (gives n 13 _ (version places) r refl refl) (λ e.
     by_test (n == 14) (Some (whole_span places)) _ r P e (gives n 14 _ (whole_span places) r refl refl) (λ e.
     by_test (n == 34) (Some (set_account places)) _ r P e (gives n 34 _ (set_account places) r refl refl) (λ e.
-    by_test (n == 36) (Some (closes places)) None r P e (gives n 36 _ (closes places) r refl refl) (λ e. absurd (cc e))))))
+    by_test (n == 36) (Some (closes places)) _ r P e (gives n 36 _ (closes places) r refl refl) (λ e.
+    by_test (n == 40) (Some (publish places)) None r P e (gives n 40 _ (publish places) r refl refl) (λ e. absurd (cc e)))))))
 
 with_tumbler_takes : (n : ℕ) → Takes n (with_tumbler_at n)
 unfolding with_tumbler_at

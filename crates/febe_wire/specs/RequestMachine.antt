@@ -40,12 +40,14 @@ fields_of n =
     else (if n == 34 then Some (Tumbler ∷ [])
     else (if n == 35 then Some (Tumbler ∷ Mode ∷ Rule ∷ [])
     else (if n == 36 then Some (Tumbler ∷ [])
-    else None))))))))))))))))))))
+    else (if n == 40 then Some (Tumbler ∷ [])
+    else None)))))))))))))))))))))
 
--- what is waited for: the number's first digit, what is behind its one digit or its two, or fields
+-- what is waited for: the number's first digit, what is behind its one digit, behind a 4 or behind two, or fields
 pub data RequestState : Type 0 where
   at_start : RequestState
   one_digit : (number : ℕ) (behind : List Field) → RequestState
+  at_four : RequestState
   two_digits : (behind : List Field) → RequestState
   in_fields : State → RequestState
 
@@ -56,6 +58,7 @@ fields_seen None = None
 abbrev pub state_of : RequestScanner → RequestState
 state_of scanners.Start = at_start
 state_of (scanners.OneDigit number seen) = one_digit number seen.now
+state_of scanners.Four = at_four
 state_of (scanners.TwoDigits seen) = two_digits seen.now
 state_of (scanners.Fields scanner) = in_fields (fields.state_of scanner)
 
@@ -75,8 +78,11 @@ abbrev pub named : (List Field → RequestState) → Option (List Field) → Out
 named next (Some behind) = goes (next behind)
 named next None = fails
 
+-- a 4 begins the number of a request, and is none
 abbrev pub first_digit : ℕ → Outcome RequestState
-first_digit byte = if is_ascii_digit byte then named (λ behind. one_digit (byte - 48) behind) (fields_of (byte - 48)) else fails
+first_digit byte =
+    if byte == 52 then goes at_four
+    else (if is_ascii_digit byte then named (λ behind. one_digit (byte - 48) behind) (fields_of (byte - 48)) else fails)
 
 abbrev pub second_digit : ℕ → ℕ → Outcome RequestState
 second_digit number byte =
@@ -87,5 +93,6 @@ second_digit number byte =
 abbrev pub request_step : RequestState → ℕ → Outcome RequestState
 request_step at_start byte = first_digit byte
 request_step (one_digit number behind) byte = if byte == 126 then begun (fields_next behind) else second_digit number byte
+request_step at_four byte = second_digit 4 byte
 request_step (two_digits behind) byte = if byte == 126 then begun (fields_next behind) else fails
 request_step (in_fields s) byte = begun (field_step s byte)

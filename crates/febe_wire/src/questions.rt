@@ -42,6 +42,7 @@ pub(crate) fn with_tumbler_at(alloc: Global, number: u32, bytes: &[u8]) -> Optio
         14 => Some((Request::WholeSpan { document: places }, rest)),
         34 => Some((Request::Account { account: places }, rest)),
         36 => Some((Request::Close { document: places }, rest)),
+        40 => Some((Request::Publish { document: places }, rest)),
         _ => None,
     }
 }

@@ -16,7 +16,7 @@ fn fields_of(number: u32) -> Option<&'static [Field]>
 {
     Some(match number {
         0 => &[Field::Tumbler, Field::Tumbler, Field::Text],
-        1 | 13 | 14 | 34 | 36 => &[Field::Tumbler],
+        1 | 13 | 14 | 34 | 36 | 40 => &[Field::Tumbler],
         2 => &[Field::Tumbler, Field::Tumbler, Field::Specs],
         3 => &[Field::Tumbler, Field::Tumblers],
         5 | 22 | 28 => &[Field::Specs],
@@ -48,6 +48,8 @@ pub enum RequestScanner {
         number: u32,
         fields: &'static [Field],
     },
+    /// A 4 was read, which begins the number of a request and is none.
+    Four,
     /// Two digits were read.
     TwoDigits {
         fields: &'static [Field],
@@ -78,6 +80,9 @@ fn within(progress: Progress) -> RequestProgress
 fn first_digit(byte: u8) -> RequestProgress
     ensures { outcome_of result ≡ first_digit byte }
 {
+    if byte == b'4' {
+        return RequestProgress::Goes(RequestScanner::Four);
+    }
     let digit @ b'0'..=b'9' = byte else {
         return RequestProgress::Fails;
     };
@@ -115,6 +120,7 @@ impl RequestScanner {
                 b'~' => within(febe_fields::start(fields)),
                 _ => second_digit(number, byte),
             },
+            RequestScanner::Four => second_digit(4, byte),
             RequestScanner::TwoDigits { fields } => match byte {
                 b'~' => within(febe_fields::start(fields)),
                 _ => RequestProgress::Fails,

@@ -55,6 +55,7 @@ fn number_of(request: &Request) -> u32
         Request::Account { .. } => 34,
         Request::Open { .. } => 35,
         Request::Close { .. } => 36,
+        Request::Publish { .. } => 40,
     }
 }
 
@@ -170,6 +171,7 @@ fn append_parts(out: &mut Text, request: &Request) -> Result<(), Memory>
         Request::WholeSpan { document } => append_tumbler(out, document),
         Request::Account { account } => append_tumbler(out, account),
         Request::Close { document } => append_tumbler(out, document),
+        Request::Publish { document } => append_tumbler(out, document),
         Request::Retrieve { specs } => append_specs(out, specs.as_slice()),
         Request::FindDocuments { specs } => append_specs(out, specs.as_slice()),
         Request::EndSets { specs } => append_specs(out, specs.as_slice()),

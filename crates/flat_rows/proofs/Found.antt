@@ -1,5 +1,5 @@
 -- What is found, one tumbler, row and document after the other.
-use Rattle.std.proofs.Common.{◌≡◌, ℕ, ◌+◌, ◌<◌, ◌∙◌, ◌++◌, ◌∷◌, ◌&&◌, ◌||◌, [], Bool, true, false, cond, List, length, take, get_or, ap, sym, refl, map, All, append_assoc, append-nil}
+use Rattle.std.proofs.Common.{◌≡◌, ℕ, ◌+◌, ◌<◌, ◌∙◌, ◌++◌, ◌∷◌, ◌&&◌, ◌||◌, [], Bool, true, false, cond, List, Option, length, take, get_or, ap, sym, refl, map, All, append_assoc, append-nil}
 use Rattle.std.specs.Prelude.{filter}
 use Rattle.std.specs.List.{list_any}
 use Rattle.std.specs.BTreeSet.{BTreeSet, Updates}
@@ -13,11 +13,12 @@ use Rattle.tumbler.specs.Places.{IsTumbler}
 use Rattle.febe_data.specs.Plain.{PlainSpec, PlainWant}
 use Rattle.world_rules.specs.declared.rows.Row.{Row}
 use Rattle.world_rules.specs.declared.lookups.WantedRuns.{WantedRuns}
-use Rattle.world_rules.specs.World.{World, LinkRow, is_same, ascending}
+use Rattle.world_rules.specs.World.{World, LinkRow, is_same, ascending, account_of_session}
+use Rattle.world_rules.specs.Readable.{is_readable, is_readable_by}
 use Rattle.world_rules.specs.World as plain
 use Rattle.flat_rows.specs.declared.links.LinkRow as rows
 use Rattle.flat_rows.specs.PlainLink.{plain_link}
-use Rattle.flat_rows.specs.Meeting.{is_met}
+use Rattle.flat_rows.specs.Meeting.{is_met, is_met_by}
 use Rattle.world_rules.specs.Wanted.{AreWantedRuns}
 use Rattle.flat_rows.specs.Sets.{is_in_set, IsSetOf, IsSetShowing}
 use Rattle.world_rules.specs.Picking.{picked_addresses}
@@ -97,22 +98,24 @@ pub ruleset set_steps = (set_more)
 -- ---- documents
 
 -- the same sets of addresses, of rows and of documents
-pub documents_are : (world : World) (addresses : List (List ℕ)) (picked shown : BTreeSet (List ℕ)) → IsSetOf addresses picked → IsSetShowing world.rows picked shown
-    → filter (is_in_set shown) world.documents ≡ filter (shows_one_of world addresses) world.documents
-documents_are world addresses picked shown picks shows =
-    λ i. filter (λ (document : List ℕ). shown_by document i) world.documents
+pub documents_are : (world : World) (session : ℕ) (addresses : List (List ℕ)) (picked shown : BTreeSet (List ℕ)) → IsSetOf addresses picked → IsSetShowing world.rows picked shown
+    → filter (λ (document : List ℕ). is_readable world session document && is_in_set shown document) world.documents
+    ≡ filter (λ (document : List ℕ). is_readable world session document && shows_one_of world addresses document) world.documents
+documents_are world session addresses picked shown picks shows =
+    λ i. filter (λ (document : List ℕ). is_readable world session document && shown_by document i) world.documents
   where
     shown_by : (document : List ℕ) → is_in_set shown document ≡ shows_one_of world addresses document
     shown_by document = shows document ∙ (λ i. list_any (λ (row : Row). is_same row.document document && picks row.address i) world.rows)
 
-pub found_are : (world : World) (specs : List PlainSpec) (addresses : List (List ℕ)) (picked shown found : BTreeSet (List ℕ)) (rows : List Row) (documents made : List (List ℕ))
-    → addresses ≡ picked_addresses world specs → rows ≡ world.rows → documents ≡ world.documents → IsSetOf addresses picked → IsSetShowing rows picked shown
-    → found.keys ≡ ascending (filter (is_in_set shown) documents) → made ≡ found.keys → made ≡ documents_found world specs
-found_are world specs addresses picked shown found rows documents made are_picked are_rows are_documents picks shows keys listed =
+pub found_are : (world : World) (session : ℕ) (specs : List PlainSpec) (addresses : List (List ℕ)) (picked shown found : BTreeSet (List ℕ)) (rows : List Row) (documents marked made : List (List ℕ)) (account : Option (List ℕ))
+    → addresses ≡ picked_addresses world specs → rows ≡ world.rows → documents ≡ world.documents → marked ≡ world.published → account ≡ account_of_session world session
+    → IsSetOf addresses picked → IsSetShowing rows picked shown
+    → found.keys ≡ ascending (filter (λ (document : List ℕ). is_readable_by marked account document && is_in_set shown document) documents) → made ≡ found.keys → made ≡ documents_found world session specs
+found_are world session specs addresses picked shown found rows documents marked made account are_picked are_rows are_documents are_marked of_session picks shows keys listed =
     let shows_rows : IsSetShowing world.rows picked shown = rw (sym are_rows) shows in
-    listed ∙ keys ∙ ap (λ (all : List (List ℕ)). ascending (filter (is_in_set shown) all)) are_documents
-    ∙ ap ascending (documents_are world addresses picked shown picks shows_rows)
-    ∙ ap (λ (all : List (List ℕ)). ascending (filter (shows_one_of world all) world.documents)) are_picked
+    listed ∙ keys ∙ (λ i. ascending (filter (λ (document : List ℕ). is_readable_by (are_marked i) (of_session i) document && is_in_set shown document) (are_documents i)))
+    ∙ ap ascending (documents_are world session addresses picked shown picks shows_rows)
+    ∙ ap (λ (all : List (List ℕ)). ascending (filter (λ (document : List ℕ). is_readable world session document && shows_one_of world all document) world.documents)) are_picked
 
 -- ---- links
 
@@ -121,8 +124,13 @@ wanted_is : (world : World) (want : PlainWant) (wanted : WantedRuns) (link : Lin
 wanted_is world want wanted link runs =
     rw (runs.from_is, runs.to_is, runs.three_is, end_is_met world want.from link.from, end_is_met world want.to link.to, end_is_met world want.three link.three) refl
 
-pub links_are : (world : World) (want : PlainWant) (wanted : WantedRuns) → AreWantedRuns world want wanted → filter (is_met want wanted) world.links ≡ links_found world want
-links_are world want wanted runs = λ i. filter (λ (link : LinkRow). wanted_is world want wanted link runs i) world.links
+-- so are those that are met of lists that are the world's
+pub links_by : (world : World) (session : ℕ) (want : PlainWant) (wanted : WantedRuns) (marked : List (List ℕ)) (account : Option (List ℕ)) (links : List rows.LinkRow)
+    → marked ≡ world.published → account ≡ account_of_session world session → map plain_link links ≡ world.links → AreWantedRuns world want wanted
+    → filter (is_met_by marked account want wanted) (map plain_link links) ≡ links_found world session want
+links_by world session want wanted marked account links are_marked of_session are_links runs =
+    (λ i. filter (is_met_by (are_marked i) (of_session i) want wanted) (are_links i))
+    ∙ (λ i. filter (λ (link : LinkRow). is_readable world session link.home && wanted_is world want wanted link runs i) world.links)
 
 -- a link more
 filter_map_more : {X Y : Type 0} (f : X → Y) (p : Y → Bool) (xs : List X) (i : ℕ) (d : X) → i < length xs

@@ -15,7 +15,8 @@ use Rattle.febe_data.specs.declared.run.Run.{Run}
 use Rattle.flat_rows.specs.declared.end_index.Piece.{Piece}
 use Rattle.world_rules.specs.World.{is_same}
 use Rattle.world_rules.specs.Picking.{content_of, number_of, is_in_run, is_in_runs}
-use Rattle.flat_rows.specs.EndIndex.{is_in_piece, items_of_pieces, pieces_of, is_indexed, IndexesMore}
+use Rattle.flat_rows.specs.declared.links.LinkRow.{LinkRow}
+use Rattle.flat_rows.specs.EndIndex.{is_in_piece, items_of_pieces, pieces_of, is_indexed, Indexes, IndexesMore}
 
 -- two addresses are the same, from either side
 same_back : (a b : List ℕ) → is_same a b ≡ is_same b a
@@ -64,3 +65,19 @@ runs_more first old new runs i run lt here before added address =
 
 pub runs_all : (first new : BTreeMap (List ℕ) (ListView Piece)) (runs : List Run) (i : ℕ) → length runs ≤ i → IndexesMore (is_in_runs (take i runs)) first new → IndexesMore (is_in_runs runs) first new
 runs_all first new runs i past before address = before address ∙ ap (λ (rs : List Run). is_indexed first address || is_in_runs rs address) (take_all i runs past)
+
+-- ---- one end more, of a link that is read or is not
+
+pub none_more : (reads : Bool) (test : List ℕ → Bool) (index : BTreeMap (List ℕ) (ListView Piece)) → reads ≡ false → IndexesMore (λ address. reads && test address) index index
+none_more reads test index hidden address = sym (ap (λ (b : Bool). is_indexed index address || (b && test address)) hidden ∙ or-false (is_indexed index address))
+
+pub all_more : (reads : Bool) (test : List ℕ → Bool) (old new : BTreeMap (List ℕ) (ListView Piece)) → reads ≡ true → IndexesMore test old new → IndexesMore (λ address. reads && test address) old new
+all_more reads test old new seen more address = more address ∙ ap (λ (b : Bool). is_indexed old address || (b && test address)) (sym seen)
+
+pub ends_more : (test : LinkRow → List ℕ → Bool) (old new : BTreeMap (List ℕ) (ListView Piece)) (links : List LinkRow) (i : ℕ) (link : LinkRow) → i < length links → link ≡ get_or links i link
+    → Indexes (λ address. list_any (λ (l : LinkRow). test l address) (take i links)) old → IndexesMore (test link) old new → Indexes (λ address. list_any (λ (l : LinkRow). test l address) (take (i + 1) links)) new
+ends_more test old new links i link lt here before added address =
+    added address ∙ ap (λ (found : Bool). found || test link address) (before address)
+    ∙ ap (λ (l : LinkRow). list_any (λ (k : LinkRow). test k address) (take i links) || test l address) here ∙ sym (list_any_more (λ (k : LinkRow). test k address) links i link lt)
+
+pub ruleset end_steps = (none_more, all_more)

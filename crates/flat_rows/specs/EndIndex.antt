@@ -8,8 +8,11 @@ use Rattle.febe_data.specs.ListView.{ListView}
 use Rattle.febe_data.specs.Plain.{PlainSpec}
 use Rattle.world_rules.specs.declared.rows.Row.{Row}
 use Rattle.flat_rows.specs.declared.end_index.Piece.{Piece}
-use Rattle.world_rules.specs.World.{World}
-use Rattle.world_rules.specs.Picking.{content_of, number_of, picked_once, places_of, intervals}
+use Rattle.world_rules.specs.declared.ends.End.{End}
+use Rattle.world_rules.specs.World.{World, LinkRow}
+use Rattle.world_rules.specs.Readable.{is_readable_by}
+use Rattle.world_rules.specs.Picking.{content_of, number_of, is_in_runs, picked_once, places_of, intervals}
+use Rattle.world_rules.specs.Ends.{runs_of_end}
 
 -- the number is that of one of the piece's bytes
 abbrev pub is_in_piece : ℕ → Piece → Bool
@@ -26,6 +29,10 @@ pieces_of index content = items_of_pieces (get (slice_cmp nat_cmp) index content
 -- the address is that of a byte of some piece
 abbrev pub is_indexed : BTreeMap (List ℕ) (ListView Piece) → List ℕ → Bool
 is_indexed index address = list_any (is_in_piece (number_of address)) (pieces_of index (content_of address))
+
+-- the address is in that end of the link, whose home the account reads
+abbrev pub is_in_end_by : (published : List (List ℕ)) → Option (List ℕ) → End → LinkRow → List ℕ → Bool
+is_in_end_by published account end link address = is_readable_by published account link.home && is_in_runs (runs_of_end end link) address
 
 -- it has the bytes that pass the test, and no others
 abbrev pub Indexes : (List ℕ → Bool) → BTreeMap (List ℕ) (ListView Piece) → Type 0

@@ -1,4 +1,4 @@
-//! The bytes that are in an end of some link, by the documents whose content they are.
+//! The bytes that are in an end of some link that is read, by the documents whose content they are.
 ghost use Rattle.std.specs.Prelude.{◌≡◌, IfOk, OnOk, None};
 ghost use Rattle.std.specs.List.{list_any};
 ghost use Rattle.std.specs.BTreeMap.{Updates};
@@ -6,11 +6,11 @@ ghost use Rattle.std.specs.Ordering.{nat_cmp};
 ghost use Rattle.std.specs.Cmp.Lexicographic.{slice_cmp};
 ghost use Rattle.flat_rows.specs.PlainLink.{plain_link};
 ghost use Rattle.world_rules.specs.Picking.{is_in_run, is_in_runs};
-ghost use Rattle.world_rules.specs.Ends.{runs_of_end};
-ghost use Rattle.flat_rows.specs.EndIndex.{is_in_piece, pieces_of, is_indexed, Indexes, IndexesMore};
+ghost use Rattle.flat_rows.specs.EndIndex.{is_in_piece, pieces_of, is_indexed, is_in_end_by, Indexes, IndexesMore};
 
 use crate::links::LinkRow;
 use crate::runs::{content_of, number_of};
+use crate::search::is_readable;
 use febe_data::{List, Memory, Run, Tumbler};
 use std::alloc::Global;
 use std::collections::BTreeMap;
@@ -79,17 +79,37 @@ fn add_runs(
     Ok(())
 }
 
-/// The bytes that are in that end of some link.
+#[tactic(auto, using(crate::proofs::Indexed::end_steps))]
+/// Adds the bytes of that end, where the account reads the link's home.
+fn add_end(
+    alloc: Global,
+    index: &mut BTreeMap<Tumbler, List<Piece>>,
+    published: &[Tumbler],
+    account: &Option<Tumbler>,
+    link: &LinkRow,
+    end: End,
+) -> Result<(), Memory>
+    ensures { OnOk result (IndexesMore (is_in_end_by published.now account.now end (plain_link link.now)) index.old index.new) }
+{
+    if !is_readable(published, account, &link.home) {
+        return Ok(());
+    }
+    add_runs(alloc, index, link.runs(end))
+}
+
+/// The bytes that are in that end of some link whose home the account reads.
 pub fn end_index(
     alloc: Global,
     links: &[LinkRow],
+    published: &[Tumbler],
+    account: &Option<Tumbler>,
     end: End,
 ) -> Result<BTreeMap<Tumbler, List<Piece>>, Memory>
-    ensures { IfOk result (Indexes (λ address. list_any (λ link. is_in_runs (runs_of_end end (plain_link link)) address) links.now)) }
+    ensures { IfOk result (Indexes (λ address. list_any (λ link. is_in_end_by published.now account.now end (plain_link link) address) links.now)) }
 {
     let mut index = BTreeMap::new(alloc);
     for link in links {
-        add_runs(alloc, &mut index, link.runs(end))?;
+        add_end(alloc, &mut index, published, account, link, end)?;
     }
     Ok(index)
 }

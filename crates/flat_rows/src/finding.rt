@@ -1,5 +1,5 @@
 //! Which documents and links are found by what specs pick.
-ghost use Rattle.std.specs.Prelude.{◌≡◌, ◌+◌, ◌++◌, ◌∷◌, [], length, take, map, filter, All, IfOk, OnOk};
+ghost use Rattle.std.specs.Prelude.{◌≡◌, ◌+◌, ◌&&◌, ◌++◌, ◌∷◌, [], length, take, map, filter, All, IfOk, OnOk};
 ghost use Rattle.std.specs.List.{list_any};
 ghost use Rattle.std.specs.Ordering.{nat_cmp, is_lt};
 ghost use Rattle.std.specs.Cmp.Lexicographic.{slice_cmp};
@@ -9,12 +9,14 @@ ghost use Rattle.world_rules.specs.World.{ascending};
 ghost use Rattle.flat_rows.specs.Sets.{is_in_set, IsSetOf, IsSetShowing};
 ghost use Rattle.flat_rows.specs.PlainLink.{plain_link};
 ghost use Rattle.world_rules.specs.Meeting.{shares_byte, share_bytes};
-ghost use Rattle.flat_rows.specs.Meeting.{is_end_met, is_met};
+ghost use Rattle.world_rules.specs.Readable.{is_readable_by};
+ghost use Rattle.flat_rows.specs.Meeting.{is_end_met, is_met, is_met_by};
 ghost use Rattle.world_rules.specs.Wanted.{AreWantedRuns};
 ghost use Rattle.world_rules.specs.Finding.{documents_found, is_in_span, is_home_wanted, links_found, ids_found, ids_after};
 
 use crate::links::LinkRow;
 use crate::picks::end_of;
+use crate::search::is_readable;
 use febe_data::{List, Memory, Run, Span, Spec, Tumbler, Want};
 use std::alloc::Global;
 use std::collections::BTreeSet;
@@ -106,17 +108,31 @@ pub fn documents_showing(
     Ok(shown)
 }
 
-/// Which of the documents are in the set, ascending.
+/// Whether the account reads the document, and the set has it.
+fn is_found(
+    published: &[Tumbler],
+    account: &Option<Tumbler>,
+    shown: &BTreeSet<Tumbler>,
+    document: &Tumbler,
+) -> bool
+    ensures { result ≡ (is_readable_by published.now account.now document.now && is_in_set shown.now document.now) }
+{
+    is_readable(published, account, document) && shown.contains(document)
+}
+
+/// Which of the documents the account reads and the set has, ascending.
 pub fn documents_in(
     alloc: Global,
     documents: &[Tumbler],
+    published: &[Tumbler],
+    account: &Option<Tumbler>,
     shown: &BTreeSet<Tumbler>,
 ) -> Result<BTreeSet<Tumbler>, Memory>
-    ensures { IfOk result (λ set. set.keys ≡ ascending (filter (is_in_set shown.now) documents.now)) }
+    ensures { IfOk result (λ set. set.keys ≡ ascending (filter (λ document. is_readable_by published.now account.now document && is_in_set shown.now document) documents.now)) }
 {
     let mut found = BTreeSet::new(alloc);
     for document in documents {
-        if shown.contains(document) {
+        if is_found(published, account, shown, document) {
             found.insert(document.copy())?;
         }
     }
@@ -204,33 +220,57 @@ fn is_met(want: &Want, wanted: &WantedRuns, link: &LinkRow) -> Result<bool, Worl
     Ok(from && to && three)
 }
 
-/// How many of the links are met.
+/// Whether the account reads the link's home, and the link is met.
+fn is_met_by(
+    published: &[Tumbler],
+    account: &Option<Tumbler>,
+    want: &Want,
+    wanted: &WantedRuns,
+    link: &LinkRow,
+) -> Result<bool, WorldError>
+    ensures { IfOk result (λ met. met ≡ is_met_by published.now account.now (plain_want want.now) wanted.now (plain_link link.now)) }
+{
+    if !is_readable(published, account, &link.home) {
+        return Ok(false);
+    }
+    is_met(want, wanted, link)
+}
+
+/// How many of the links whose home the account reads are met.
 #[tactic(auto, using(crate::proofs::Found::met_steps))]
-pub fn count_met(want: &Want, wanted: &WantedRuns, links: &[LinkRow]) -> Result<u32, WorldError>
-    ensures { IfOk result (λ count. count ≡ length (filter (is_met (plain_want want.now) wanted.now) (map plain_link links.now))) }
+pub fn count_met(
+    published: &[Tumbler],
+    account: &Option<Tumbler>,
+    want: &Want,
+    wanted: &WantedRuns,
+    links: &[LinkRow],
+) -> Result<u32, WorldError>
+    ensures { IfOk result (λ count. count ≡ length (filter (is_met_by published.now account.now (plain_want want.now) wanted.now) (map plain_link links.now))) }
 {
     let mut count: u32 = 0;
     for link in links {
-        if is_met(want, wanted, link)? {
+        if is_met_by(published, account, want, wanted, link)? {
             count = count.checked_add(1).ok_or(WorldError::TooGreat)?;
         }
     }
     Ok(count)
 }
 
-/// The ids of the links that are met, ascending.
+/// The ids of these links, ascending.
 #[tactic(auto, using(crate::proofs::Found::met_steps))]
 pub fn ids_met(
     alloc: Global,
+    published: &[Tumbler],
+    account: &Option<Tumbler>,
     want: &Want,
     wanted: &WantedRuns,
     links: &[LinkRow],
 ) -> Result<BTreeSet<Tumbler>, WorldError>
-    ensures { IfOk result (λ set. set.keys ≡ ascending (map (λ link. link.id) (filter (is_met (plain_want want.now) wanted.now) (map plain_link links.now)))) }
+    ensures { IfOk result (λ set. set.keys ≡ ascending (map (λ link. link.id) (filter (is_met_by published.now account.now (plain_want want.now) wanted.now) (map plain_link links.now)))) }
 {
     let mut ids = BTreeSet::new(alloc);
     for link in links {
-        if is_met(want, wanted, link)? {
+        if is_met_by(published, account, want, wanted, link)? {
             ids.insert(link.id.copy())?;
         }
     }

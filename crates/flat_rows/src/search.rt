@@ -8,18 +8,28 @@ ghost use Rattle.std.specs.Ordering.{nat_cmp, is_le, is_lt};
 ghost use Rattle.std.specs.Cmp.Lexicographic.{slice_cmp};
 ghost use Rattle.world_rules.specs.Picking.{is_within, is_between};
 ghost use Rattle.world_rules.specs.Holding.{opens_for_writing};
+ghost use Rattle.world_rules.specs.Readable.{is_readable_by};
 ghost use Rattle.flat_rows.specs.PlainLink.{plain_link};
 ghost use Rattle.world_rules.specs.World.{is_same, is_child_of, is_text, is_text_of, is_link_of, opens, is_write, is_of_account, part_number, next_below, content_length_of, LinkRow};
 
 use crate::links::LinkRow;
 use febe_data::{Mode, Tumbler};
-use world_rules::{AccountRow, ByteRow, OpenRow, Row, WorldError, extended, one_more_than};
+use world_rules::{
+    AccountRow, ByteRow, OpenRow, Row, WorldError, extended, is_owned_by, one_more_than,
+};
 
 /// Whether the document is there.
 pub fn has_document(documents: &[Tumbler], document: &Tumbler) -> bool
     ensures { result ≡ list_any (λ d. is_same d document.now) documents.now }
 {
     documents.contains(document)
+}
+
+/// Whether the account reads the document: it is one of the published ones, or the account's own.
+pub fn is_readable(published: &[Tumbler], account: &Option<Tumbler>, document: &Tumbler) -> bool
+    ensures { result ≡ is_readable_by published.now account.now document.now }
+{
+    has_document(published, document) || is_owned_by(account, document)
 }
 
 /// The account that the session has set, if it has.

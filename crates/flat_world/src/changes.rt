@@ -1,6 +1,6 @@
 //! What each change does to the world. All memory is taken before anything changes.
 ghost use Rattle.std.specs.Prelude.{◌≡◌, ◌++◌, ◌∷◌, [], IfOk, OnOk, OnErr, IsOk, true, false, is_none, map};
-ghost use Rattle.febe_data.specs.Plain.{plain_change, plain_spec, restarted, ended, account_changed, document_opened, document_closed, document_created, version_made, text_inserted, span_deleted, blocks_swapped, specs_copied};
+ghost use Rattle.febe_data.specs.Plain.{plain_change, plain_spec, restarted, ended, account_changed, document_opened, document_closed, document_created, version_made, text_inserted, span_deleted, blocks_swapped, specs_copied, document_published};
 ghost use Rattle.world_rules.specs.FlatView.{FlatView};
 ghost use Rattle.world_rules.specs.Apply.{change_world, link_between};
 ghost use Rattle.world_rules.specs.History.{is_durable};
@@ -59,7 +59,7 @@ impl FlatWorld {
         Ok(())
     }
 
-    /// The changes that the limits count: those of documents, content and links.
+    /// The changes that the limits count: those of documents, content, links and what is published.
     fn change_contents(
         &mut self,
         alloc: Global,
@@ -103,6 +103,7 @@ impl FlatWorld {
                 let link = self.link_between(alloc, home, *number, from, to, three)?;
                 self.add_link(link, *place)
             }
+            Change::Publish { document } => self.publish(document),
             _ => unreachable!(),
         }
     }
@@ -197,6 +198,16 @@ impl FlatWorld {
             document: document.copy(),
             mode: Mode::Write,
         });
+        Ok(())
+    }
+
+    /// The document becomes one of the published ones, once more where it was.
+    fn publish(&mut self, document: &Tumbler) -> Result<(), WorldError>
+        ensures ok { OnOk result (self.new ≡ record self.old { world = change_world self.old.world 0 (document_published document.now) }) }
+        ensures err { OnErr result (self.new ≡ self.old) }
+    {
+        self.published.reserve(1)?;
+        self.published.push_reserved(document.copy());
         Ok(())
     }
 

@@ -1,10 +1,11 @@
-//! Where the three ends of links are now.
+//! Where the three ends of links are now, as far as a session may read.
 ghost use Rattle.std.specs.Prelude.{◌≡◌, ◌&&◌, filter, map, All, IfOk, Some};
 ghost use Rattle.std.specs.List.{find, list_any};
 ghost use Rattle.std.specs.Option.{option_map, option_copied};
 ghost use Rattle.tumbler.specs.Span.{end_of};
 ghost use Rattle.febe_data.specs.Plain.{plain_spec};
-ghost use Rattle.world_rules.specs.World.{is_text_of, is_same};
+ghost use Rattle.world_rules.specs.World.{is_text_of, is_same, account_of_session};
+ghost use Rattle.world_rules.specs.Readable.{is_readable_by};
 ghost use Rattle.world_rules.specs.Picking.{is_within, content_of, number_of, is_in_run, places_of};
 ghost use Rattle.flat_rows.specs.PlainLink.{plain_link};
 ghost use Rattle.world_rules.specs.Finding.{link_at};
@@ -18,6 +19,7 @@ use flat_rows::LinkRow;
 use flat_rows::end_index::{Piece, end_index, is_indexed};
 use flat_rows::intervals::intervals;
 use flat_rows::runs::{content_of, number_of};
+use flat_rows::search::{account_of_session, is_readable};
 use std::alloc::Global;
 use std::collections::BTreeMap;
 use world_rules::{End, Row, WorldError};
@@ -128,18 +130,59 @@ fn indexed_positions(
     Ok(positions)
 }
 
-/// The first link of that id.
-fn first_link<'a>(links: &'a [LinkRow], id: &Tumbler) -> Option<&'a LinkRow>
-    ensures { option_copied result ≡ find (λ link. is_same link.id id.now) links.now }
+/// The first link of that id whose home the account reads.
+fn first_link<'a>(
+    links: &'a [LinkRow],
+    published: &[Tumbler],
+    account: &Option<Tumbler>,
+    id: &Tumbler,
+) -> Option<&'a LinkRow>
+    ensures { option_copied result ≡ find (λ link. is_readable_by published.now account.now link.home && is_same link.id id.now) links.now }
 {
-    links.iter().find(|link| link.id == *id)
+    links.iter().find(|link| is_readable(published, account, &link.home) && link.id == *id)
+}
+
+/// The runs whose origin the account reads, in their order.
+#[tactic(auto, using(std::proofs::lemmas::List::Elements::filter_more))]
+fn readable_runs(
+    alloc: Global,
+    published: &[Tumbler],
+    account: &Option<Tumbler>,
+    runs: &[Run],
+) -> Result<List<Run>, Memory>
+    ensures { IfOk result (λ made. made.items ≡ filter (λ run. is_readable_by published.now account.now run.origin) runs.now) }
+{
+    let mut made = List::new(alloc);
+    for run in runs {
+        if is_readable(published, account, &run.origin) {
+            made.push(run.copy())?;
+        }
+    }
+    Ok(made)
 }
 
 impl FlatWorld {
-    pub(crate) fn link_at(&self, id: &Tumbler) -> Option<&LinkRow>
-        ensures { option_map plain_link (option_copied result) ≡ link_at self.now.world id.now }
+    /// The account that the session has set, if it has.
+    pub(crate) fn account_of(&self, session: u64) -> Option<Tumbler>
+        ensures { result ≡ account_of_session self.now.world session }
     {
-        first_link(self.links.as_slice(), id)
+        account_of_session(self.accounts.as_slice(), session)
+    }
+
+    /// The link of that id, where the account reads its home.
+    fn link_for(&self, account: &Option<Tumbler>, id: &Tumbler) -> Option<&LinkRow>
+        ensures { option_map plain_link (option_copied result) ≡ find (λ link. is_readable_by self.now.world.published account.now link.home && is_same link.id id.now) self.now.world.links }
+    {
+        let (links, published) = (self.links.as_slice(), self.published.as_slice());
+        first_link(links, published, account, id)
+    }
+
+    /// The link of that id, where the session may read its home.
+    pub(crate) fn link_at(&self, session: u64, id: &Tumbler) -> Option<&LinkRow>
+        ensures { option_map plain_link (option_copied result) ≡ link_at self.now.world session id.now }
+    {
+        let account = self.account_of(session);
+        self.link_for(&account, id)
     }
 
     /// Where the run's origin shows its bytes now.
@@ -204,33 +247,40 @@ impl FlatWorld {
         Ok(made)
     }
 
-    /// One spec for each spec: which of the text that it picks is in that end of some link.
+    /// One spec for each spec: which of the text that it picks is in that end of some link whose home the session may read.
     pub(crate) fn specs_in_end(
         &self,
         alloc: Global,
+        session: u64,
         end: End,
         specs: &[Spec],
     ) -> Result<List<Spec>, WorldError>
-        ensures value { IfOk result (λ made. map plain_spec made.items ≡ end_set self.now.world end (map plain_spec specs.now)) }
+        ensures value { IfOk result (λ made. map plain_spec made.items ≡ end_set self.now.world session end (map plain_spec specs.now)) }
         ensures valid { IfOk result (λ made. All NamesSpans (map plain_spec made.items)) }
     {
-        let index = end_index(alloc, self.links.as_slice(), end)?;
+        let account = self.account_of(session);
+        let (links, published) = (self.links.as_slice(), self.published.as_slice());
+        let index = end_index(alloc, links, published, &account, end)?;
         self.indexed_specs(alloc, &index, specs)
     }
 
-    /// Where that end of the link is now. Nothing where there is no such link.
+    /// Where that end of the link is now, of its runs whose origin the session may read. Nothing where it finds no such link.
     pub(crate) fn end_specs(
         &self,
         alloc: Global,
+        session: u64,
         id: &Tumbler,
         end: End,
     ) -> Result<List<Spec>, WorldError>
-        ensures value { IfOk result (λ made. map plain_spec made.items ≡ follow_of self.now.world (link_at self.now.world id.now) (Some end)) }
+        ensures value { IfOk result (λ made. map plain_spec made.items ≡ follow_of self.now.world session (link_at self.now.world session id.now) (Some end)) }
         ensures valid { IfOk result (λ made. All NamesSpans (map plain_spec made.items)) }
     {
-        let Some(found) = self.link_at(id) else {
+        let account = self.account_of(session);
+        let Some(found) = self.link_for(&account, id) else {
             return Ok(List::new(alloc));
         };
-        self.runs_now(alloc, found.runs(end))
+        let published = self.published.as_slice();
+        let runs = readable_runs(alloc, published, &account, found.runs(end))?;
+        self.runs_now(alloc, runs.as_slice())
     }
 }

@@ -16,6 +16,7 @@ pub struct FlatWorld {
     pub(crate) rows: List<Row>,
     pub(crate) bytes: List<ByteRow>,
     pub(crate) links: List<LinkRow>,
+    pub(crate) published: List<Tumbler>,
     pub(crate) open_rows: List<OpenRow>,
     pub(crate) accounts: List<AccountRow>,
     pub(crate) counted: u64,
@@ -30,7 +31,7 @@ impl Model for FlatWorld {
 
     ghost Value = { FlatView };
 
-    ghost view = { λ w. record { world = record { documents = w.documents.items; rows = w.rows.items; bytes = w.bytes.items; links = map plain_link w.links.items; open_rows = w.open_rows.items; accounts = w.accounts.items }; counted = w.counted; sessions = w.sessions.items } };
+    ghost view = { λ w. record { world = record { documents = w.documents.items; rows = w.rows.items; bytes = w.bytes.items; links = map plain_link w.links.items; published = w.published.items; open_rows = w.open_rows.items; accounts = w.accounts.items }; counted = w.counted; sessions = w.sessions.items } };
 }
 
 impl FlatWorld {
@@ -50,6 +51,7 @@ impl FlatWorld {
             rows: List::new(alloc),
             bytes: List::new(alloc),
             links: List::new(alloc),
+            published: List::new(alloc),
             open_rows: List::new(alloc),
             accounts: List::new(alloc),
             counted: 0,

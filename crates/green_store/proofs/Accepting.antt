@@ -9,7 +9,7 @@ use Rattle.febe_data.specs.declared.access.Mode.{Mode}
 use Rattle.febe_data.specs.declared.access.Rule.{Rule}
 use Rattle.febe_data.specs.declared.refusal.Refusal.TheVariants.{BadAddress}
 use Rattle.febe_data.specs.LimitsView.{LimitsView, AreLimits}
-use Rattle.febe_data.specs.Plain.{PlainRequest, insert, copy, rearrange, create, delete, version, quit, create_link, set_account, opens, closes, PlainEntry}
+use Rattle.febe_data.specs.Plain.{PlainRequest, insert, copy, rearrange, create, delete, version, quit, create_link, set_account, opens, closes, publish, PlainEntry}
 use Rattle.febe_data.specs.Validity.{IsRequest}
 use Rattle.entry_codec.specs.Bodies.{IsU32, IsEncodable}
 use Rattle.world_rules.specs.World.{World}
@@ -44,18 +44,19 @@ module _ (limits : LimitsView) (counted : ℕ) (world : World) (session : ℕ) w
   opens_room document mode rule false full counts = absurd cc
 
   room_left : (request : PlainRequest) (made : Effect) → wanted limits counted world session request ≡ None → effect world session request ≡ Some made → is_durable made.change ≡ true → counted < limits.entries
-  room_left (insert document at text) made none e counts = room (test (insert document at text) 5 (omega arith) none)
-  room_left (copy document at specs) made none e counts = room (test (copy document at specs) 6 (omega arith) none)
-  room_left (rearrange document cuts) made none e counts = room (test (rearrange document cuts) 5 (omega arith) none)
+  room_left (insert document at text) made none e counts = room (test (insert document at text) 6 (omega arith) none)
+  room_left (copy document at specs) made none e counts = room (test (copy document at specs) 7 (omega arith) none)
+  room_left (rearrange document cuts) made none e counts = room (test (rearrange document cuts) 6 (omega arith) none)
   room_left create made none e counts = room (test create 1 (omega arith) none)
-  room_left (delete document span) made none e counts = room (test (delete document span) 4 (omega arith) none)
-  room_left (version document) made none e counts = room (test (version document) 3 (omega arith) none)
+  room_left (delete document span) made none e counts = room (test (delete document span) 5 (omega arith) none)
+  room_left (version document) made none e counts = room (test (version document) 4 (omega arith) none)
   room_left quit made none e counts = of_effect _ made e counts (λ c. absurd cc)
-  room_left (create_link home from to three) made none e counts = room (test (create_link home from to three) 5 (omega arith) none)
+  room_left (create_link home from to three) made none e counts = room (test (create_link home from to three) 6 (omega arith) none)
   room_left (set_account account) made none e counts = of_effect _ made e counts (λ c. absurd cc)
   room_left (opens document mode rule) made none e counts =
-      of_effect _ made e counts (opens_room document mode rule (opens_version world session document mode rule) (test (opens document mode rule) 4 (omega arith) none))
+      of_effect _ made e counts (opens_room document mode rule (opens_version world session document mode rule) (test (opens document mode rule) 5 (omega arith) none))
   room_left (closes document) made none e counts = of_effect _ made e counts (λ c. absurd cc)
+  room_left (publish document) made none e counts = room (test (publish document) 4 (omega arith) none)
   room_left other made none e counts = cc
 
 -- ---- there is a body for it
@@ -96,6 +97,7 @@ module _ (world : World) (session : ℕ) where
   logged (set_account account) made valid e counts typed = as_logged _ made e counts typed (λ c t. absurd cc)
   logged (opens document mode rule) made valid e counts typed = as_logged _ made e counts typed (opens_logged document mode rule (opens_version world session document mode rule) valid)
   logged (closes document) made valid e counts typed = as_logged _ made e counts typed (λ c t. absurd cc)
+  logged (publish document) made valid e counts typed = as_logged _ made e counts typed (λ c t. valid.0)
   logged other made valid e counts typed = cc
 
 -- ---- both

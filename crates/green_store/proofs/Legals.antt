@@ -9,7 +9,7 @@ use Rattle.febe_data.specs.declared.reply.Reply.{Reply}
 use Rattle.febe_data.specs.declared.request.Request.{Request}
 use Rattle.febe_data.specs.declared.request.Request.TheVariants as requests
 use Rattle.febe_data.specs.LimitsView.{LimitsView}
-use Rattle.febe_data.specs.Plain.{PlainRequest, insert, copy, rearrange, create, delete, version, quit, create_link, set_account, opens, closes, plain_request, PlainReply, plain_reply, refused, has_quit, PlainEntry}
+use Rattle.febe_data.specs.Plain.{PlainRequest, insert, copy, rearrange, create, delete, version, quit, create_link, set_account, opens, closes, publish, plain_request, PlainReply, plain_reply, refused, has_quit, PlainEntry}
 use Rattle.world_rules.specs.World.{World}
 use Rattle.world_rules.specs.Apply.{world_of}
 use Rattle.world_rules.specs.FlatView.{FlatView, view_of}
@@ -65,6 +65,7 @@ leaves world session (create_link home from to three) made n e = along _ made e 
 leaves world session (set_account account) made n e = along _ made e (λ s live maker serial. refl)
 leaves world session (opens document mode rule) made n e = along _ made e (opening_leaves world session document mode (opens_version world session document mode rule))
 leaves world session (closes document) made n e = along _ made e (λ s live maker serial. refl)
+leaves world session (publish document) made n e = along _ made e (λ s live maker serial. refl)
 leaves world session other made n e = absurd cc
 
 pub leaves_live : (world : World) (session : ℕ) (request : PlainRequest) (made : Effect) → request ≢ quit → effect world session request ≡ Some made → LeavesLive made.change
@@ -113,7 +114,7 @@ module _ (limits : LimitsView) (session : ℕ) (history : List PlainEntry) (requ
   }
 
   pub step_answered : (reply : PlainReply) → wanted_after limits history session request ≡ None → effect (world_of history) session request ≡ None
-      → reply ≡ answer (world_of history) request → Steps limits session history request reply history rose
+      → reply ≡ answer (world_of history) session request → Steps limits session history request reply history rose
   step_answered reply given e is = record {
     added = [];
     grows = sym (append-nil history);
@@ -158,7 +159,7 @@ module _ (before : StoreView) (limits : LimitsView) (world : FlatView) (session 
   pub answered_here : (reply : Reply) → IsServedAs limits world session request (Answered reply) → Steps before.limits session before.history request (plain_reply reply) before.history rose
   answered_here reply served =
       step_answered before.limits session before.history request rose live (plain_reply reply) (wanted_here None served.allowed) (ap (λ (w : World). effect w session request) (sym folded) ∙ served.query)
-      (served.reply_is ∙ ap (λ (w : World). answer w request) folded)
+      (served.reply_is ∙ ap (λ (w : World). answer w session request) folded)
 
   pub changed_here : (made : coded.Effect) (r : Result Reply NoMemory) (after : StoreView) → IsServedAs limits world session request (Changed made) → IfOk r (λ reply. reply ≡ made.reply)
       → OnOk r (after ≡ with_one before (entry_after before.history session (plain_effect made)))

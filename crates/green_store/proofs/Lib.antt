@@ -7,6 +7,7 @@ pub mod ReadingPages
 pub mod Lives
 pub mod Stores
 pub mod Legals
+pub mod Isolations
 pub mod Places
 pub mod Regulars
 pub mod Accepting

@@ -4,7 +4,7 @@ use Rattle.std.specs.Prelude.{fold, MatchOption}
 use Rattle.std.proofs.lemmas.Bool.{ne_eqb}
 use Rattle.febe_data.specs.declared.access.Mode.{Mode}
 use Rattle.febe_data.specs.declared.refusal.Refusal.{Refusal}
-use Rattle.febe_data.specs.Plain.{PlainRequest, insert, copy, rearrange, create, delete, version, quit, create_link, set_account, opens, closes, PlainReply, PlainChange, PlainEntry, restarted}
+use Rattle.febe_data.specs.Plain.{PlainRequest, insert, copy, rearrange, create, delete, version, quit, create_link, set_account, opens, closes, publish, PlainReply, PlainChange, PlainEntry, restarted}
 use Rattle.history_lock.specs.Histories.{entries_of}
 use Rattle.entry_fits.specs.Laws.{BeginsFromOne}
 use Rattle.entry_fits.proofs.Sessions.{from_one}
@@ -48,6 +48,7 @@ owned world session (create_link home from to three) made e = along _ made e (λ
 owned world session (set_account account) made e = along _ made e (λ s serial. refl)
 owned world session (opens document mode rule) made e = along _ made e (opening_owned world session document mode (opens_version world session document mode rule))
 owned world session (closes document) made e = along _ made e (λ s serial. refl)
+owned world session (publish document) made e = along _ made e (λ s serial. refl)
 owned world session other made e = absurd cc
 
 -- ---- what a legal step adds
@@ -64,7 +65,7 @@ module _ (session : ℕ) (before : List PlainEntry) (request : PlainRequest) (re
   made_own made e (inr failed) = inl failed.nothing
 
   served_own : (found : Option Effect) → effect (world_of before) session request ≡ found
-      → MatchOption found (IsQueryAnswered before request reply added) (λ made. IsDone before session made reply added ⊎ IsDiskFault made reply added rose) → (added ≡ []) ⊎ AddsOwn session added
+      → MatchOption found (IsQueryAnswered before session request reply added) (λ made. IsDone before session made reply added ⊎ IsDiskFault made reply added rose) → (added ≡ []) ⊎ AddsOwn session added
   served_own None e answered = inl answered.nothing
   served_own (Some made) e given = made_own made e given
 

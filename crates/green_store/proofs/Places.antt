@@ -32,7 +32,7 @@ by_none h added p e = subst (GoOn h) (sym e) (subst (AllPlaced empty_world) (sym
 
 by_served : (limits : LimitsView) (session : ℕ) (h : List PlainEntry) (request : PlainRequest) (reply : PlainReply) (added : List PlainEntry) (rose : Bool) (made : Option Effect) → AllPlaced empty_world h
     → wanted_after limits h session request ≡ None → effect (world_of h) session request ≡ made
-    → MatchOption made (IsQueryAnswered h request reply added) (λ m. IsDone h session m reply added ⊎ IsDiskFault m reply added rose) → GoOn h added
+    → MatchOption made (IsQueryAnswered h session request reply added) (λ m. IsDone h session m reply added ⊎ IsDiskFault m reply added rose) → GoOn h added
 by_served limits session h request reply added rose None p none e a = by_none h added p a.nothing
 by_served limits session h request reply added rose (Some m) p none e (inl a) =
     subst (GoOn h) (sym a.entry) (placed_push empty_world h (entry_after h session m) p (served_is_placed limits (length (durable_entries h)) (world_of h) session request m none e))

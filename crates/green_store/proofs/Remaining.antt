@@ -25,7 +25,7 @@ module _ (limits : LimitsView) (session : ℕ) (h : List PlainEntry) (request : 
       ap (λ (x : List PlainEntry). is_live (h ++ x) session) is ∙ is_live-push h entry session ∙ leaves_live (world_of h) session request made asks e session (is_live h session) session entry.serial ∙ live
 
   by_served : (made : Option Effect) → effect (world_of h) session request ≡ made
-      → MatchOption made (IsQueryAnswered h request reply added) (λ m. IsDone h session m reply added ⊎ IsDiskFault m reply added rose) → GoesOn h session added
+      → MatchOption made (IsQueryAnswered h session request reply added) (λ m. IsDone h session m reply added ⊎ IsDiskFault m reply added rose) → GoesOn h session added
   by_served None e a = by_none a.nothing
   by_served (Some m) e (inl a) = by_done m e a.entry
   by_served (Some m) e (inr a) = by_none a.nothing

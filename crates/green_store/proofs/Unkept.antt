@@ -7,7 +7,7 @@ use Rattle.febe_data.specs.declared.access.Mode.{Mode}
 use Rattle.febe_data.specs.declared.refusal.Refusal.{Refusal}
 use Rattle.febe_data.specs.declared.reply.Reply.{Reply}
 use Rattle.febe_data.specs.LimitsView.{LimitsView}
-use Rattle.febe_data.specs.Plain.{PlainRequest, insert, copy, rearrange, create, delete, version, quit, create_link, set_account, opens, closes, PlainReply, refused, PlainEntry}
+use Rattle.febe_data.specs.Plain.{PlainRequest, insert, copy, rearrange, create, delete, version, quit, create_link, set_account, opens, closes, publish, PlainReply, refused, PlainEntry}
 use Rattle.world_rules.specs.World.{World}
 use Rattle.world_rules.specs.Apply.{world_of}
 use Rattle.world_rules.specs.History.{durable_entries, is_durable}
@@ -49,6 +49,7 @@ accepts world session (create_link home from to three) made e = along _ made e t
 accepts world session (set_account account) made e = along _ made e tt
 accepts world session (opens document mode rule) made e = along _ made e (opening_accepts world session document mode (opens_version world session document mode rule))
 accepts world session (closes document) made e = along _ made e tt
+accepts world session (publish document) made e = along _ made e tt
 accepts world session other made e = absurd cc
 
 -- ---- what holds on a refusal
@@ -69,7 +70,7 @@ also other X Y f x = tt
 -- ---- nothing is added
 
 module _ (limits : LimitsView) (session : ℕ) (history : List PlainEntry) (request : PlainRequest) (reply : PlainReply) (added : List PlainEntry) (rose : Bool) where
-  served_adds : (e : Option Effect) → effect (world_of history) session request ≡ e → MatchOption e (IsQueryAnswered history request reply added) (λ made. IsDone history session made reply added ⊎ IsDiskFault made reply added rose) → OnRefused reply (added ≡ [])
+  served_adds : (e : Option Effect) → effect (world_of history) session request ≡ e → MatchOption e (IsQueryAnswered history session request reply added) (λ made. IsDone history session made reply added ⊎ IsDiskFault made reply added rose) → OnRefused reply (added ≡ [])
   served_adds None is query = always reply (added ≡ []) query.nothing
   served_adds (Some made) is (inl done) = subst (λ (r : PlainReply). OnRefused r (added ≡ [])) (sym done.reply_is) (never made.reply (added ≡ []) (accepts (world_of history) session request made is))
   served_adds (Some made) is (inr fault) = always reply (added ≡ []) fault.nothing

@@ -9,6 +9,7 @@ use Rattle.world_rules.specs.Serials.{SerialsCount}
 use Rattle.green_store.specs.declared.step.Step.{Step}
 use Rattle.green_store.specs.declared.step.StepAnswer.{StepAnswer}
 use Rattle.green_store.specs.IsStep.{IsStep}
+use Rattle.green_store.specs.Isolated.{IsolatesStep}
 use Rattle.green_store.specs.Marks.{owner_of}
 use Rattle.green_store.specs.StoreView.{StoreView}
 
@@ -22,6 +23,10 @@ StepsStayPlaced = (before after : StoreView) (step : Step) (answer : StepAnswer)
 abbrev pub StepsCount : Type 0
 StepsCount = (before after : StoreView) (step : Step) (answer : StepAnswer) (rose : Bool) → SerialsCount before.history
     → IsStep before step after answer rose → SerialsCount after.history
+
+-- Whatever a session may not read, its queries are answered as if that were otherwise, or not there.
+abbrev pub StepsIsolate : Type 0
+StepsIsolate = (before after : StoreView) (step : Step) (answer : StepAnswer) (rose : Bool) → IsStep before step after answer rose → IsolatesStep before step answer
 
 -- one entry is added, which is of this session
 pub record AddsOwn (session : ℕ) (added : List PlainEntry) : Type 0 where

@@ -5,6 +5,7 @@ pub use Rattle.world_rules.specs.Apply
 pub use Rattle.world_rules.specs.History
 pub use Rattle.world_rules.specs.Holding
 pub use Rattle.world_rules.specs.Legal
+pub use Rattle.world_rules.specs.Isolated as WorldIsolated
 pub use Rattle.green_io.specs.Areas
 pub use Rattle.green_io.specs.Disk
 pub use Rattle.green_io.specs.Outside
@@ -23,6 +24,7 @@ pub mod Sessions
 pub mod Steps
 pub mod StoreView
 pub mod IsStep
+pub mod Isolated
 pub mod IsStore
 pub mod LeavesLive
 pub mod Laws

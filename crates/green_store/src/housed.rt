@@ -12,6 +12,7 @@ ghost use Rattle.page_journal.specs.Images.{is_paged};
 ghost use Rattle.green_flush.specs.Loads.{TreesAt};
 ghost use Rattle.green_store.specs.Paged.{IsPaged, HasPages, EachLoadsFor, MayLoad};
 ghost use Rattle.green_store.specs.IsStep.{IsStep, UnlessAsked, UnlessSwept, UnlessFlushed, OnFlushed, UnlessTended, OnTended, unsaved};
+ghost use Rattle.green_store.specs.Isolated.{IsolatesStep};
 ghost use Rattle.green_store.specs.Marks.{owner_of, numbers_of, marks_of};
 
 use crate::laws::no_session_is_zero;
@@ -77,6 +78,7 @@ impl<D: Disk> Housed<D> {
     /// Does one step of the store over its disk, as [`Store::step`](crate::StoreOver::step) tells.
     pub fn step(&mut self, alloc: Global, step: Step) -> StepAnswer
         ensures step { IsStep self.old.store step self.new.store result (has_risen (D.fault_count self.old.disk) (D.fault_count self.new.disk)) }
+        ensures isolated { IsolatesStep self.old.store step result }
         ensures limits { self.new.store.limits ≡ self.old.store.limits }
         ensures any_moment { (pending : Option PlainEntry) → Keeps (D.state self.old.disk) self.old.store pending → LeavesOnly (D.state self.old.disk) (D.state self.new.disk) (HoldsStep self.old.store pending step) }
         ensures keeps { (pending : Option PlainEntry) → Keeps (D.state self.old.disk) self.old.store pending → KeepsStep self.old.store pending step self.new.store result (D.state self.new.disk) }

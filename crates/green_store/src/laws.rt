@@ -5,7 +5,7 @@ ghost use Rattle.green_io.specs.Areas.{Areas};
 ghost use Rattle.green_io.specs.Disk.{images_now};
 ghost use Rattle.world_rules.specs.History.{is_live, durable_entries};
 ghost use Rattle.green_store.specs.Durable.{Keeps, HoldsWith, IsThat};
-ghost use Rattle.green_store.specs.Laws.{LegalStepsAddOwn, StepsCount, StepsStayPlaced};
+ghost use Rattle.green_store.specs.Laws.{LegalStepsAddOwn, StepsCount, StepsIsolate, StepsStayPlaced};
 ghost use Rattle.green_store.specs.Opening.{EachHasOneOpening};
 
 use crate::store::StoreOver;
@@ -21,6 +21,11 @@ pub fn steps_stay_placed()
 /// And the serials of each session that began after the last restart count its entries from 1 on.
 pub fn steps_count()
     ensures { StepsCount }
+{}
+
+/// And each query of a session is answered by what the session may read alone.
+pub fn steps_isolate()
+    ensures { StepsIsolate }
 {}
 
 /// What a crash leaves of a disk between two steps: a whole log with the kept entries, or with the pending edit behind them.

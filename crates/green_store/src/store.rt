@@ -66,6 +66,7 @@ impl<W: OnPages + Drop> StoreOver<W> {
     ghost use Rattle.page_journal.specs.Images.{is_paged};
     ghost use Rattle.green_flush.specs.Loads.{TreesAt};
     ghost use Rattle.green_store.specs.IsStep.{IsStep, UnlessAsked, UnlessSwept, UnlessFlushed, OnFlushed, UnlessTended, OnTended, unsaved};
+    ghost use Rattle.green_store.specs.Isolated.{IsolatesStep};
     ghost use Rattle.green_store.specs.Paged.{IsPaged, HasPages, EachLoadsFor, MayLoad};
     ghost use Rattle.std.specs.Prelude.{min};
     ghost use Rattle.enfilade_core.specs.Summary.{most_count};
@@ -73,6 +74,8 @@ impl<W: OnPages + Drop> StoreOver<W> {
     /// Does one step, whole: where there is no memory in its midst, or the disk fails, nothing of it stays but an edit that is
     /// pending in the log, which the next edit takes back first; and but for pages that a save had written when it stopped,
     /// which change no answer.
+    ///
+    /// A query is answered by what its session may read alone: what is private to other accounts changes no answer.
     ///
     /// An edit builds its reply, its trees and its record first, then mends the log where an edit is pending, appends, and
     /// stands. What was appended is never refused. Steps that make no kept change leave the disk alone.
@@ -83,6 +86,7 @@ impl<W: OnPages + Drop> StoreOver<W> {
     /// those that no tree reaches. Where nothing is to be put right it takes no memory.
     pub fn step<D: Disk>(&mut self, alloc: Global, disk: &mut D, step: Step) -> StepAnswer
         ensures step { IsStep self.old step self.new result (has_risen (D.fault_count disk.old) (D.fault_count disk.new)) }
+        ensures isolated { IsolatesStep self.old step result }
         ensures limits { self.new.limits ≡ self.old.limits }
         ensures any_moment { (pending : Option PlainEntry) → Keeps (D.state disk.old) self.old pending → LeavesOnly (D.state disk.old) (D.state disk.new) (HoldsStep self.old pending step) }
         ensures keeps { (pending : Option PlainEntry) → Keeps (D.state disk.old) self.old pending → KeepsStep self.old pending step self.new result (D.state disk.new) }

@@ -20,6 +20,18 @@ const INSERTED: [u8; 65] = [
     101, 108, 108, 111,
 ];
 
+/// An open gate, and behind it that this document is published, with the serial 4.
+const PUBLISHED: [u8; 48] = [
+    1, 0, 0, 0, 43, 1, 0, 0, 0, 0, 0, 0, 0, 1, 0, 0, 0, 0, 0, 0, 0, 4, 9, 6, 0, 0, 0, 1, 0, 0, 0,
+    1, 0, 0, 0, 0, 0, 0, 0, 1, 0, 0, 0, 0, 0, 0, 0, 1,
+];
+
+/// The same with the serial 5.
+const PUBLISHED_AGAIN: [u8; 48] = [
+    1, 0, 0, 0, 43, 1, 0, 0, 0, 0, 0, 0, 0, 1, 0, 0, 0, 0, 0, 0, 0, 5, 9, 6, 0, 0, 0, 1, 0, 0, 0,
+    1, 0, 0, 0, 0, 0, 0, 0, 1, 0, 0, 0, 0, 0, 0, 0, 1,
+];
+
 /// The gate at the end of a log.
 const SHUT: [u8; 1] = [0];
 
@@ -47,7 +59,15 @@ fn logs_are_opened_or_damaged(rt: HostRuntime) -> Result<(), Fail> {
     for (parts, wanted) in [
         ([].as_slice(), Ok(1)),
         ([CREATED.as_slice(), &INSERTED, &SHUT].as_slice(), Ok(3)),
+        (
+            [CREATED.as_slice(), &PUBLISHED, &PUBLISHED_AGAIN, &SHUT].as_slice(),
+            Ok(4),
+        ),
         // The document is not there yet.
+        (
+            [PUBLISHED.as_slice(), &CREATED, &SHUT].as_slice(),
+            Err(OpenFault::Damaged { at: 0 }),
+        ),
         (
             &[&INSERTED, &CREATED, &SHUT],
             Err(OpenFault::Damaged { at: 0 }),

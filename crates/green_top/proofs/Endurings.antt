@@ -253,7 +253,7 @@ module _ (limits : LimitsView) (session : ℕ) (before after : List PlainEntry) 
       let all : length (durable_entries after) ≡ length (durable_entries before) + length (durable_entries s.added) = ap (λ (h : List PlainEntry). length (durable_entries h)) s.grows ∙ ap length (filter-append (λ (e : PlainEntry). is_durable e.change) before s.added) ∙ length-append (durable_entries before) (durable_entries s.added) in
       omega (arith, one, all, ap length none)
 
-  served_fails : (made : Option Effect) → made ≡ Some edit.made → MatchOption made (IsQueryAnswered before request reply s.added) (λ m. IsDone before session m reply s.added ⊎ IsDiskFault m reply s.added rose) → (rose ≡ true) × (s.added ≡ [])
+  served_fails : (made : Option Effect) → made ≡ Some edit.made → MatchOption made (IsQueryAnswered before session request reply s.added) (λ m. IsDone before session m reply s.added ⊎ IsDiskFault m reply s.added rose) → (rose ≡ true) × (s.added ≡ [])
   served_fails None is a = absurd (let e = is in cc)
   served_fails (Some made) is (inl a) = absurd (one_kept made (let e = is in cc) a.entry)
   served_fails (Some made) is (inr a) = (a.failed, a.nothing)

@@ -74,7 +74,7 @@ pub own_one : (session : ℕ) (e : PlainEntry) → e.session ≡ session → IsO
 own_one session e is = rw (eq-eqb e.session session is) refl
 
 module _ (session : ℕ) (h : List PlainEntry) (request : PlainRequest) (reply : PlainReply) (added : List PlainEntry) (rose : Bool) where
-  own_served : (made : Option Effect) → MatchOption made (IsQueryAnswered h request reply added) (λ m. IsDone h session m reply added ⊎ IsDiskFault m reply added rose) → IsOwn session added
+  own_served : (made : Option Effect) → MatchOption made (IsQueryAnswered h session request reply added) (λ m. IsDone h session m reply added ⊎ IsDiskFault m reply added rose) → IsOwn session added
   own_served None s = own_none session added s.nothing
   own_served (Some m) (inl s) = subst (IsOwn session) (sym s.entry) (own_one session (entry_after h session m) refl)
   own_served (Some m) (inr s) = own_none session added s.nothing

@@ -7,7 +7,7 @@ use Rattle.std.proofs.lemmas.Bool.{eqb-true}
 use Rattle.std.proofs.lemmas.List.Sums.{sum_by-cons}
 use Rattle.std.proofs.lemmas.List.Elements.{All-from_get_or, All-nil, All-cons}
 use Rattle.std.proofs.Math.Seq.{take-length}
-use Rattle.febe_data.specs.Plain.{PlainItem, bytes, link, PlainReply, inserted, copied, rearranged, deleted, has_quit, account_set, closed, gave_span_set, gave_whole_span, retrieved, related, created, versioned, linked, opened, followed, found_documents, gave_end_sets, counted_links, found_links, gave_next_links, refused}
+use Rattle.febe_data.specs.Plain.{PlainItem, bytes, link, PlainReply, inserted, copied, rearranged, deleted, has_quit, account_set, closed, gave_span_set, gave_whole_span, retrieved, related, created, versioned, linked, opened, followed, found_documents, gave_end_sets, counted_links, found_links, gave_next_links, refused, published}
 use Rattle.febe_data.specs.Refusal.{refusal_number}
 use Rattle.febe_data.specs.FieldValues.{reply_values}
 use Rattle.febe_data.specs.Spelling.{spell_number, spell_item, spell_list, spell_value}
@@ -67,6 +67,7 @@ has_bytes (counted_links count) are = (tt, tt)
 has_bytes (found_links ids) are = (tt, tt)
 has_bytes (gave_next_links ids) are = (tt, tt)
 has_bytes (refused refusal) are = tt
+has_bytes published are = tt
 
 -- ---- one reply
 
@@ -95,6 +96,7 @@ filled (gave_end_sets from to three) = number_filled 28 _
 filled (counted_links count) = number_filled 29 _
 filled (found_links ids) = number_filled 30 _
 filled (gave_next_links ids) = number_filled 31 _
+filled published = number_filled 40 _
 filled (refused refusal) = omega (arith, length-append (reply_head (refused refusal)) (flat_map spell_value (reply_values (refused refusal))), length-append (codes "?") (spell_number (refusal_number refusal)))
 
 first_spells : (reply : PlainReply) (rest : List ℕ) → IsReply reply → AreBytes (spell_reply reply ++ rest) → SpellsReply (spell_reply reply) reply

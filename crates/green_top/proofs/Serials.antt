@@ -39,7 +39,7 @@ pub own_behind : (session : ℕ) (h added : List PlainEntry) → entries_of sess
 own_behind session h added own = sym (filter-append (λ (e : PlainEntry). eqb e.session session) h added ∙ ap (λ (x : List PlainEntry). entries_of session h ++ x) own)
 
 module _ (session : ℕ) (h : List PlainEntry) (request : PlainRequest) (reply : PlainReply) (added : List PlainEntry) (rose : Bool) (s : CountFromOne (entries_of session h)) where
-  by_served : (made : Option Effect) → MatchOption made (IsQueryAnswered h request reply added) (λ m. IsDone h session m reply added ⊎ IsDiskFault m reply added rose) → GoOn (entries_of session h) added
+  by_served : (made : Option Effect) → MatchOption made (IsQueryAnswered h session request reply added) (λ m. IsDone h session m reply added ⊎ IsDiskFault m reply added rose) → GoOn (entries_of session h) added
   by_served None a = by_none (entries_of session h) added s a.nothing
   by_served (Some m) (inl a) = subst (GoOn (entries_of session h)) (sym a.entry) (push_serial (entries_of session h) _ s refl)
   by_served (Some m) (inr a) = by_none (entries_of session h) added s a.nothing

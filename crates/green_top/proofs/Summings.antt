@@ -4,7 +4,7 @@ use Rattle.std.proofs.lemmas.List.{map_more, length_push, take_more}
 use Rattle.std.proofs.lemmas.Grind.{fold-append}
 use Rattle.std.specs.List.{flat_map}
 use Rattle.febe_data.specs.declared.entry.Entry.{Entry}
-use Rattle.febe_data.specs.Plain.{PlainChange, PlainReply, plain_change, plain_entry, plain_history, restarted, began, ended, account_changed, document_opened, document_closed, document_created, version_made, copy_opened, text_inserted, span_deleted, blocks_swapped, specs_copied, link_made}
+use Rattle.febe_data.specs.Plain.{PlainChange, PlainReply, plain_change, plain_entry, plain_history, restarted, began, ended, account_changed, document_opened, document_closed, document_created, version_made, copy_opened, text_inserted, span_deleted, blocks_swapped, specs_copied, link_made, document_published}
 use Rattle.world_rules.specs.declared.cuts.Cuts.{Cuts}
 use Rattle.world_rules.specs.Edits.{cuts_of}
 use Rattle.world_rules.specs.World.{World, empty_world}
@@ -41,6 +41,7 @@ documents_more world session (span_deleted document span) = sym (plus-zero (leng
 documents_more world session (blocks_swapped document cuts) = swapped_documents world document (cuts_of cuts) ∙ sym (plus-zero (length world.documents))
 documents_more world session (specs_copied document at specs) = sym (plus-zero (length world.documents))
 documents_more world session (link_made home number place from to three) = sym (plus-zero (length world.documents))
+documents_more world session (document_published document) = sym (plus-zero (length world.documents))
 
 links_more : (world : World) (session : ℕ) (change : PlainChange) → length (change_world world session change).links ≡ length world.links + links_by change
 links_more world session restarted = sym (plus-zero (length world.links))
@@ -57,6 +58,7 @@ links_more world session (span_deleted document span) = sym (plus-zero (length w
 links_more world session (blocks_swapped document cuts) = swapped_links world document (cuts_of cuts) ∙ sym (plus-zero (length world.links))
 links_more world session (specs_copied document at specs) = sym (plus-zero (length world.links))
 links_more world session (link_made home number place from to three) = length_push world.links _
+links_more world session (document_published document) = sym (plus-zero (length world.links))
 
 world_more : (entries : List Entry) (i : ℕ) (entry : Entry) → i < length entries → entry ≡ get_or entries i entry → world_of (plain_history (take (i + 1) entries)) ≡ apply (world_of (plain_history (take i entries))) (plain_entry entry)
 world_more entries i entry lt is =
@@ -92,6 +94,7 @@ one_document (span_deleted document span) = omega arith
 one_document (blocks_swapped document cuts) = omega arith
 one_document (specs_copied document at specs) = omega arith
 one_document (link_made home number place from to three) = omega arith
+one_document (document_published document) = omega arith
 
 pub one_link : (change : PlainChange) → links_by change ≤ 1
 one_link restarted = omega arith
@@ -108,6 +111,7 @@ one_link (span_deleted document span) = omega arith
 one_link (blocks_swapped document cuts) = omega arith
 one_link (specs_copied document at specs) = omega arith
 one_link (link_made home number place from to three) = omega arith
+one_link (document_published document) = omega arith
 
 -- ---- the sum
 

@@ -7,6 +7,7 @@ pub mod EndsKept
 pub mod ListSteps
 pub mod Searched
 pub mod OrderedSpans
+pub mod ReadLinks
 pub mod LastMet
 pub mod JoinedEnds
 pub mod Trials

@@ -39,10 +39,10 @@ same_span a b e = by_order (slice_cmp nat_cmp a.start b.start) refl e
 -- ---- which spans there are
 
 -- whether a span is one of some
-abbrev among : Span → List Span → Bool
+abbrev pub among : Span → List Span → Bool
 among q spans = list_any (is_at (span_cmp q)) spans
 
-same_spans : (some others : List Span) → ((q : Span) → among q some ≡ among q others) → ascending_spans some ≡ ascending_spans others
+pub same_spans : (some others : List Span) → ((q : Span) → among q some ≡ among q others) → ascending_spans some ≡ ascending_spans others
 same_spans some others same = same_keys span_cmp same_span spans_total some others same
 
 -- ---- pairs as spans
@@ -58,21 +58,21 @@ pair_inserted (x ∷ xs) p = by_order (pair_cmp p x) (pair_inserted xs p)
     by_order Equal rest = refl
     by_order Greater rest = ap (λ (ss : List Span). span_of_pair x ∷ ss) rest
 
-pairs_with : (more pairs : List (List ℕ × List ℕ)) → map span_of_pair (fold (insert_key pair_cmp) pairs more) ≡ fold (insert_key span_cmp) (map span_of_pair pairs) (map span_of_pair more)
+pub pairs_with : (more pairs : List (List ℕ × List ℕ)) → map span_of_pair (fold (insert_key pair_cmp) pairs more) ≡ fold (insert_key span_cmp) (map span_of_pair pairs) (map span_of_pair more)
 pairs_with [] pairs = refl
 pairs_with (p ∷ more) pairs = pairs_with more (insert_key pair_cmp pairs p) ∙ ap (λ (ss : List Span). fold (insert_key span_cmp) ss (map span_of_pair more)) (pair_inserted pairs p)
 
 -- ---- the spans of an end
 
 -- what a row takes up
-abbrev span_of : Row (List ℕ) → Span
+abbrev pub span_of : Row (List ℕ) → Span
 span_of row = record { start = row.first; width = row.leaf }
 
-as_spans : (rows : List (Row (List ℕ))) → map span_of_pair (map pair_of rows) ≡ map span_of rows
+pub as_spans : (rows : List (Row (List ℕ))) → map span_of_pair (map pair_of rows) ≡ map span_of rows
 as_spans [] = refl
 as_spans (row ∷ rows) = ap (λ (ss : List Span). span_of row ∷ ss) (as_spans rows)
 
-among_chosen : {X : Type 0} (q : Span) (key : X → Span) (p : X → Bool) (xs : List X) → among q (map key (filter p xs)) ≡ list_any (λ x. p x && is_eq (span_cmp q (key x))) xs
+pub among_chosen : {X : Type 0} (q : Span) (key : X → Span) (p : X → Bool) (xs : List X) → among q (map key (filter p xs)) ≡ list_any (λ x. p x && is_eq (span_cmp q (key x))) xs
 among_chosen q key p [] = refl
 among_chosen {X} q key p (x ∷ xs) = by_test (p x) (among_chosen q key p xs)
   where
@@ -81,7 +81,7 @@ among_chosen {X} q key p (x ∷ xs) = by_test (p x) (among_chosen q key p xs)
     by_test true rest = ap (λ (c : Bool). is_eq (span_cmp q (key x)) || c) rest
     by_test false rest = rest
 
-itself_mapped : (spans : List Span) → map (λ (s : Span). s) spans ≡ spans
+pub itself_mapped : (spans : List Span) → map (λ (s : Span). s) spans ≡ spans
 itself_mapped [] = refl
 itself_mapped (s ∷ spans) = ap (λ (ss : List Span). s ∷ ss) (itself_mapped spans)
 

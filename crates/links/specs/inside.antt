@@ -2,3 +2,4 @@
 pub mod Kept
 pub mod Pairs
 pub mod Joined
+pub mod Read

@@ -6,6 +6,7 @@ mod finding;
 pub mod laws;
 mod links;
 mod place;
+mod readable;
 mod row;
 mod runs;
 mod spans;

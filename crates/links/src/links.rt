@@ -1,5 +1,5 @@
 //! The table of links and its calls.
-ghost use Rattle.std.specs.Prelude.{◌≡◌, ◌<◌, ◌≤◌, ◌⊎◌, List as ListOf, [], ◌∷◌, length, slice_get, All, IsOk, IfOk, OnOk, OnErr, IfSome, ◌+◌, not, false};
+ghost use Rattle.std.specs.Prelude.{◌≡◌, ◌<◌, ◌≤◌, ◌⊎◌, List as ListOf, [], ◌∷◌, length, take, slice_get, All, IsOk, IfOk, OnOk, OnErr, IfSome, ◌+◌, not, false};
 ghost use Rattle.std.specs.Option.{option_map, option_copied};
 ghost use Rattle.std.specs.Ordering.{nat_cmp};
 ghost use Rattle.std.specs.Cmp.Lexicographic.{slice_cmp};
@@ -15,14 +15,17 @@ ghost use Rattle.enfilade_sweep.specs.Plan.{IsPlanFor};
 ghost use Rattle.spanfilade.specs.Index.{rows_in_index, at_mark};
 ghost use Rattle.links.specs.LinkLists.{LinkLists, most_links, plain_link, IsLink, HoldsRuns, index_at, with_index, ids_in, has_in, link_in, count_of_home_in, added, removed, marks_of, at_marks, AllGrow};
 ghost use Rattle.links.specs.Finding.{found_in, spans_met, EndsFit};
+ghost use Rattle.links.specs.Readable.{links_read, ids_read};
+ghost use Rattle.world_rules.specs.Readers.{reads_by};
 ghost use Rattle.links.specs.inside.Joined.{EndsJoined};
 ghost use Rattle.links.specs.inside.Kept.{Hold};
 
 use crate::ends::add_to_all;
 use crate::finding::{found_among, found_in_order};
+use crate::readable::{count_read, ids_read};
 use crate::row::{LinkMarks, LinkRow, WantedEnds};
 use crate::runs::run_spans;
-use crate::spans::spans_in_order;
+use crate::spans::{spans_in_order, spans_read};
 use crate::table::Table;
 use crate::wanted::joined_ends;
 use enfilade_balance::Balance;
@@ -32,6 +35,7 @@ use spanfilade::Spanfilade;
 use std::alloc::Global;
 use std::marker::Model;
 use tumbler::{List, Memory, Span, Tumbler};
+use world_rules::Readers;
 
 /// The links that there are, by id and by the content at their ends.
 ///
@@ -252,6 +256,52 @@ impl Links {
         let (arena, root) = self.index(end).parts();
         let rows = overlapping(arena, root, meeting)?;
         spans_in_order(alloc, rows.as_slice())
+    }
+
+    /// The same of those links alone whose home may be read for the account. The link of each row is looked up
+    /// before the spans of rows become one.
+    pub fn spans_of_end_for<R: Readers>(
+        &self,
+        alloc: Global,
+        end: u32,
+        meeting: &Span,
+        readers: &R,
+        account: &Option<Tumbler>,
+    ) -> Result<List<Span>, Memory>
+        requires end { (end ≡ 1) ⊎ (end ≡ 2) ⊎ (end ≡ 3) }
+        requires fits { SpanFits meeting.now }
+        ensures { IfOk result (λ found. found.items ≡ spans_met end meeting.now (links_read (reads_by (R.publishes readers.now) account.now) self.now.links)) }
+    {
+        self.table.ids_ascend();
+        let (nodes, root) = self.index(end).parts();
+        let rows = overlapping(nodes, root, meeting)?;
+        spans_read(alloc, &self.table, rows.as_slice(), readers, account)
+    }
+
+    /// Of these ids the first `limit`, in their order, of links whose home may be read for the account.
+    pub fn ids_read_for<R: Readers>(
+        &self,
+        alloc: Global,
+        ids: &[Tumbler],
+        readers: &R,
+        account: &Option<Tumbler>,
+        limit: u32,
+    ) -> Result<List<Tumbler>, Memory>
+        ensures { IfOk result (λ made. made.items ≡ take limit (ids_read (reads_by (R.publishes readers.now) account.now) self.now.links ids.now)) }
+    {
+        ids_read(alloc, &self.table, ids, readers, account, limit)
+    }
+
+    /// How many of the ids are of links whose home may be read for the account. It takes no memory.
+    pub fn count_read_for<R: Readers>(
+        &self,
+        ids: &[Tumbler],
+        readers: &R,
+        account: &Option<Tumbler>,
+    ) -> usize
+        ensures { result ≡ length (ids_read (reads_by (R.publishes readers.now) account.now) self.now.links ids.now) }
+    {
+        count_read(&self.table, ids, readers, account)
     }
 
     /// Makes one step of the balancer in the index of end 1, 2 or 3, if one is allowed.

@@ -17,6 +17,7 @@ use tumbler::{List, Span, Tumbler};
 
 mod plain;
 mod random;
+mod read;
 
 fn tumbler(rt: &impl Abort, alloc: Global, places: &[u32]) -> Tumbler {
     Tumbler::from_places(alloc, places).expect(rt, "a tumbler")

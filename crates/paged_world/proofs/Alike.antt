@@ -10,7 +10,7 @@ use Rattle.tumbler.specs.Places.{IsBefore}
 use Rattle.tumbler.proofs.Order.{before_before, never_before_itself}
 use Rattle.granfilade.specs.Content.{ByteAt, content, tree_rows}
 use Rattle.granfilade.specs.Puts.{IsContent}
-use Rattle.doc_table.specs.DocumentRows.{documents_in, content_in}
+use Rattle.doc_table.specs.DocumentRows.{documents_in, content_in, published_in}
 use Rattle.links.specs.LinkLists.{ids_in}
 use Rattle.tree_compare.proofs.InOrder.{same-in-order}
 use Rattle.world_rules.specs.declared.rows.ByteRow.{ByteRow}
@@ -38,10 +38,10 @@ pub record AreAlike (one other : Trees) : Type 0 where
 -- ---- where they are alike
 
 module _ (before : Trees) (after : Trees) (same : AreAlike before after) where
-  -- with the same numbers beside them they stand for the same
-  pub stands_alike : RootsStand after.nodes after.documents → ((document : List ℕ) → All (IsCovered after.index document) (text_in after document)) → EndsStand after.links → after.content ≡ before.content → after.access ≡ before.access → after.counted ≡ before.counted → after.sessions ≡ before.sessions
+  -- with the same marks and the same numbers beside them they stand for the same
+  pub stands_alike : RootsStand after.nodes after.documents → ((document : List ℕ) → published_in after.documents document ≡ published_in before.documents document) → ((document : List ℕ) → All (IsCovered after.index document) (text_in after document)) → EndsStand after.links → after.content ≡ before.content → after.access ≡ before.access → after.counted ≡ before.counted → after.sessions ≡ before.sessions
       → (view : FlatView) → Stands before view → Stands after view
-  stands_alike roots covered ends total access counted sessions view stand =
+  stands_alike roots marks covered ends total access counted sessions view stand =
       let now : Trees = record after { access = before.access; counted = before.counted; sessions = before.sessions } in
       let stands : Stands now view = record {
         documents = subst (λ ds. IsPermutation ds view.world.documents) (sym same.documents) stand.documents;
@@ -54,6 +54,7 @@ module _ (before : Trees) (after : Trees) (same : AreAlike before after) where
         bytes_once = stand.bytes_once;
         total = total ∙ stand.total;
         counts = λ document. same.counts document ∙ stand.counts document;
+        marks = λ document. marks document ∙ stand.marks document;
         link_table = subst (λ links. IsPermutation links view.world.links) (sym same.link_table) stand.link_table;
         ids = subst EachIdOnce (sym same.link_table) stand.ids;
         ends = ends;

@@ -3,7 +3,7 @@ use Rattle.std.proofs.Common.{◌≡◌, ◌∙◌, ℕ, Bool, true, false, cond
 use Rattle.std.specs.Prelude.{All}
 use Rattle.std.specs.List.{find}
 use Rattle.std.specs.Option.{option_map}
-use Rattle.std.proofs.lemmas.List.Elements.{All-nil, All-head, All-tail, All-weaker, All-map}
+use Rattle.std.proofs.lemmas.List.Elements.{All-nil, All-cons, All-head, All-tail, All-weaker}
 use Rattle.enfilade_core.specs.declared.tree.Node.{Node}
 use Rattle.enfilade_core.specs.Rows.{Shape}
 use Rattle.poom.specs.Laid.{IsRoot}
@@ -23,16 +23,17 @@ use Rattle.tree_world.specs.Standing.{Stands, IsCovered}
 use Rattle.tree_world.proofs.Found.{address_is}
 use Rattle.tree_world.proofs.Roots.{RootsStand}
 use Rattle.world_pages.specs.Pages.{table_document, table_link, pages_of_world}
-use Rattle.paged_world.specs.inside.Same.{root_of_row, AreRoots, HoldSame}
+use Rattle.paged_world.specs.inside.Same.{root_of_row, without_root, AreRoots, HoldSame}
 use Rattle.paged_world.proofs.Alike.{AreAlike, stands_alike}
-use Rattle.paged_world.proofs.ReadRows.{Row, document_row, alike_documents, alike_counts, alike_rooted, shown_alike, texts_alike, links_alike}
+use Rattle.paged_world.proofs.Alongside.{none_is}
+use Rattle.paged_world.proofs.ReadRows.{Row, document_row, rows_read, Alike, tail_alike, alike_documents, alike_counts, alike_marks, alike_rooted, shown_alike, texts_alike, links_alike}
 
--- the world with these trees in the place of its own, and these marks
+-- the world with these trees in the place of its own, and these marks of trees; what is published stays
 abbrev pub with_plain : PlainTrees → List (List ℕ) → Trees → Trees
 with_plain plain due trees = record trees {
   contents = content_tree plain.granfilade plain.tables.granfilade;
   nodes = plain.poom;
-  documents = map document_row plain.tables.documents;
+  documents = rows_read trees.documents plain.tables.documents;
   index = index_tree plain.spanfilade plain.tables.spanfilade;
   links = record { links = link_rows plain.tables; from = index_tree plain.from plain.tables.from; to = index_tree plain.to plain.tables.to; three = index_tree plain.three plain.tables.three };
   due = due;
@@ -52,14 +53,15 @@ links_forth : (links : List PlainLink) → map table_link (map link_row links) �
 links_forth [] = refl
 links_forth (link ∷ links) = ap (λ (others : List PlainLink). link ∷ others) (links_forth links)
 
-documents_forth : (rows : List TableDocument) → map table_document (map document_row rows) ≡ rows
-documents_forth [] = refl
-documents_forth (row ∷ rows) = ap (λ (others : List TableDocument). row ∷ others) (documents_forth rows)
+documents_forth : (rows : List Row) (read : List TableDocument) → Alike rows read → map table_document (rows_read rows read) ≡ read
+documents_forth rows [] same = refl
+documents_forth [] (other ∷ read) same = absurd (none_is (without_root other) (map without_root read) same)
+documents_forth (row ∷ rows) (other ∷ read) same = ap (λ (others : List TableDocument). other ∷ others) (documents_forth rows read (tail_alike row rows other read same))
 
 -- its pages are those
-pub pages_taken : (plain : PlainTrees) (due : List (List ℕ)) (world : Trees) → pages_of_world (with_plain plain due world) ≡ plain
-pages_taken plain due world =
-    λ i. record plain { tables = record plain.tables { documents = documents_forth plain.tables.documents i; links = links_forth plain.tables.links i } }
+pub pages_taken : (plain : PlainTrees) (due : List (List ℕ)) (world : Trees) → HoldsPlain world plain → pages_of_world (with_plain plain due world) ≡ plain
+pages_taken plain due world same =
+    λ i. record plain { tables = record plain.tables { documents = documents_forth world.documents plain.tables.documents same.documents i; links = links_forth plain.tables.links i } }
 
 -- ---- what was tested of them
 
@@ -67,17 +69,21 @@ pub roots_read : (plain : PlainTrees) → AreSound plain → AreRoots plain.poom
 roots_read plain sound =
     All-weaker (λ (row : TableDocument). IsShown plain.poom plain.tables row.root) (λ (row : TableDocument). IsRoot plain.poom row.root) (λ row shown. shown.root) plain.tables.documents sound.contents.each
 
-roots_taken : (plain : PlainTrees) → AreSound plain → RootsStand plain.poom (map document_row plain.tables.documents)
-roots_taken plain sound = All-map (λ (row : Row). IsRoot plain.poom row.root.0) document_row plain.tables.documents (roots_read plain sound)
+roots_taken : (nodes : List (Shape ℕ)) (rows : List Row) (read : List TableDocument) → AreRoots nodes read → RootsStand nodes (rows_read rows read)
+roots_taken nodes rows [] all = All-nil (λ (row : Row). IsRoot nodes row.root.0)
+roots_taken nodes [] (other ∷ read) all = All-nil (λ (row : Row). IsRoot nodes row.root.0)
+roots_taken nodes (row ∷ rows) (other ∷ read) all =
+    All-cons (λ (r : Row). IsRoot nodes r.root.0) (document_row row.published other) (rows_read rows read) (All-head (λ (r : TableDocument). IsRoot nodes r.root) other read all) (roots_taken nodes rows read (All-tail (λ (r : TableDocument). IsRoot nodes r.root) other read all))
 
 -- what each document shows is in the index for it
-covered_taken : (index : IndexTree) (nodes : List (Shape ℕ)) (rows : List TableDocument) → All (CoversText index nodes) rows → (d : List ℕ) → All (IsCovered index d) (text_at nodes (root_in (map document_row rows) d))
-covered_taken index nodes [] all d = All-nil (IsCovered index d)
-covered_taken index nodes (row ∷ rows) all d = step (is_same row.document d) refl (covered_taken index nodes rows (All-tail (CoversText index nodes) row rows all) d)
+covered_taken : (index : IndexTree) (nodes : List (Shape ℕ)) (rows : List Row) (read : List TableDocument) → All (CoversText index nodes) read → (d : List ℕ) → All (IsCovered index d) (text_at nodes (root_in (rows_read rows read) d))
+covered_taken index nodes rows [] all d = All-nil (IsCovered index d)
+covered_taken index nodes [] (other ∷ read) all d = All-nil (IsCovered index d)
+covered_taken index nodes (row ∷ rows) (other ∷ read) all d = step (is_same other.document d) refl (covered_taken index nodes rows read (All-tail (CoversText index nodes) other read all) d)
   where
-    step : (b : Bool) → is_same row.document d ≡ b → All (IsCovered index d) (text_at nodes (root_in (map document_row rows) d))
-        → All (IsCovered index d) (text_at nodes (option_map (λ (r : Row). r.root) (cond b (Some (document_row row)) (find (is_of d) (map document_row rows)))))
-    step true own rest = subst (λ a. All (IsCovered index a) (text_at nodes (Some (root_of_row row)))) (address_is row.document d own) (All-head (CoversText index nodes) row rows all)
+    step : (b : Bool) → is_same other.document d ≡ b → All (IsCovered index d) (text_at nodes (root_in (rows_read rows read) d))
+        → All (IsCovered index d) (text_at nodes (option_map (λ (r : Row). r.root) (cond b (Some (document_row row.published other)) (find (is_of d) (rows_read rows read)))))
+    step true own rest = subst (λ a. All (IsCovered index a) (text_at nodes (Some (root_of_row other)))) (address_is other.document d own) (All-head (CoversText index nodes) other read all)
     step false own rest = rest
 
 -- ---- where they hold the same
@@ -99,8 +105,8 @@ module _ (plain : PlainTrees) (world : Trees) (same : HoldsPlain world plain) wh
   -- the world stands for what it stood for
   pub taken_stands : (due : List (List ℕ)) → AreSound plain → (view : FlatView) → Stands world view → Stands (with_plain plain due world) view
   taken_stands due sound view stand =
-      stands_alike world (with_plain plain due world) (taken_alike due) (roots_taken plain sound)
-      (covered_taken (index_tree plain.spanfilade plain.tables.spanfilade) plain.poom plain.tables.documents sound.covered)
+      stands_alike world (with_plain plain due world) (taken_alike due) (roots_taken plain.poom world.documents plain.tables.documents (roots_read plain sound)) (alike_marks world.documents plain.tables.documents same.documents)
+      (covered_taken (index_tree plain.spanfilade plain.tables.spanfilade) plain.poom world.documents plain.tables.documents sound.covered)
       (record { from = sound.from; to = sound.to; three = sound.three }) refl refl refl refl view stand
 
   -- other trees that are these
@@ -108,7 +114,7 @@ module _ (plain : PlainTrees) (world : Trees) (same : HoldsPlain world plain) wh
       → other.index ≡ index_tree plain.spanfilade plain.tables.spanfilade → other.from ≡ index_tree plain.from plain.tables.from → other.to ≡ index_tree plain.to plain.tables.to → other.three ≡ index_tree plain.three plain.tables.three
       → with_others other due world ≡ with_plain plain due world
   gone_on other due contents pooms roots index from to three =
-      let rows : with_roots other.roots.items world.documents ≡ map document_row plain.tables.documents =
+      let rows : with_roots other.roots.items world.documents ≡ rows_read world.documents plain.tables.documents =
       ap (λ (rs : List Node). with_roots rs world.documents) roots ∙ alike_rooted world.documents plain.tables.documents same.documents in
       λ i. record world {
         contents = contents i;

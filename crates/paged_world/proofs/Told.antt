@@ -159,7 +159,7 @@ module _ (plain : PlainTrees) (old new : Trees) (gone : HasGone plain old new) w
   still_stands view stand = subst (λ (trees : Trees). Stands trees view) (sym gone.is) (taken_stands plain old gone.same gone.due gone.sound view stand)
 
   pages_are : pages_of_world new ≡ plain
-  pages_are = ap pages_of_world gone.is ∙ pages_taken plain gone.due old
+  pages_are = ap pages_of_world gone.is ∙ pages_taken plain gone.due old gone.same
 
   pub stand_for : (view : FlatView) → Stands old view → StandFor plain view.world
   stand_for view stand = record {

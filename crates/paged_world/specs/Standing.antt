@@ -17,15 +17,16 @@ use Rattle.green_flush.specs.Standing.{FlushView}
 
 -- ---- what trees stand for
 
--- two worlds have the same documents, rows, bytes and links; who has what open, and the accounts, are not asked
+-- two worlds have the same documents, rows, bytes and links; what is published, who has what open, and the accounts, are not
+-- asked
 pub record HaveSame (one other : World) : Type 0 where
   pub documents : one.documents ≡ other.documents
   pub rows : one.rows ≡ other.rows
   pub bytes : one.bytes ≡ other.bytes
   pub links : one.links ≡ other.links
 
--- The trees stand for the world's documents, rows, bytes and links: beside some table of who has what open they are a store's
--- trees, and stand for a world that has the same of these.
+-- The trees stand for the world's documents, rows, bytes and links: beside some marks of what is published, and some table of who
+-- has what open, they are a store's trees, and stand for a world that has the same of these.
 pub record StandFor (plain : PlainTrees) (world : World) : Type 0 where
   pub trees : Trees
   pub view : FlatView

@@ -44,8 +44,9 @@ pub trait OnPages: Undo {
         ensures failed { OnDiskFault result (HasRisen (D.fault_count disk.old) (D.fault_count disk.new)) };
 
     /// Goes on with trees that were read, if they stand for the documents, rows, bytes and links that the world stands for,
-    /// and tells whether they do. Who has what open, the accounts and all counts stay. Where they do not stand for these, or
-    /// memory is refused, the world stays as it is. The time goes by the rows and the bytes of both.
+    /// and tells whether they do. What is published, who has what open, the accounts and all counts stay: pages have none of
+    /// these. Where they do not stand for these, or memory is refused, the world stays as it is. The time goes by the rows and
+    /// the bytes of both.
     fn adopt(&mut self, alloc: Global, loaded: Trees) -> Result<bool, Memory>
         requires { (plain : PlainTrees) × AreLoaded loaded plain }
         ensures told { (plain : PlainTrees) (view : FlatView) → AreLoaded loaded plain → Self.stands self.old view → IfOk result (λ adopted. IsTrue adopted ↔ StandFor plain view.world) }

@@ -106,10 +106,10 @@ const SECOND: [Outcome; 4] = [
 ];
 
 /// A call that no run here comes to.
-const FAR: u64 = 1_000;
+pub(crate) const FAR: u64 = 1_000;
 
 /// How many calls a disk has made whose call [`FAR`] fails: as many fewer as it can still make before that one.
-fn calls_made(disk: &mut MemoryDisk) -> u64 {
+pub(crate) fn calls_made(disk: &mut MemoryDisk) -> u64 {
     for left in 0..FAR {
         let Ok(_) = disk.length(Area::Log) else {
             return FAR - 1 - left;

@@ -44,6 +44,30 @@ const LINKS: &[Exchange] = &[
     ),
 ];
 
+/// What another account is shown of a document and its link, before and after it is published, and of a version.
+const PRIVATE: &[Exchange] = &[
+    ("P0~", "P0~"),
+    ("34~0.1.1.0.1~", "34~"),
+    ("11~", "11~A~"),
+    ("0~A~0.1.1~t2:ab", "0~"),
+    ("27~A~1~A~1~0.1.1~1.1~0~0~", "27~A.0.2.1~"),
+    ("13~A~", "13~A.1~"),
+    ("34~0.1.1.0.2~", "34~"),
+    ("14~A~", "?15~"),
+    ("5~2~A.1~1~0.1.1~1.2~A~1~0.1.1~1.2~", "?15~"),
+    ("18~A.0.2.1~1~", "?9~"),
+    ("29~0~0~0~0~", "29~0~"),
+    ("40~A~", "?15~"),
+    ("34~0.1.1.0.1~", "34~"),
+    ("40~A~", "40~"),
+    ("34~0.1.1.0.2~", "34~"),
+    ("5~1~A~1~0.1.1~1.2~", "5~1~t2:ab"),
+    ("18~A.0.2.1~1~", "18~1~A~1~0.1.1~1.1~"),
+    ("22~1~A~1~0.1.1~1.2~", "22~1~A~"),
+    ("36~A.1~", "36~"),
+    ("35~A.1~1~2~", "?15~"),
+];
+
 const GREETING: &[Exchange] = &[("P0~", "P0~")];
 
 const TEXT_OF_TWO: &[Exchange] = &[
@@ -80,6 +104,11 @@ const SESSIONS: &[Row] = &[
         rest: "",
         place: NONE,
     },
+    Row {
+        exchanges: PRIVATE,
+        rest: "",
+        place: NONE,
+    },
 ];
 
 /// Inputs with a byte that can't stand.
@@ -92,7 +121,7 @@ const MALFORMED: &[Row] = &[
     Row {
         exchanges: GREETING,
         rest: "4~",
-        place: 3,
+        place: 4,
     },
     Row {
         exchanges: &[],

@@ -242,3 +242,71 @@ fn one_of_several_changes(rt: HostRuntime) -> Result<(), Fail> {
     assert!(rt; table.nth(2) == Some(&next));
     Ok(())
 }
+
+#[test]
+fn a_published_document_is_marked(rt: HostRuntime) -> Result<(), Fail> {
+    let alloc = rt.alloc();
+    let mut table = families(&rt, alloc);
+    let first = at(&rt, alloc, &[1, 1, 0, 1, 0, 1]);
+    let version = at(&rt, alloc, &[1, 1, 0, 1, 0, 1, 1]);
+    assert!(rt; !table.published(&first));
+    assert!(rt; table.has(&first));
+    table.publish(&first);
+    assert!(rt; table.published(&first));
+    assert!(rt; !table.published(&version));
+    assert!(rt; table.has(&first));
+    table.publish(&first);
+    assert!(rt; table.published(&first));
+    assert_eq!(rt; table.root(&first), Some(7));
+    Ok(())
+}
+
+#[test]
+fn a_mark_goes_back_to_what_it_was(rt: HostRuntime) -> Result<(), Fail> {
+    let alloc = rt.alloc();
+    let mut table = families(&rt, alloc);
+    let first = at(&rt, alloc, &[1, 1, 0, 1, 0, 1]);
+    assert!(rt; table.has(&first));
+    table.set_published(&first, true);
+    assert!(rt; table.published(&first));
+    assert!(rt; table.has(&first));
+    table.set_published(&first, false);
+    assert!(rt; !table.published(&first));
+    Ok(())
+}
+
+/// A table with one document, which is published.
+fn marked(rt: &impl Abort, alloc: Global, document: &Tumbler) -> DocTable<u32> {
+    let mut table = DocTable::new(alloc);
+    add(rt, alloc, &mut table, document, 7);
+    assert!(rt; table.has(document));
+    table.publish(document);
+    table
+}
+
+#[test]
+fn a_mark_stays_with_its_document(rt: HostRuntime) -> Result<(), Fail> {
+    let alloc = rt.alloc();
+    let document = document(alloc, 1)?;
+    let mut table = marked(&rt, alloc, &document);
+    assert!(rt; table.has(&document));
+    table.set_root(&document, 8);
+    assert!(rt; table.published(&document));
+    assert_eq!(rt; table.len(), 1);
+    table.set_roots(&[9]);
+    assert!(rt; table.published(&document));
+    Ok(())
+}
+
+#[test]
+fn a_document_that_comes_anew_has_no_mark(rt: HostRuntime) -> Result<(), Fail> {
+    let alloc = rt.alloc();
+    let document = document(alloc, 1)?;
+    let mut table = marked(&rt, alloc, &document);
+    assert!(rt; table.has(&document));
+    table.remove(&document);
+    assert!(rt; !table.published(&document));
+    add(&rt, alloc, &mut table, &document, 7);
+    assert!(rt; !table.published(&document));
+    Ok(())
+}

@@ -36,6 +36,7 @@ module _ (contents : ContentTree) (nodes : List (Shape ℕ)) (index : IndexTree)
     bytes_once = tt;
     total = refl;
     counts = λ d. refl;
+    marks = λ d. refl;
     link_table = subst (λ (ls : List LinkRow). IsPermutation ls []) (sym unlinked) (IsPermutation-refl []);
     ids = subst EachIdOnce (sym unlinked) tt;
     ends = record { from = from; to = to; three = three };

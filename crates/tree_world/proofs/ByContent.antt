@@ -13,12 +13,13 @@ use Rattle.std.specs.Map.{lookup}
 use Rattle.std.proofs.lemmas.Bool.Decides.{nat_tests}
 use Rattle.std.proofs.lemmas.List.{take_all}
 use Rattle.std.proofs.lemmas.List.Folds.{list_any-append, list_any_more}
-use Rattle.std.proofs.lemmas.List.Elements.{All-weaker}
+use Rattle.std.proofs.lemmas.List.Elements.{All-nil, All-cons, All-head, All-tail, All-weaker}
 use Rattle.tumbler.specs.declared.span.Span.{Span}
 use Rattle.tumbler.proofs.Order.{same_if_tied}
 use Rattle.tumbler.proofs.OrLaws.{or_none}
 use Rattle.febe_data.specs.declared.run.Run.{Run}
-use Rattle.links.specs.LinkLists.{LinkLists, IsRun, IsLink, run_span, runs_at}
+use Rattle.links.specs.LinkLists.{IsRun, IsLink, run_span, runs_at}
+use Rattle.links.specs.Readable.{links_read}
 use Rattle.links.specs.Finding.{spans_met}
 use Rattle.poom_compare.specs.declared.positions.Interval.{Interval}
 use Rattle.poom_compare.specs.declared.placing.Placed.{Placed}
@@ -27,7 +28,7 @@ use Rattle.world_rules.specs.declared.ends.End.{End}
 use Rattle.world_rules.specs.World.{LinkRow, content_address}
 use Rattle.world_rules.specs.Picking.{is_in_runs}
 use Rattle.world_rules.specs.Ends.{runs_of_end}
-use Rattle.tree_world.specs.inside.InEnds.{names_number, is_in_end_of, IsWithin, IsNumbersOf, AreNumbers}
+use Rattle.tree_world.specs.inside.InEnds.{names_number, IsWithin, IsNumbersOf, AreNumbers}
 use Rattle.tree_world.proofs.Options.{one_value, none_there}
 use Rattle.tree_world.proofs.Lists.{more_of_all}
 use Rattle.tree_world.proofs.InEnds.{named_in_end}
@@ -115,20 +116,28 @@ run_of_extent document extent = record { origin = document; content = document; 
 ends_there : (from to m : ℕ) → 0 < to - from → m < to → m < from + (to - from)
 ends_there from to m some lt = omega (arith, some, lt)
 
-pub numbers_are : (held shown : LinkLists) (end : End) (number : ℕ) (document : List ℕ) (extent : Interval) (run : Run) (bytes : Span) (spans slice : List Span) (all made : List Interval) → held ≡ shown → ((link : LinkRow) → runs_at number link ≡ runs_of_end end link)
-    → All IsLink held.links → run ≡ run_of_extent document extent → IsRun run → bytes ≡ run_span run → spans ≡ spans_met number bytes held.links → slice ≡ spans → ((m : ℕ) → is_in_some all m ≡ list_any (λ s. names_number s m) slice)
-    → All (IsInterval 4294967295) made → AreApart made → ((m : ℕ) → is_in_some made m ≡ is_in_some all m) → IsNumbersOf end shown.links document extent made
-numbers_are held shown end number document extent run bytes spans slice all made same ends right run_is is bytes_is spans_is slice_is named each apart joined = record {
+-- those of the links that may be read are links
+pub read_right : (may : List ℕ → Bool) (links : List LinkRow) → All IsLink links → All IsLink (links_read may links)
+read_right may [] all = All-nil IsLink
+read_right may (link ∷ links) all = step (may link.home) (read_right may links (All-tail IsLink link links all))
+  where
+    step : (b : Bool) → All IsLink (links_read may links) → All IsLink (cond b (link ∷ links_read may links) (links_read may links))
+    step true rest = All-cons IsLink link (links_read may links) (All-head IsLink link links all) rest
+    step false rest = rest
+
+pub numbers_are : (links : List LinkRow) (end : End) (number : ℕ) (document : List ℕ) (extent : Interval) (run : Run) (bytes : Span) (spans slice : List Span) (all made : List Interval) → ((link : LinkRow) → runs_at number link ≡ runs_of_end end link)
+    → All IsLink links → run ≡ run_of_extent document extent → IsRun run → bytes ≡ run_span run → spans ≡ spans_met number bytes links → slice ≡ spans → ((m : ℕ) → is_in_some all m ≡ list_any (λ s. names_number s m) slice)
+    → All (IsInterval 4294967295) made → AreApart made → ((m : ℕ) → is_in_some made m ≡ is_in_some all m) → IsNumbersOf end links document extent made
+numbers_are links end number document extent run bytes spans slice all made ends right run_is is bytes_is spans_is slice_is named each apart joined = record {
   each = each;
   apart = apart;
   same = λ m from to.
       let is' = subst IsRun run_is is in
       joined m
       ∙ named m
-      ∙ ap (list_any (λ s. names_number s m)) (slice_is ∙ spans_is ∙ ap (λ (s : Span). spans_met number s held.links) (bytes_is ∙ ap run_span run_is))
-      ∙ named_in_end (run_of_extent document extent) is' m from (ends_there extent.from extent.to m is'.some to) number held.links right
-      ∙ (λ i. list_any (λ (link : LinkRow). is_in_runs (ends link i) (content_address document m)) held.links)
-      ∙ ap (λ (lists : LinkLists). is_in_end_of end lists.links (content_address document m)) same;
+      ∙ ap (list_any (λ s. names_number s m)) (slice_is ∙ spans_is ∙ ap (λ (s : Span). spans_met number s links) (bytes_is ∙ ap run_span run_is))
+      ∙ named_in_end (run_of_extent document extent) is' m from (ends_there extent.from extent.to m is'.some to) number links right
+      ∙ (λ i. list_any (λ (link : LinkRow). is_in_runs (ends link i) (content_address document m)) links);
 }
 
 -- ---- numbers one after another

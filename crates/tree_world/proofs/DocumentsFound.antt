@@ -38,15 +38,18 @@ use Rattle.poom.specs.Laid.{IsRoot}
 use Rattle.poom.specs.Picked.{is_picked}
 use Rattle.poom.specs.Pieces.{IsPiece, address_in, addresses_from, laid}
 use Rattle.world_rules.specs.declared.rows.Row.{Row}
-use Rattle.world_rules.specs.World.{is_same, is_text, is_text_of, is_link_of, ascending}
+use Rattle.world_rules.specs.World.{is_same, is_text, is_text_of, is_link_of, ascending, account_of_session}
+use Rattle.world_rules.specs.Readable.{is_readable}
 use Rattle.world_rules.specs.Edits.{new_rows}
 use Rattle.world_rules.specs.Picking.{is_between, picked_addresses}
 use Rattle.world_rules.specs.Finding.{shows_one_of, documents_found}
 use Rattle.world_rules.specs.FlatView.{FlatView}
 use Rattle.tree_world.specs.Trees.{Trees, text_at, links_at, text_in, links_in}
 use Rattle.tree_world.specs.Standing.{Stands, link_rows, covers}
+use Rattle.tree_world.specs.inside.Reads.{reads_in, shows_for}
 use Rattle.tree_world.specs.inside.Seen.{has_picked, shows, addresses_by_specs}
 use Rattle.tree_world.proofs.Options.{none_there}
+use Rattle.tree_world.proofs.MayRead.{reads_are}
 use Rattle.tree_world.proofs.Looked.{found_holds}
 use Rattle.tree_world.proofs.Within.{IsMade, same_is, same_made, run_has}
 use Rattle.tree_world.proofs.Retrieved.{run_end}
@@ -383,32 +386,41 @@ module _ (trees : Trees) (view : FlatView) (stands : Stands trees view) (roots :
   and_alike false true false f g = refl
   and_alike false false false f g = refl
 
-  found_alike : (document : List ℕ) → among document (filter (shows trees (map run_span runs)) (keys_met (map run_span runs) (rows_in_index trees.index))) ≡ among document (ascending (filter (shows_one_of view.world (run_addresses runs)) view.world.documents))
-  found_alike document =
-      among_passing (shows trees (map run_span runs)) document (keys_met (map run_span runs) (rows_in_index trees.index))
-      ∙ and_alike (among document (keys_met (map run_span runs) (rows_in_index trees.index))) (among document view.world.documents) (shows trees (map run_span runs) document) (key_there document) (λ e. sym (with_keys-among view.world.documents [] document) ∙ document_there document e)
-      ∙ ap (λ (b : Bool). among document view.world.documents && b) (sym (shows_seen document))
-      ∙ sym (among_passing (shows_one_of view.world (run_addresses runs)) document view.world.documents)
-      ∙ sym (with_keys-among (filter (shows_one_of view.world (run_addresses runs)) view.world.documents) [] document)
+  module _ (may : List ℕ → Bool) where
+    abbrev shown_for : List ℕ → Bool
+    shown_for document = may document && shows trees (map run_span runs) document
 
-  pub found_is : filter (shows trees (map run_span runs)) (keys_met (map run_span runs) (rows_in_index trees.index)) ≡ ascending (filter (shows_one_of view.world (run_addresses runs)) view.world.documents)
-  found_is =
-      btree_set_from_contains nat_list_cmp_total (record { keys = filter (shows trees (map run_span runs)) (keys_met (map run_span runs) (rows_in_index trees.index)) }) (record { keys = ascending (filter (shows_one_of view.world (run_addresses runs)) view.world.documents) })
-      (left_ascend (slice_cmp nat_cmp) (shows trees (map run_span runs)) (keys_met (map run_span runs) (rows_in_index trees.index)) (with_keys-ascends (keys_of (filter (is_met_by (map run_span runs)) (rows_in_index trees.index))) [] none_ascends))
-      (with_keys-ascends (filter (shows_one_of view.world (run_addresses runs)) view.world.documents) [] none_ascends)
-      found_alike same_if_tied
+    abbrev found_for : List ℕ → Bool
+    found_for document = may document && shows_one_of view.world (run_addresses runs) document
+
+    found_alike : (document : List ℕ) → among document (filter shown_for (keys_met (map run_span runs) (rows_in_index trees.index))) ≡ among document (ascending (filter found_for view.world.documents))
+    found_alike document =
+        among_passing shown_for document (keys_met (map run_span runs) (rows_in_index trees.index))
+        ∙ and_alike (among document (keys_met (map run_span runs) (rows_in_index trees.index))) (among document view.world.documents) (shown_for document) (λ e. key_there document (and_second (may document) (shows trees (map run_span runs) document) e))
+        (λ e. sym (with_keys-among view.world.documents [] document) ∙ document_there document (and_second (may document) (shows trees (map run_span runs) document) e))
+        ∙ ap (λ (b : Bool). among document view.world.documents && (may document && b)) (sym (shows_seen document))
+        ∙ sym (among_passing found_for document view.world.documents)
+        ∙ sym (with_keys-among (filter found_for view.world.documents) [] document)
+
+    pub found_is : filter shown_for (keys_met (map run_span runs) (rows_in_index trees.index)) ≡ ascending (filter found_for view.world.documents)
+    found_is =
+        btree_set_from_contains nat_list_cmp_total (record { keys = filter shown_for (keys_met (map run_span runs) (rows_in_index trees.index)) }) (record { keys = ascending (filter found_for view.world.documents) })
+        (left_ascend (slice_cmp nat_cmp) shown_for (keys_met (map run_span runs) (rows_in_index trees.index)) (with_keys-ascends (keys_of (filter (is_met_by (map run_span runs)) (rows_in_index trees.index))) [] none_ascends))
+        (with_keys-ascends (filter found_for view.world.documents) [] none_ascends)
+        found_alike same_if_tied
 
 -- the addresses that specs pick
 addresses_seen : (trees : Trees) (view : FlatView) (stands : Stands trees view) (specs : List PlainSpec) → picked_addresses view.world specs ≡ addresses_by_specs trees specs
 addresses_seen trees view stands specs = λ i. flat_map (λ (spec : PlainSpec). flat_map (λ (span : Span). text_seen view.world spec.document (text_in trees spec.document) span (stands.texts spec.document) i) spec.spans) specs
 
-pub documents_are : (trees : Trees) (view : FlatView) → Stands trees view → All (λ (row : DocumentRow Node). IsRoot trees.nodes row.root.0) trees.documents → (specs : List PlainSpec)
+pub documents_are : (trees : Trees) (view : FlatView) → Stands trees view → All (λ (row : DocumentRow Node). IsRoot trees.nodes row.root.0) trees.documents → (session : ℕ) (account : Option (List ℕ)) → account ≡ account_of_session view.world session → (specs : List PlainSpec)
     → (runs : List Run) → All IsContentRun runs → run_addresses runs ≡ addresses_by_specs trees specs
     → (spans : List Span) (run_slice : List Run) (met documents made : List (List ℕ)) (span_slice : List Span)
-    → run_slice ≡ runs → spans ≡ map run_span run_slice → met ≡ keys_met spans (rows_in_index trees.index) → documents ≡ met → span_slice ≡ spans → made ≡ filter (shows trees span_slice) documents
-    → made ≡ documents_found view.world specs
-documents_are trees view stands roots specs runs all addresses spans run_slice met documents made span_slice a b d e f g =
+    → run_slice ≡ runs → spans ≡ map run_span run_slice → met ≡ keys_met spans (rows_in_index trees.index) → documents ≡ met → span_slice ≡ spans → made ≡ filter (shows_for trees account span_slice) documents
+    → made ≡ documents_found view.world session specs
+documents_are trees view stands roots session account drawn specs runs all addresses spans run_slice met documents made span_slice a b d e f g =
     let spans_are : spans ≡ map run_span runs = b ∙ ap (map run_span) a in
-    g ∙ (λ i. filter (shows trees ((f ∙ spans_are) i)) ((e ∙ d ∙ ap (λ (ss : List Span). keys_met ss (rows_in_index trees.index)) spans_are) i))
-    ∙ found_is trees view stands roots runs all
-    ∙ ap (λ (xs : List (List ℕ)). ascending (filter (shows_one_of view.world xs) view.world.documents)) (addresses ∙ sym (addresses_seen trees view stands specs))
+    g ∙ (λ i. filter (shows_for trees account ((f ∙ spans_are) i)) ((e ∙ d ∙ ap (λ (ss : List Span). keys_met ss (rows_in_index trees.index)) spans_are) i))
+    ∙ found_is trees view stands roots runs all (reads_in trees account)
+    ∙ (λ i. ascending (filter (λ (document : List ℕ). reads_are trees view stands session account drawn document i && shows_one_of view.world (run_addresses runs) document) view.world.documents))
+    ∙ ap (λ (xs : List (List ℕ)). ascending (filter (λ (document : List ℕ). is_readable view.world session document && shows_one_of view.world xs document) view.world.documents)) (addresses ∙ sym (addresses_seen trees view stands specs))

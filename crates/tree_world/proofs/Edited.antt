@@ -26,7 +26,7 @@ use Rattle.world_rules.proofs.Rearranged.{InOrder}
 use Rattle.tree_world.specs.Trees.{Trees, text_at, links_at, text_in, links_in}
 use Rattle.tree_world.specs.Standing.{Stands, link_rows, IsCovered}
 use Rattle.tree_world.specs.Changed.{after_change}
-use Rattle.tree_world.proofs.Tables.{root_set, root_documents, root_contents}
+use Rattle.tree_world.proofs.Tables.{root_set, root_documents, root_contents, root_marks}
 use Rattle.tree_world.proofs.Roots.{RootsStand, roots_set, texts_after, links_after, covered_after}
 use Rattle.tree_world.proofs.Made.{restand}
 use Rattle.tree_world.proofs.FlatRows.{text_with_is, other_text_with, links_with, text_without_is, links_without_are, other_text_without, other_links_without, text_swapped_is, other_text_swapped, links_swapped, rearranged_by}
@@ -93,6 +93,7 @@ module _ (trees : Trees) (view : FlatView) (stand : Stands trees view) (roots : 
           bytes_once = stand.bytes_once;
           total = stand.total;
           counts = λ d. root_contents trees.documents document made d ∙ stand.counts d;
+          marks = λ d. root_marks trees.documents document made d ∙ stand.marks d;
           link_table = stand.link_table;
           ids = stand.ids;
           ends = stand.ends;

@@ -42,7 +42,7 @@ module _ (nodes more : List (Shape ℕ)) (documents : List (DocumentRow Node)) (
   pub holds_added : IsDocument document → has_in documents document ≡ false → Holds more (added documents document made) contents
   holds_added address none = (
     roots_added nodes more kept grows documents holds.0 document made root,
-    All-insert_key row_cmp (record { document = document; root = made; content = 0 }) IsAddressed documents holds.1 address,
+    All-insert_key row_cmp (record { document = document; root = made; content = 0; published = false }) IsAddressed documents holds.1 address,
     holds.2,
     All-weaker (IsCounted documents) (IsCounted (added documents document made)) (λ at h d n is. subst (λ k. n ≤ k) (sym (content_added documents document made none d)) (h d n is)) (content contents) holds.3,
   )

@@ -1,5 +1,5 @@
 -- The text that is in the ends of links.
-use Rattle.std.proofs.Common.{◌≡◌, ◌∙◌, ◌⊎◌, inl, inr, ℕ, zero, suc, ◌+◌, ◌-◌, ◌<◌, ◌≤◌, ◌==◌, ◌&&◌, ◌||◌, Bool, true, false, List, [], ◌∷◌, ◌++◌, length, take, map, get_or, max, min, Some, None, cond, refl, sym, ap, subst, arith, All, IsPermutation}
+use Rattle.std.proofs.Common.{◌≡◌, ◌∙◌, ◌⊎◌, inl, inr, ℕ, zero, suc, ◌+◌, ◌-◌, ◌<◌, ◌≤◌, ◌==◌, ◌&&◌, ◌||◌, Bool, true, false, List, [], ◌∷◌, ◌++◌, length, take, map, get_or, max, min, Option, Some, None, cond, refl, sym, ap, subst, arith, All}
 use Rattle.std.specs.Prelude.{filter, nat_le, nat_lt}
 use Rattle.std.specs.List.{list_any, flat_map}
 use Rattle.std.proofs.lemmas.Bool.Decides.{nat_tests}
@@ -23,21 +23,24 @@ use Rattle.poom_compare.specs.declared.placing.Placed.{Placed}
 use Rattle.poom_compare.specs.Shared.{rows_picked, is_picked_by_some}
 use Rattle.poom_compare.specs.Placed.{is_in, is_in_some, IsInterval, AreApart, rows_at, rows_laid}
 use Rattle.poom_compare.proofs.Worlds.{of_none, filter_mapped, picked_of_none, picked_shown}
-use Rattle.links.specs.LinkLists.{LinkLists, IsRun, IsLink, run_span, runs_at, spans_at}
+use Rattle.links.specs.LinkLists.{IsRun, IsLink, run_span, runs_at, spans_at}
 use Rattle.links.specs.Finding.{span_cmp, spans_meet, spans_met}
 use Rattle.links.proofs.OrderedSpans.{same_span}
 use Rattle.world_rules.specs.declared.rows.Row.{Row}
 use Rattle.world_rules.specs.declared.rows.Part.TheVariants.{Text}
 use Rattle.world_rules.specs.declared.ends.End.{End}
-use Rattle.world_rules.specs.World.{LinkRow, is_same, content_address}
+use Rattle.world_rules.specs.World.{LinkRow, is_same, content_address, account_of_session}
+use Rattle.world_rules.specs.Readable.{is_readable}
 use Rattle.world_rules.specs.Picking.{is_in_run, is_in_runs, picked_once, intervals, places_of}
 use Rattle.world_rules.specs.Edits.{new_rows}
-use Rattle.world_rules.specs.Ends.{runs_of_end, end_set_of}
+use Rattle.world_rules.specs.Ends.{runs_of_end, is_in_end, end_set_of}
 use Rattle.world_rules.specs.FlatView.{FlatView}
 use Rattle.world_rules.proofs.ListTests.{filter_both}
 use Rattle.tree_world.specs.Trees.{Trees, text_at, text_in}
 use Rattle.tree_world.specs.Standing.{Stands}
 use Rattle.tree_world.specs.inside.InEnds.{names_number, is_met_at, is_in_end_of, has_row_in_end, span_between, spans_in_end, IsNumbersOf}
+use Rattle.tree_world.specs.inside.Reads.{reads_in, links_for}
+use Rattle.tree_world.proofs.MayRead.{reads_are}
 use Rattle.tree_world.proofs.Lists.{any_alike, any_map, any_filter, none_any}
 use Rattle.tree_world.proofs.Places.{runs_met, content_is, number_is, width_number}
 use Rattle.tree_world.proofs.Rising.{Rise, wider, fewest}
@@ -257,19 +260,23 @@ places_of_none : (rows : List Row) → places_of (map of_none rows) ≡ places_o
 places_of_none [] = refl
 places_of_none (row ∷ rows) = ap (λ (ns : List ℕ). row.n ∷ ns) (places_of_none rows)
 
-pub set_is : (held : LinkLists) (shown : Trees) (view : FlatView) (end : End) (spec : PlainSpec) (text : List (List ℕ)) (found : List Span) → held ≡ shown.links → Stands shown view → text ≡ text_in shown spec.document → found ≡ spans_in_end end held.links spec.spans text
-    → record { document = spec.document; spans = found } ≡ end_set_of view.world end spec
-set_is held shown view end spec text found same stands text_is is =
-    let moved = subst (λ (lists : LinkLists). IsPermutation lists.links view.world.links) (sym same) stands.link_table in
-    let test = λ (row : Row). is_in_end_of end held.links row.address in
+pub set_is : (shown : Trees) (view : FlatView) → Stands shown view → (session : ℕ) (account : Option (List ℕ)) → account ≡ account_of_session view.world session → (end : End) (spec : PlainSpec) (text : List (List ℕ)) (found : List Span) → text ≡ text_in shown spec.document
+    → found ≡ spans_in_end end (links_for shown account) spec.spans text → record { document = spec.document; spans = found } ≡ end_set_of view.world session end spec
+set_is shown view stands session account drawn end spec text found text_is is =
+    let test = λ (row : Row). is_in_end_of end (links_for shown account) row.address in
     let shows = stands.texts spec.document ∙ ap (new_rows spec.document 1) (sym text_is) in
     let all : rows_picked spec.spans text ≡ map of_none (picked_once view.world spec) = picked_of_none spec.document spec.spans text ∙ ap (map of_none) (sym (picked_shown view.world spec text shows)) in
-    let spans : found ≡ (end_set_of view.world end spec).spans =
+    let seen : (address : List ℕ) → is_in_end_of end (links_for shown account) address ≡ is_in_end view.world session end address = λ address.
+    any_filter (λ (link : LinkRow). is_in_runs (runs_of_end end link) address) (λ (link : LinkRow). reads_in shown account link.home) shown.links.links
+    ∙ (λ i. list_any (λ (link : LinkRow). reads_are shown view stands session account drawn link.home i && is_in_runs (runs_of_end end link) address) shown.links.links)
+    ∙ list_any-IsPermutation (λ (link : LinkRow). is_readable view.world session link.home && is_in_runs (runs_of_end end link) address) shown.links.links view.world.links stands.link_table
+    in
+    let spans : found ≡ (end_set_of view.world session end spec).spans =
     is
     ∙ ap (λ (rows : List Row). intervals (places_of (filter test rows))) all
     ∙ ap (λ (rows : List Row). intervals (places_of rows)) (filter_mapped test of_none (picked_once view.world spec))
     ∙ ap intervals (places_of_none (filter test (picked_once view.world spec)))
-    ∙ (λ i. intervals (places_of (filter (λ (row : Row). list_any-IsPermutation (λ (link : LinkRow). is_in_runs (runs_of_end end link) row.address) held.links view.world.links moved i) (picked_once view.world spec))))
+    ∙ (λ i. intervals (places_of (filter (λ (row : Row). seen row.address i) (picked_once view.world spec))))
     in
     ap (λ (s : List Span). record { document = spec.document; spans = s }) spans
 

@@ -26,6 +26,8 @@ pub mod Rerooted
 pub mod Swept
 pub mod Conditions
 pub mod Made
+pub mod MarkSet
+pub mod MayRead
 pub mod Edited
 pub mod Seen
 pub mod Steps

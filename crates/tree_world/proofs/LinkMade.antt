@@ -86,6 +86,7 @@ relinked trees view stand lists link lacks is ends = record {
   bytes_once = stand.bytes_once;
   total = stand.total;
   counts = stand.counts;
+  marks = stand.marks;
   link_table = subst (λ (ls : List LinkRow). IsPermutation ls (view.world.links ++ link ∷ [])) (sym is)
       (IsPermutation-trans (added trees.links.links link) (link ∷ trees.links.links) (view.world.links ++ link ∷ []) (added_moved trees.links.links link lacks)
       (IsPermutation-trans (link ∷ trees.links.links) (link ∷ view.world.links) (view.world.links ++ link ∷ []) (IsPermutation-cons link trees.links.links view.world.links stand.link_table) (IsPermutation-append_comm (link ∷ []) view.world.links)));

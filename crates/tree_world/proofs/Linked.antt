@@ -18,23 +18,29 @@ use Rattle.febe_data.specs.declared.run.Run.{Run}
 use Rattle.febe_data.specs.Plain.{PlainSpec, PlainWant}
 use Rattle.spanfilade.proofs.Ascending.{among, with_keys-among, with_keys-ascends, none_ascends}
 use Rattle.links.specs.declared.row.WantedEnds.{WantedEnds}
-use Rattle.links.specs.LinkLists.{LinkLists, IsRun, IsLink, run_span, ids_in, is_of, link_in}
+use Rattle.links.specs.LinkLists.{LinkLists, IsRun, IsLink, run_span, ids_in, is_of, link_in, has_in}
+use Rattle.links.specs.Readable.{is_read, ids_read}
+use Rattle.links.proofs.ReadLinks.{ids_by_homes}
 use Rattle.links.specs.Finding.{spans_meet, is_end_met, given, found_in}
 use Rattle.links.specs.Finding as met
 use Rattle.links.proofs.Searched.{ids_kept, among_chosen}
 use Rattle.world_rules.specs.declared.lookups.WantedRuns.{WantedRuns}
-use Rattle.world_rules.specs.World.{World, LinkRow, is_same, ascending}
+use Rattle.world_rules.specs.World.{World, LinkRow, is_same, ascending, account_of_session}
+use Rattle.world_rules.specs.Readable.{is_readable}
 use Rattle.world_rules.specs.Picking.{runs_of}
-use Rattle.world_rules.specs.Finding.{is_home_wanted, is_end_wanted, is_wanted, links_found, ids_found, ids_after, link_at}
+use Rattle.world_rules.specs.Finding.{is_home_wanted, is_end_wanted, is_wanted, links_found, ids_found, ids_after}
 use Rattle.world_rules.specs.FlatView.{FlatView}
 use Rattle.world_rules.specs.Wanted.{AreWantedRuns}
 use Rattle.world_rules.specs.Meeting.{shares_byte, share_bytes}
+use Rattle.world_rules.proofs.ListTests.{filter_both}
 use Rattle.world_rules.proofs.SharedBytes.{specs_share}
 use Rattle.tree_world.specs.Trees.{Trees}
 use Rattle.tree_world.specs.Standing.{Stands}
 use Rattle.tree_world.specs.inside.Met.{IsWantedEnd, AreWantedEnds}
+use Rattle.tree_world.specs.inside.Reads.{reads_in, ids_above}
 use Rattle.tree_world.proofs.Lists.{filter_alike, any_alike, any_across, none_any, any_map, found_or_not, none_passes, whole_front, all_pass}
 use Rattle.tree_world.proofs.Places.{runs_met}
+use Rattle.tree_world.proofs.MayRead.{reads_are}
 
 -- ---- one end
 
@@ -66,26 +72,54 @@ module _ (world : World) (want : PlainWant) (runs : WantedRuns) (ends : WantedEn
 abbrev id_of : LinkRow → List ℕ
 id_of link = link.id
 
--- whatever order they stand in, the ids ascend
-ids_are : (world : World) (want : PlainWant) (links : List LinkRow) → IsStrictlySortedBy (slice_cmp nat_cmp) (ids_in links) → IsPermutation links world.links → ids_found world want ≡ ids_in (filter (is_wanted world want) links)
-ids_are world want links sorted moved =
-    let some = ids_in (links_found world want) in
-    let others = ids_in (filter (is_wanted world want) links) in
-    btree_set_from_contains nat_list_cmp_total (record { keys = ascending some }) (record { keys = others }) (with_keys-ascends some [] none_ascends) (ids_kept (is_wanted world want) links sorted)
+-- whatever order they stand in, the ids of those that pass a test ascend
+ids_are : (p : LinkRow → Bool) (links others : List LinkRow) → IsStrictlySortedBy (slice_cmp nat_cmp) (ids_in links) → IsPermutation links others → ascending (ids_in (filter p others)) ≡ ids_in (filter p links)
+ids_are p links others sorted moved =
+    let some = ids_in (filter p others) in
+    btree_set_from_contains nat_list_cmp_total (record { keys = ascending some }) (record { keys = ids_in (filter p links) }) (with_keys-ascends some [] none_ascends) (ids_kept p links sorted)
     (λ q.
     with_keys-among some [] q
-    ∙ among_chosen q id_of (is_wanted world want) world.links
-    ∙ sym (list_any-IsPermutation (λ link. is_wanted world want link && is_eq (slice_cmp nat_cmp q (id_of link))) links world.links moved)
-    ∙ sym (among_chosen q id_of (is_wanted world want) links)) same_if_tied
+    ∙ among_chosen q id_of p others
+    ∙ sym (list_any-IsPermutation (λ link. p link && is_eq (slice_cmp nat_cmp q (id_of link))) links others moved)
+    ∙ sym (among_chosen q id_of p links)) same_if_tied
 
-pub found_after : (held : LinkLists) (shown : Trees) (view : FlatView) (want : PlainWant) (runs : WantedRuns) (ends : WantedEnds) (after : List ℕ) (limit : ℕ) (found : List (List ℕ)) → held ≡ shown.links → Stands shown view
-    → IsStrictlySortedBy (slice_cmp nat_cmp) (ids_in held.links) → All IsLink held.links → AreWantedRuns view.world want runs → AreWantedEnds want runs ends → found ≡ found_in held.links want.homes ends after limit
-    → found ≡ ids_after view.world want after limit
-found_after held shown view want runs ends after limit found same stands sorted all picked are is =
-    let moved = subst (λ (lists : LinkLists). IsPermutation lists.links view.world.links) (sym same) stands.link_table in
-    is
-    ∙ ap (λ (links : List LinkRow). take limit (filter (λ id. comes_before after id) (ids_in links))) (links_met view.world want runs ends are picked held.links all)
-    ∙ ap (λ (ids : List (List ℕ)). take limit (filter (λ id. comes_before after id) ids)) (sym (ids_are view.world want held.links sorted moved))
+-- those that are met, where all fit into a list
+pub met_above : (held : LinkLists) (shown : Trees) (view : FlatView) (want : PlainWant) (runs : WantedRuns) (ends : WantedEnds) (after : List ℕ) (limit : ℕ) (found : List (List ℕ)) → held ≡ shown.links → All IsLink held.links → AreWantedRuns view.world want runs → AreWantedEnds want runs ends
+    → found ≡ found_in held.links want.homes ends after limit → length found < limit → found ≡ ids_above view.world want shown.links.links after
+met_above held shown view want runs ends after limit found same all picked are is short =
+    let front : found ≡ take limit (ids_above view.world want held.links after) = is ∙ ap (λ (links : List LinkRow). take limit (filter (λ id. comes_before after id) (ids_in links))) (links_met view.world want runs ends are picked held.links all) in
+    front ∙ whole_front limit (ids_above view.world want held.links after) (subst (λ (ids : List (List ℕ)). length ids < limit) front short) ∙ ap (λ (lists : LinkLists). ids_above view.world want lists.links after) same
+
+-- ---- those that may be read
+
+and_turned : (a b : Bool) → (a && b) ≡ (b && a)
+and_turned true true = refl
+and_turned true false = refl
+and_turned false true = refl
+and_turned false false = refl
+
+filter_turned : {X : Type 0} (p q : X → Bool) (xs : List X) → filter p (filter q xs) ≡ filter q (filter p xs)
+filter_turned p q xs = sym (filter_both q p xs) ∙ (λ i. filter (λ x. and_turned (q x) (p x) i) xs) ∙ filter_both p q xs
+
+module _ (shown : Trees) (view : FlatView) (stands : Stands shown view) (session : ℕ) (account : Option (List ℕ)) (drawn : account ≡ account_of_session view.world session) (want : PlainWant) (sorted : IsStrictlySortedBy (slice_cmp nat_cmp) (ids_in shown.links.links)) where
+  abbrev links : List LinkRow
+  links = shown.links.links
+
+  -- of all that are wanted, those whose homes the session may read are the ones that it finds
+  ids_are_found : ids_read (reads_in shown account) links (ids_in (filter (is_wanted view.world want) links)) ≡ ids_found view.world session want
+  ids_are_found =
+      ids_by_homes (reads_in shown account) links (is_wanted view.world want) sorted
+      ∙ (λ i. ids_in (filter (λ (link : LinkRow). reads_are shown view stands session account drawn link.home i && is_wanted view.world want link) links))
+      ∙ sym (ids_are (λ (link : LinkRow). is_readable view.world session link.home && is_wanted view.world want link) links view.world.links sorted stands.link_table)
+
+  pub read_above : (after : List ℕ) → ids_read (reads_in shown account) links (ids_above view.world want links after) ≡ filter (λ id. comes_before after id) (ids_found view.world session want)
+  read_above after =
+      filter_turned (λ id. is_read (reads_in shown account) (link_in links id)) (λ id. comes_before after id) (ids_in (filter (is_wanted view.world want) links))
+      ∙ ap (filter (λ id. comes_before after id)) ids_are_found
+
+  -- the first of them
+  pub found_after : (after : List ℕ) (limit : ℕ) (met slice found : List (List ℕ)) → met ≡ ids_above view.world want links after → slice ≡ met → found ≡ take limit (ids_read (reads_in shown account) links slice) → found ≡ ids_after view.world session want after limit
+  found_after after limit met slice found are same is = is ∙ ap (λ (ids : List (List ℕ)). take limit (ids_read (reads_in shown account) links ids)) (same ∙ are) ∙ ap (take limit) (read_above after)
 
 -- ---- all of them
 
@@ -102,39 +136,49 @@ and_no true b e = e
 and_no false b e = refl
 
 -- where no link has the least id, all ids are above it
-all_above : (world : World) (want : PlainWant) → not (is_none (link_at world [])) ≡ false → All (λ id. comes_before [] id ≡ true) (ids_found world want)
-all_above world want none =
-    let some = ids_in (links_found world want) in
-    let not_least : All (λ (link : LinkRow). is_same link.id [] ≡ false) world.links = none_passes (λ (link : LinkRow). is_same link.id []) world.links (sym (found_or_not (λ (link : LinkRow). is_same link.id []) world.links) ∙ none) in
+all_above : (world : World) (session : ℕ) (want : PlainWant) → has_in world.links [] ≡ false → All (λ id. comes_before [] id ≡ true) (ids_found world session want)
+all_above world session want none =
+    let p = λ (link : LinkRow). is_readable world session link.home && is_wanted world want link in
+    let some = ids_in (links_found world session want) in
+    let not_least : All (λ (link : LinkRow). is_same link.id [] ≡ false) world.links = none_passes (λ (link : LinkRow). is_same link.id []) world.links none in
     let not_there : among [] (ascending some) ≡ false =
     with_keys-among some [] []
-    ∙ among_chosen [] id_of (is_wanted world want) world.links
-    ∙ any_alike (λ link. is_wanted world want link && is_eq (slice_cmp nat_cmp [] (id_of link))) (λ link. false) world.links (λ k d lt. and_no _ _ (least_or_not _ ∙ not_least k d lt))
+    ∙ among_chosen [] id_of p world.links
+    ∙ any_alike (λ link. p link && is_eq (slice_cmp nat_cmp [] (id_of link))) (λ link. false) world.links (λ k d lt. and_no _ _ (least_or_not _ ∙ not_least k d lt))
     ∙ none_any world.links
     in
     let each = none_passes (λ id. is_eq (slice_cmp nat_cmp [] id)) (ascending some) not_there in
     λ k d lt. above_least _ (each k d lt)
 
-pub found_all : (world : World) (want : PlainWant) (limit : ℕ) (found : List (List ℕ)) → not (is_none (link_at world [])) ≡ false → found ≡ ids_after world want [] limit → length found < limit → found ≡ ids_found world want
-found_all world want limit found none is short =
-    let above = all_pass (λ id. comes_before [] id) (ids_found world want) (all_above world want none) in
-    let front : found ≡ take limit (ids_found world want) = is ∙ ap (take limit) above in
-    front ∙ whole_front limit (ids_found world want) (subst (λ (ids : List (List ℕ)). length ids < limit) front short)
+-- where the table has none with it, the world has none
+pub none_least : (shown : Trees) (view : FlatView) → Stands shown view → has_in shown.links.links [] ≡ false → has_in view.world.links [] ≡ false
+none_least shown view stands none = sym (list_any-IsPermutation (is_of []) shown.links.links view.world.links stands.link_table) ∙ none
+
+all_pass_above : (world : World) (session : ℕ) (want : PlainWant) → has_in world.links [] ≡ false → filter (λ id. comes_before [] id) (ids_found world session want) ≡ ids_found world session want
+all_pass_above world session want none = all_pass (λ id. comes_before [] id) (ids_found world session want) (all_above world session want none)
+
+pub found_all : (world : World) (session : ℕ) (want : PlainWant) (limit : ℕ) (found : List (List ℕ)) → has_in world.links [] ≡ false → found ≡ ids_after world session want [] limit → length found < limit → found ≡ ids_found world session want
+found_all world session want limit found none is short =
+    let front : found ≡ take limit (ids_found world session want) = is ∙ ap (take limit) (all_pass_above world session want none) in
+    front ∙ whole_front limit (ids_found world session want) (subst (λ (ids : List (List ℕ)). length ids < limit) front short)
 
 -- ---- how many they are
 
 many_alike : {X : Type 0} (p : X → Bool) (xs ys : List X) → IsPermutation xs ys → count_by p xs ≡ count_by p ys
 many_alike p xs ys moved = sym (sum_by-IsPermutation (λ x. cond (p x) 1 0) xs ys moved)
 
-pub counted : (held : LinkLists) (shown : Trees) (view : FlatView) (want : PlainWant) (found : List (List ℕ)) → held ≡ shown.links → Stands shown view → IsStrictlySortedBy (slice_cmp nat_cmp) (ids_in held.links) → found ≡ ids_found view.world want
-    → length found ≡ length (links_found view.world want)
-counted held shown view want found same stands sorted is =
-    let moved = subst (λ (lists : LinkLists). IsPermutation lists.links view.world.links) (sym same) stands.link_table in
-    ap length (is ∙ ids_are view.world want held.links sorted moved)
-    ∙ length-map (filter (is_wanted view.world want) held.links) id_of
-    ∙ length-filter (is_wanted view.world want) held.links
-    ∙ many_alike (is_wanted view.world want) held.links view.world.links moved
-    ∙ sym (length-filter (is_wanted view.world want) view.world.links)
+pub counted : (shown : Trees) (view : FlatView) → Stands shown view → (session : ℕ) (account : Option (List ℕ)) → account ≡ account_of_session view.world session → (want : PlainWant) → IsStrictlySortedBy (slice_cmp nat_cmp) (ids_in shown.links.links) → has_in shown.links.links [] ≡ false
+    → (met slice : List (List ℕ)) (count : ℕ) → met ≡ ids_above view.world want shown.links.links [] → slice ≡ met → count ≡ length (ids_read (reads_in shown account) shown.links.links slice) → count ≡ length (links_found view.world session want)
+counted shown view stands session account drawn want sorted none met slice count are same is =
+    let p = λ (link : LinkRow). is_readable view.world session link.home && is_wanted view.world want link in
+    is
+    ∙ ap (λ (ids : List (List ℕ)). length (ids_read (reads_in shown account) shown.links.links ids)) (same ∙ are)
+    ∙ ap length (read_above shown view stands session account drawn want sorted [] ∙ all_pass_above view.world session want (none_least shown view stands none))
+    ∙ ap length (ids_are p shown.links.links view.world.links sorted stands.link_table)
+    ∙ length-map (filter p shown.links.links) id_of
+    ∙ length-filter p shown.links.links
+    ∙ many_alike p shown.links.links view.world.links stands.link_table
+    ∙ sym (length-filter p view.world.links)
 
 -- ---- whether there is a link
 
@@ -142,7 +186,6 @@ pub is_some_of : {X Y Z : Type 0} (f : X → Y) (g : Y → Z) (found : Option X)
 is_some_of f g None = refl
 is_some_of f g (Some x) = refl
 
-pub is_there : (held : LinkLists) (shown : Trees) (view : FlatView) (id : List ℕ) → held ≡ shown.links → Stands shown view → not (is_none (link_in held.links id)) ≡ not (is_none (link_at view.world id))
-is_there held shown view id same stands =
-    let moved = subst (λ (lists : LinkLists). IsPermutation lists.links view.world.links) (sym same) stands.link_table in
-    found_or_not (is_of id) held.links ∙ list_any-IsPermutation (is_of id) held.links view.world.links moved ∙ sym (found_or_not (is_of id) view.world.links)
+-- whoever may read it
+pub is_held : (found : Option LinkRow) (links : List LinkRow) (id : List ℕ) → found ≡ link_in links id → not (is_none found) ≡ has_in links id
+is_held found links id is = ap (λ (f : Option LinkRow). not (is_none f)) is ∙ found_or_not (is_of id) links

@@ -26,7 +26,7 @@ use Rattle.tree_world.specs.Changed.{after_change, MayWrite, MayComeIn}
 use Rattle.tree_world.proofs.AccessChanged.{first_opened_stand}
 use Rattle.tree_world.proofs.Opened.{others_do_not}
 use Rattle.tree_world.proofs.Once.{each_last}
-use Rattle.tree_world.proofs.Tables.{document_seen, has_none, root_added, content_added, documents_added}
+use Rattle.tree_world.proofs.Tables.{document_seen, has_none, root_added, content_added, mark_added, documents_added}
 use Rattle.tree_world.proofs.Roots.{RootsStand, root_stands, roots_added, texts_after, links_after, covered_after}
 use Rattle.tree_world.proofs.FlatRows.{text_as_is, links_as_are, other_text_as, other_links_as}
 
@@ -57,6 +57,7 @@ module _ (trees : Trees) (view : FlatView) (stand : Stands trees view) (roots : 
           bytes_once = stand.bytes_once;
           total = stand.total;
           counts = λ d. content_added trees.documents document made none d ∙ stand.counts d;
+          marks = λ d. mark_added trees.documents document made none d ∙ stand.marks d;
           link_table = stand.link_table;
           ids = stand.ids;
           ends = stand.ends;

@@ -1,9 +1,10 @@
--- Where a document shows the bytes of a run now.
-use Rattle.std.proofs.Common.{◌≡◌, ◌∙◌, ℕ, zero, suc, ◌+◌, ◌==◌, Bool, true, false, List, [], ◌∷◌, ◌++◌, map, Option, Some, None, cond, refl, sym, ap, subst, true≢false, All, IsPermutation, append-nil}
+-- Where a document shows the bytes of a run now, and which links and runs may be read.
+use Rattle.std.proofs.Common.{◌≡◌, ◌∙◌, ℕ, zero, suc, ◌+◌, ◌<◌, ◌≤◌, ◌==◌, ◌&&◌, Bool, true, false, List, [], ◌∷◌, ◌++◌, length, take, get_or, map, Option, Some, None, cond, refl, sym, ap, subst, true≢false, All, append-nil}
 use Rattle.std.specs.Prelude.{filter}
-use Rattle.std.specs.List.{find}
+use Rattle.std.specs.List.{find, list_any}
 use Rattle.std.specs.Cmp.Lexicographic.{bytes_decides}
-use Rattle.std.proofs.lemmas.List.Elements.{All-nil, All-cons, All-append, All-head, All-tail, All-weaker}
+use Rattle.std.proofs.lemmas.List.{map-append, take_all}
+use Rattle.std.proofs.lemmas.List.Elements.{All-nil, All-cons, All-append, All-head, All-tail, All-weaker, filter_more}
 use Rattle.tumbler.specs.Address.{IsDocument}
 use Rattle.tumbler.specs.declared.span.Span.{Span}
 use Rattle.febe_data.specs.declared.run.Run.{Run}
@@ -16,10 +17,11 @@ use Rattle.poom.specs.Picked.{is_picked}
 use Rattle.poom.specs.Shown.{positions_in, intervals_in}
 use Rattle.poom.specs.Runs as poom
 use Rattle.doc_table.specs.DocumentRows.{root_in}
-use Rattle.links.specs.LinkLists.{LinkLists, IsRun, run_span, link_in, is_of}
+use Rattle.links.specs.LinkLists.{IsRun, run_span, link_in, is_of}
 use Rattle.world_rules.specs.declared.rows.Row.{Row}
 use Rattle.world_rules.specs.declared.rows.Part.TheVariants.{Text}
-use Rattle.world_rules.specs.World.{LinkRow, is_same, is_text_of}
+use Rattle.world_rules.specs.World.{World, LinkRow, is_same, is_text_of, account_of_session}
+use Rattle.world_rules.specs.Readable.{is_readable}
 use Rattle.world_rules.specs.Picking.{Stretch, stretches_on, stretches, interval, intervals, places_of, is_in_run}
 use Rattle.world_rules.specs.Edits.{new_rows}
 use Rattle.world_rules.specs.Finding.{link_at}
@@ -27,11 +29,15 @@ use Rattle.world_rules.specs.declared.ends.End.{End}
 use Rattle.world_rules.specs.Ends.{run_now, runs_of_end}
 use Rattle.world_rules.specs.Answers.{follow_of}
 use Rattle.febe_data.specs.declared.spec.Spec.{Spec}
-use Rattle.febe_data.specs.Plain.{plain_spec}
+use Rattle.febe_data.specs.Plain.{PlainSpec, plain_spec}
 use Rattle.world_rules.specs.FlatView.{FlatView}
 use Rattle.world_rules.proofs.ListTests.{filter_both}
 use Rattle.tree_world.specs.Trees.{Trees, text_at, text_in}
 use Rattle.tree_world.specs.Standing.{Stands, EachIdOnce}
+use Rattle.tree_world.specs.inside.Reads.{reads_in, link_if, now_for}
+use Rattle.tree_world.proofs.Options.{one_value}
+use Rattle.tree_world.proofs.Found.{both, either_none}
+use Rattle.tree_world.proofs.MayRead.{reads_are}
 use Rattle.tree_world.proofs.Lists.{none_passes, IsOnly, same_found}
 use Rattle.tree_world.proofs.Places.{byte_met, link_unmet}
 
@@ -142,35 +148,82 @@ nothing_now trees shown view run same at stands =
 same_places : (a b : List ℕ) → is_same a b ≡ true → a ≡ b
 same_places a b e = (bytes_decides a b).0 e
 
-none_of : (id : List ℕ) (x : LinkRow) (rows : List LinkRow) → All (λ m. is_of id m ≡ false) rows → All (IsOnly (is_of id) x) rows
-none_of id x rows none = All-weaker (λ m. is_of id m ≡ false) (IsOnly (is_of id) x) (λ m e passes. absurd (true≢false (sym passes ∙ e))) rows none
+module _ (p : LinkRow → Bool) (id : List ℕ) (of : (l : LinkRow) → p l ≡ true → is_of id l ≡ true) where
+  none_of : (x : LinkRow) (rows : List LinkRow) → All (λ m. is_of id m ≡ false) rows → All (IsOnly p x) rows
+  none_of x rows none = All-weaker (λ m. is_of id m ≡ false) (IsOnly p x) (λ m e passes. absurd (true≢false (sym (of m passes) ∙ e))) rows none
 
-one_of_id : (id : List ℕ) (rows : List LinkRow) → EachIdOnce rows → (x : LinkRow) → find (is_of id) rows ≡ Some x → All (IsOnly (is_of id) x) rows
-one_of_id id [] once x e = All-nil (IsOnly (is_of id) x)
-one_of_id id (l ∷ rows) once x e = step (is_of id l) refl e (one_of_id id rows once.1 x)
-  where
-    value : (d : LinkRow) → Option LinkRow → LinkRow
-    value d (Some y) = y
-    value d None = d
+  -- of links that have one id, one passes
+  one_of_id : (rows : List LinkRow) → EachIdOnce rows → (x : LinkRow) → find p rows ≡ Some x → All (IsOnly p x) rows
+  one_of_id [] once x e = All-nil (IsOnly p x)
+  one_of_id (l ∷ rows) once x e = step (p l) refl e (one_of_id rows once.1 x)
+    where
+      step : (b : Bool) → p l ≡ b → cond b (Some l) (find p rows) ≡ Some x → (find p rows ≡ Some x → All (IsOnly p x) rows) → All (IsOnly p x) (l ∷ rows)
+      step true is h rest =
+          let own : l ≡ x = one_value l x h in
+          let none = none_of x rows (subst (λ (i : List ℕ). All (λ m. is_of i m ≡ false) rows) (same_places l.id id (of l is)) (none_passes (is_of l.id) rows once.0)) in
+          All-cons (IsOnly p x) l rows (λ _. own) none
+      step false is h rest = All-cons (IsOnly p x) l rows (λ passes. absurd (true≢false (sym passes ∙ is))) (rest h)
 
-    step : (b : Bool) → is_of id l ≡ b → cond b (Some l) (find (is_of id) rows) ≡ Some x → (find (is_of id) rows ≡ Some x → All (IsOnly (is_of id) x) rows) → All (IsOnly (is_of id) x) (l ∷ rows)
-    step true is h rest =
-        let own : l ≡ x = ap (value l) h in
-        let none = none_of id x rows (subst (λ (i : List ℕ). All (λ m. is_of i m ≡ false) rows) (same_places l.id id is) (none_passes (is_of l.id) rows once.0)) in
-        All-cons (IsOnly (is_of id) x) l rows (λ _. own) none
-    step false is h rest = All-cons (IsOnly (is_of id) x) l rows (λ passes. absurd (true≢false (sym passes ∙ is))) (rest h)
+module _ (may : List ℕ → Bool) (id : List ℕ) where
+  abbrev is_open : LinkRow → Bool
+  is_open link = may link.home && is_of id link
 
-pub link_is : (held : LinkLists) (shown : Trees) (view : FlatView) (id : List ℕ) → held ≡ shown.links → Stands shown view → link_in held.links id ≡ link_at view.world id
-link_is held shown view id same stands =
-    let moved = subst (λ (lists : LinkLists). IsPermutation lists.links view.world.links) (sym same) stands.link_table in
-    let once = subst (λ (lists : LinkLists). EachIdOnce lists.links) (sym same) stands.ids in
-    same_found (is_of id) held.links view.world.links moved (one_of_id id held.links once)
+  none_open : (rows : List LinkRow) → list_any (is_of id) rows ≡ false → find is_open rows ≡ None
+  none_open [] none = refl
+  none_open (l ∷ rows) none =
+      let parts = either_none (is_of id l) (list_any (is_of id) rows) none in
+      ap (λ (b : Bool). cond (may l.home && b) (Some l) (find is_open rows)) parts.0 ∙ passed (may l.home) ∙ none_open rows parts.1
+    where
+      passed : (m : Bool) → cond (m && false) (Some l) (find is_open rows) ≡ find is_open rows
+      passed true = refl
+      passed false = refl
 
-pub nowhere_now : (held : LinkLists) (shown : Trees) (view : FlatView) (id : List ℕ) (end : End) (made : List Spec) → held ≡ shown.links → Stands shown view → None ≡ link_in held.links id → made ≡ []
-    → map plain_spec made ≡ follow_of view.world (link_at view.world id) (Some end)
-nowhere_now held shown view id end made same stands none empty = ap (map plain_spec) empty ∙ ap (λ (found : Option LinkRow). follow_of view.world found (Some end)) (none ∙ link_is held shown view id same stands)
+  -- looked up by the id, and then asked for its home
+  found_if : (rows : List LinkRow) → EachIdOnce rows → link_if may (find (is_of id) rows) ≡ find is_open rows
+  found_if [] once = refl
+  found_if (l ∷ rows) once = step (is_of id l) (may l.home) refl refl (found_if rows once.1)
+    where
+      step : (b m : Bool) → is_of id l ≡ b → may l.home ≡ m → link_if may (find (is_of id) rows) ≡ find is_open rows → link_if may (cond b (Some l) (find (is_of id) rows)) ≡ cond (m && b) (Some l) (find is_open rows)
+      step true true e f rest = ap (λ (c : Bool). cond c (Some l) None) f
+      step true false e f rest = ap (λ (c : Bool). cond c (Some l) None) f ∙ sym (none_open rows (subst (λ (i : List ℕ). list_any (is_of i) rows ≡ false) (same_places l.id id e) once.0))
+      step false true e f rest = rest
+      step false false e f rest = rest
 
-pub there_now : (held : LinkLists) (shown : Trees) (view : FlatView) (id : List ℕ) (end : End) (link : LinkRow) (runs : List Run) (made : List Spec) → held ≡ shown.links → Stands shown view → Some link ≡ link_in held.links id
-    → runs ≡ runs_of_end end link → map plain_spec made ≡ map (run_now view.world) runs → map plain_spec made ≡ follow_of view.world (link_at view.world id) (Some end)
-there_now held shown view id end link runs made same stands there are is =
-    is ∙ ap (map (run_now view.world)) are ∙ ap (λ (found : Option LinkRow). follow_of view.world found (Some end)) (there ∙ link_is held shown view id same stands)
+module _ (shown : Trees) (view : FlatView) (stands : Stands shown view) (session : ℕ) (account : Option (List ℕ)) (drawn : account ≡ account_of_session view.world session) (id : List ℕ) where
+  pub link_is : link_if (reads_in shown account) (link_in shown.links.links id) ≡ link_at view.world session id
+  link_is =
+      let p = λ (link : LinkRow). is_readable view.world session link.home && is_same link.id id in
+      found_if (reads_in shown account) id shown.links.links stands.ids
+      ∙ (λ i. find (λ (link : LinkRow). reads_are shown view stands session account drawn link.home i && is_of id link) shown.links.links)
+      ∙ same_found p shown.links.links view.world.links stands.link_table (one_of_id p id (λ l e. (both (is_readable view.world session l.home) (is_of id l) e).1) shown.links.links stands.ids)
+
+  pub nowhere_now : (end : End) (made : List Spec) → None ≡ link_if (reads_in shown account) (link_in shown.links.links id) → made ≡ [] → map plain_spec made ≡ follow_of view.world session (link_at view.world session id) (Some end)
+  nowhere_now end made none empty = ap (map plain_spec) empty ∙ ap (λ (found : Option LinkRow). follow_of view.world session found (Some end)) (none ∙ link_is)
+
+  pub there_now : (end : End) (link : LinkRow) (runs : List Run) (made : List Spec) → Some link ≡ link_if (reads_in shown account) (link_in shown.links.links id) → runs ≡ runs_of_end end link → map plain_spec made ≡ now_for view.world shown account runs
+      → map plain_spec made ≡ follow_of view.world session (link_at view.world session id) (Some end)
+  there_now end link runs made there are is =
+      is
+      ∙ ap (now_for view.world shown account) are
+      ∙ (λ i. map (run_now view.world) (filter (λ (run : Run). reads_are shown view stands session account drawn run.origin i) (runs_of_end end link)))
+      ∙ ap (λ (found : Option LinkRow). follow_of view.world session found (Some end)) (there ∙ link_is)
+
+-- ---- one run after the other
+
+module _ (world : World) (trees : Trees) (account : Option (List ℕ)) where
+  now_or_not : (b : Bool) (some : List Run) (run : Run) → map (run_now world) some ++ cond b (run_now world run ∷ []) [] ≡ map (run_now world) (some ++ cond b (run ∷ []) [])
+  now_or_not true some run = sym (map-append (run_now world) some (run ∷ []))
+  now_or_not false some run = append-nil (map (run_now world) some) ∙ sym (ap (map (run_now world)) (append-nil some))
+
+  pub now_more : (runs : List Run) (k : ℕ) (run : Run) (old new : List PlainSpec) → k < length runs → run ≡ get_or runs k run → old ≡ now_for world trees account (take k runs)
+      → new ≡ old ++ cond (reads_in trees account run.origin) (run_now world run ∷ []) [] → new ≡ now_for world trees account (take (k + 1) runs)
+  now_more runs k run old new lt here before is =
+      let may = λ (r : Run). reads_in trees account r.origin in
+      is
+      ∙ ap (λ (specs : List PlainSpec). specs ++ cond (may run) (run_now world run ∷ []) []) before
+      ∙ now_or_not (may run) (filter may (take k runs)) run
+      ∙ ap (λ (r : Run). map (run_now world) (filter may (take k runs) ++ cond (may r) (r ∷ []) [])) here
+      ∙ ap (map (run_now world)) (sym (filter_more may runs k run lt))
+
+  pub now_all : (runs : List Run) (k : ℕ) (made : List PlainSpec) → length runs ≤ k → made ≡ now_for world trees account (take k runs) → made ≡ now_for world trees account runs
+  now_all runs k made past is = is ∙ ap (now_for world trees account) (take_all k runs past)

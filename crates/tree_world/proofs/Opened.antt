@@ -27,6 +27,7 @@ with_access trees view access open_rows accounts stand made = record {
   bytes_once = stand.bytes_once;
   total = stand.total;
   counts = stand.counts;
+  marks = stand.marks;
   link_table = stand.link_table;
   ids = stand.ids;
   ends = stand.ends;

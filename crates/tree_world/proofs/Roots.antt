@@ -62,7 +62,7 @@ module _ (nodes more : List (Shape ℕ)) (kept : KeepsRows nodes more) (grows : 
   roots_still = All-weaker (λ (row : DocumentRow Node). IsRoot nodes row.root.0) IsRooted (λ row h. root_grows nodes more row.root.0 kept grows h) rows stand
 
   pub roots_added : RootsStand more (added rows document made)
-  roots_added = All-insert_key row_cmp (record { document = document; root = made; content = 0 }) IsRooted rows roots_still root
+  roots_added = All-insert_key row_cmp (record { document = document; root = made; content = 0; published = false }) IsRooted rows roots_still root
 
   pub roots_set : RootsStand more (with_root rows document made)
   roots_set =

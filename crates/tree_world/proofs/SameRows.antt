@@ -14,7 +14,7 @@ use Rattle.granfilade.specs.Puts.{IsContent}
 use Rattle.poom.specs.Laid as laid
 use Rattle.poom.specs.Laid.{IsRoot}
 use Rattle.doc_table.specs.declared.rows.DocumentRow.{DocumentRow}
-use Rattle.doc_table.specs.DocumentRows.{documents_in, content_in, root_in, with_root}
+use Rattle.doc_table.specs.DocumentRows.{documents_in, content_in, published_in, root_in, with_root}
 use Rattle.spanfilade.specs.Index.{rows_in_index}
 use Rattle.links.specs.LinkLists.{rows_at}
 use Rattle.access_table.specs.AccessRows.{AccessRows, mode_in, account_in}
@@ -24,7 +24,7 @@ use Rattle.world_rules.specs.FlatView.{FlatView, entries_in}
 use Rattle.tree_world.specs.Trees.{Trees, text_at, links_at, text_in, IsCounted, AreCounted, AreDue, AreSound}
 use Rattle.tree_world.specs.Standing.{Stands, EndsStand, EachIdOnce, link_rows, covers, IsCovered, byte_row, is_known}
 use Rattle.tree_world.specs.inside.SameRows.{SameRows}
-use Rattle.tree_world.proofs.Tables.{root_set, root_documents, root_contents}
+use Rattle.tree_world.proofs.Tables.{root_set, root_documents, root_contents, root_marks}
 use Rattle.tree_world.proofs.Found.{address_is}
 use Rattle.tree_world.proofs.Roots.{RootsStand, roots_set, text_kept, links_kept}
 
@@ -63,6 +63,7 @@ module _ (before after : Trees) (same : SameRows before after) where
     bytes_once = stand.bytes_once;
     total = same.content ∙ stand.total;
     counts = λ document. same.counts document ∙ stand.counts document;
+    marks = λ document. same.marks document ∙ stand.marks document;
     link_table = subst (λ links. IsPermutation links view.world.links) (sym same.link_table) stand.link_table;
     ids = subst EachIdOnce (sym same.link_table) stand.ids;
     ends = ends_over stand.ends;
@@ -111,6 +112,7 @@ same_trees before after roots nodes documents contents content index link_table 
   content = content;
   documents = ap documents_in documents;
   counts = λ d. ap (λ rows. content_in rows d) documents;
+  marks = λ d. ap (λ rows. published_in rows d) documents;
   texts = λ d i. text_at (nodes i) (root_in (documents i) d);
   links = λ d i. links_at (nodes i) (root_in (documents i) d);
   roots = subst (λ ds. RootsStand after.nodes ds) (sym documents) (subst (λ xs. RootsStand xs before.documents) (sym nodes) roots);
@@ -143,6 +145,7 @@ module _ (before after : Trees) (roots : RootsStand before.nodes before.document
     content = content;
     documents = ap documents_in now ∙ root_documents before.documents document made;
     counts = λ d. ap (λ ds. content_in ds d) now ∙ root_contents before.documents document made d;
+    marks = λ d. ap (λ ds. published_in ds d) now ∙ root_marks before.documents document made d;
     texts = read_same text_at (ap laid.texts rows) (text_kept before.nodes after.nodes kept before.documents roots);
     links = read_same links_at (ap laid.links rows) (links_kept before.nodes after.nodes kept before.documents roots);
     roots = subst (λ ds. RootsStand after.nodes ds) (sym now) (roots_set before.nodes after.nodes kept grows before.documents roots document made is_root);

@@ -1,11 +1,11 @@
 -- What trees hold after a sweep.
 use Rattle.std.proofs.Common.{◌≡◌, ◌∙◌, ℕ, zero, suc, ◌+◌, ◌<◌, ◌||◌, Bool, true, false, cond, List, [], ◌∷◌, ◌++◌, length, take, map, get_or, slice_get, max, fold, Option, Some, None, refl, sym, ap, subst, true≢false, arith}
 use Rattle.std.specs.Prelude.{All}
-use Rattle.std.specs.List.{find, list_any, Contains}
+use Rattle.std.specs.List.{find, list_any}
 use Rattle.std.specs.Option.{option_map, unwrap_or}
 use Rattle.std.proofs.lemmas.List.{map_more}
 use Rattle.std.proofs.lemmas.List.Folds.{fold-map}
-use Rattle.std.proofs.lemmas.List.Elements.{All-nil, All-cons, All-head, All-tail, All-weaker, All-map, All-contains_itself}
+use Rattle.std.proofs.lemmas.List.Elements.{All-nil, All-cons, All-head, All-tail, All-weaker, All-map}
 use Rattle.enfilade_core.specs.declared.tree.Node.{Node}
 use Rattle.enfilade_core.specs.declared.tree.Row.{Row}
 use Rattle.enfilade_core.specs.Rows.{Shape, rows_of}
@@ -20,7 +20,7 @@ use Rattle.links.specs.LinkLists.{LinkLists}
 use Rattle.poom.specs.Laid as laid
 use Rattle.poom.specs.Laid.{IsRoot, IsOneDocument}
 use Rattle.doc_table.specs.declared.rows.DocumentRow.{DocumentRow}
-use Rattle.doc_table.specs.DocumentRows.{is_of, documents_in, content_in, root_in, with_roots}
+use Rattle.doc_table.specs.DocumentRows.{is_of, documents_in, content_in, published_in, root_in, with_roots}
 use Rattle.world_rules.specs.FlatView.{FlatView}
 use Rattle.tree_world.specs.Trees.{Trees, AreSound, text_at, links_at}
 use Rattle.tree_world.specs.Standing.{Stands}
@@ -149,6 +149,18 @@ rooted_contents (row ∷ rows) (m ∷ made) d = step (is_of d row) (rooted_conte
     step true rest = refl
     step false rest = rest
 
+abbrev mark_of : Option (DocumentRow Node) → Bool
+mark_of found = unwrap_or (option_map (λ (row : DocumentRow Node). row.published) found) false
+
+pub rooted_marks : (rows : List (DocumentRow Node)) (made : List Node) (d : List ℕ) → published_in (with_roots made rows) d ≡ published_in rows d
+rooted_marks rows [] d = refl
+rooted_marks [] (m ∷ made) d = refl
+rooted_marks (row ∷ rows) (m ∷ made) d = step (is_of d row) (rooted_marks rows made d)
+  where
+    step : (b : Bool) → published_in (with_roots made rows) d ≡ published_in rows d → mark_of (cond b (Some (record row { root = m })) (find (is_of d) (with_roots made rows))) ≡ mark_of (cond b (Some row) (find (is_of d) rows))
+    step true rest = refl
+    step false rest = rest
+
 pub rooted_numbers : (rows : List (DocumentRow Node)) (made : List Node) → length made ≡ length rows → roots_in (with_roots made rows) ≡ numbers made
 rooted_numbers [] [] long = refl
 rooted_numbers (row ∷ rows) [] long = absurd (omega (arith, long))
@@ -213,6 +225,7 @@ module _ (before : Trees) (contents : ContentTree) (index from to three : IndexT
     content = refl;
     documents = ap documents_in now ∙ rooted_documents before.documents made;
     counts = λ d. ap (λ ds. content_in ds d) now ∙ rooted_contents before.documents made d;
+    marks = λ d. ap (λ ds. published_in ds d) now ∙ rooted_marks before.documents made d;
     texts = λ d. ap (λ ds. text_at nodes (root_in ds d)) now ∙ rooted_reads text_at (λ ns. refl) (λ ns more m r h. ap laid.texts h) before.nodes nodes before.documents made by_documents.rows d;
     links = λ d. ap (λ ds. links_at nodes (root_in ds d)) now ∙ rooted_reads links_at (λ ns. refl) (λ ns more m r h. ap laid.links h) before.nodes nodes before.documents made by_documents.rows d;
     roots = subst (λ ds. RootsStand nodes ds) (sym now) (rooted_stand nodes before.documents made by_documents.long by_documents.each);

@@ -10,7 +10,7 @@ use Rattle.std.proofs.lemmas.List.Elements.{All-head, All-tail, All-cons, All-ni
 use Rattle.std.proofs.lemmas.List.Sorted.{list_any-IsPermutation, IsPermutation-refl, IsPermutation-sym, IsPermutation-cons, IsPermutation-to_front}
 use Rattle.enfilade_core.specs.declared.tree.Node.{Node}
 use Rattle.doc_table.specs.declared.rows.DocumentRow.{DocumentRow}
-use Rattle.doc_table.specs.DocumentRows.{is_of, documents_in, has_in, root_in, content_in, row_cmp, added, removed, with_root, with_content}
+use Rattle.doc_table.specs.DocumentRows.{is_of, documents_in, has_in, root_in, content_in, published_in, row_cmp, added, removed, with_root, with_content, with_mark}
 use Rattle.world_rules.specs.World.{is_same}
 use Rattle.tree_world.proofs.Options.{none_there, one_value}
 use Rattle.tree_world.proofs.Found.{either_none, false_when, address_is, address_alike, find_in_own, find_in_other}
@@ -20,6 +20,18 @@ root_of found = option_map (λ (row : DocumentRow Node). row.root) found
 
 abbrev content_of : Option (DocumentRow Node) → ℕ
 content_of found = unwrap_or (option_map (λ (row : DocumentRow Node). row.content) found) 0
+
+abbrev mark_of : Option (DocumentRow Node) → Bool
+mark_of found = unwrap_or (option_map (λ (row : DocumentRow Node). row.published) found) false
+
+-- where none is found it is not there
+has_not : (rows : List (DocumentRow Node)) (document : List ℕ) → find (is_of document) rows ≡ None → has_in rows document ≡ false
+has_not [] document none = refl
+has_not (row ∷ rows) document none = step (is_of document row) none (has_not rows document)
+  where
+    step : (b : Bool) → cond b (Some row) (find (is_of document) rows) ≡ None → (find (is_of document) rows ≡ None → has_in rows document ≡ false) → (b || has_in rows document) ≡ false
+    step true h rest = absurd (none_there row h)
+    step false h rest = rest h
 
 -- ---- one row is changed
 
@@ -63,6 +75,13 @@ module _ (rows : List (DocumentRow Node)) (document : List ℕ) (root : Node) wh
       step true = refl
       step false = refl
 
+  rooted_mark : (row : DocumentRow Node) → (rooted row).published ≡ row.published
+  rooted_mark row = step (is_of document row)
+    where
+      step : (b : Bool) → (cond b (record row { root = root }) row).published ≡ row.published
+      step true = refl
+      step false = refl
+
   pub root_documents : documents_in (with_root rows document root) ≡ documents_in rows
   root_documents = same_documents rooted rooted_same rows
 
@@ -72,6 +91,13 @@ module _ (rows : List (DocumentRow Node)) (document : List ℕ) (root : Node) wh
       step : (found : Option (DocumentRow Node)) → content_of (option_map rooted found) ≡ content_of found
       step None = refl
       step (Some row) = rooted_content row
+
+  pub root_marks : (d : List ℕ) → published_in (with_root rows document root) d ≡ published_in rows d
+  root_marks d = ap mark_of (changed_found rooted rooted_same d rows) ∙ step (find (is_of d) rows)
+    where
+      step : (found : Option (DocumentRow Node)) → mark_of (option_map rooted found) ≡ mark_of found
+      step None = refl
+      step (Some row) = rooted_mark row
 
   -- the document gets the root, where it is there; others keep theirs
   pub root_set : (old : Node) → root_in rows document ≡ Some old → (d : List ℕ) → root_in (with_root rows document root) d ≡ cond (is_same d document) (Some root) (root_in rows d)
@@ -109,6 +135,13 @@ module _ (rows : List (DocumentRow Node)) (document : List ℕ) (bytes : ℕ) wh
       step true = refl
       step false = refl
 
+  filled_mark : (row : DocumentRow Node) → (filled row).published ≡ row.published
+  filled_mark row = step (is_of document row)
+    where
+      step : (b : Bool) → (cond b (record row { content = bytes }) row).published ≡ row.published
+      step true = refl
+      step false = refl
+
   pub content_documents : documents_in (with_content rows document bytes) ≡ documents_in rows
   content_documents = same_documents filled filled_same rows
 
@@ -118,6 +151,13 @@ module _ (rows : List (DocumentRow Node)) (document : List ℕ) (bytes : ℕ) wh
       step : (found : Option (DocumentRow Node)) → root_of (option_map filled found) ≡ root_of found
       step None = refl
       step (Some row) = ap Some (filled_root row)
+
+  pub content_marks : (d : List ℕ) → published_in (with_content rows document bytes) d ≡ published_in rows d
+  content_marks d = ap mark_of (changed_found filled filled_same d rows) ∙ step (find (is_of d) rows)
+    where
+      step : (found : Option (DocumentRow Node)) → mark_of (option_map filled found) ≡ mark_of found
+      step None = refl
+      step (Some row) = filled_mark row
 
   pub content_set : (old : Node) → root_in rows document ≡ Some old → (d : List ℕ) → content_in (with_content rows document bytes) d ≡ cond (is_same d document) bytes (content_in rows d)
   content_set old there d = ap content_of (changed_found filled filled_same d rows) ∙ step (is_same d document) refl
@@ -134,6 +174,66 @@ module _ (rows : List (DocumentRow Node)) (document : List ℕ) (bytes : ℕ) wh
 
       step : (b : Bool) → is_same d document ≡ b → content_of (option_map filled (find (is_of d) rows)) ≡ cond b bytes (content_in rows d)
       step true e = subst (λ a. content_of (option_map filled (find (is_of a) rows)) ≡ bytes) (sym (address_is d document e)) (own (find (is_of document) rows) refl there)
+      step false e = other e (find (is_of d) rows) refl
+
+module _ (rows : List (DocumentRow Node)) (document : List ℕ) (mark : Bool) where
+  abbrev marked : DocumentRow Node → DocumentRow Node
+  marked row = cond (is_of document row) (record row { published = mark }) row
+
+  marked_same : (row : DocumentRow Node) → (marked row).document ≡ row.document
+  marked_same row = step (is_of document row)
+    where
+      step : (b : Bool) → (cond b (record row { published = mark }) row).document ≡ row.document
+      step true = refl
+      step false = refl
+
+  marked_root : (row : DocumentRow Node) → (marked row).root ≡ row.root
+  marked_root row = step (is_of document row)
+    where
+      step : (b : Bool) → (cond b (record row { published = mark }) row).root ≡ row.root
+      step true = refl
+      step false = refl
+
+  marked_content : (row : DocumentRow Node) → (marked row).content ≡ row.content
+  marked_content row = step (is_of document row)
+    where
+      step : (b : Bool) → (cond b (record row { published = mark }) row).content ≡ row.content
+      step true = refl
+      step false = refl
+
+  pub mark_documents : documents_in (with_mark rows document mark) ≡ documents_in rows
+  mark_documents = same_documents marked marked_same rows
+
+  pub mark_roots : (d : List ℕ) → root_in (with_mark rows document mark) d ≡ root_in rows d
+  mark_roots d = ap root_of (changed_found marked marked_same d rows) ∙ step (find (is_of d) rows)
+    where
+      step : (found : Option (DocumentRow Node)) → root_of (option_map marked found) ≡ root_of found
+      step None = refl
+      step (Some row) = ap Some (marked_root row)
+
+  pub mark_contents : (d : List ℕ) → content_in (with_mark rows document mark) d ≡ content_in rows d
+  mark_contents d = ap content_of (changed_found marked marked_same d rows) ∙ step (find (is_of d) rows)
+    where
+      step : (found : Option (DocumentRow Node)) → content_of (option_map marked found) ≡ content_of found
+      step None = refl
+      step (Some row) = marked_content row
+
+  -- the document gets the mark, where it is there; others keep theirs
+  pub mark_set : has_in rows document ≡ true → (d : List ℕ) → published_in (with_mark rows document mark) d ≡ cond (is_same d document) mark (published_in rows d)
+  mark_set there d = ap mark_of (changed_found marked marked_same d rows) ∙ step (is_same d document) refl
+    where
+      own : (found : Option (DocumentRow Node)) → find (is_of document) rows ≡ found → mark_of (option_map marked found) ≡ mark
+      own None is = absurd (true≢false (sym there ∙ has_not rows document is))
+      own (Some row) is = ap (λ b. (cond b (record row { published = mark }) row).published) (found_own document rows row is)
+
+      other : is_same d document ≡ false → (found : Option (DocumentRow Node)) → find (is_of d) rows ≡ found → mark_of (option_map marked found) ≡ mark_of found
+      other differs None is = refl
+      other differs (Some row) is =
+          let at : row.document ≡ d = address_is row.document d (found_own d rows row is) in
+          ap (λ b. (cond b (record row { published = mark }) row).published) (ap (λ a. is_same a document) at ∙ differs)
+
+      step : (b : Bool) → is_same d document ≡ b → mark_of (option_map marked (find (is_of d) rows)) ≡ cond b mark (published_in rows d)
+      step true e = subst (λ a. mark_of (option_map marked (find (is_of a) rows)) ≡ mark) (sym (address_is d document e)) (own (find (is_of document) rows) refl)
       step false e = other e (find (is_of d) rows) refl
 
 -- ---- one row comes in
@@ -161,7 +261,7 @@ document_seen rows documents document moved = among rows ∙ list_any-IsPermutat
 
 module _ (rows : List (DocumentRow Node)) (document : List ℕ) (root : Node) (none : has_in rows document ≡ false) where
   abbrev fresh : DocumentRow Node
-  fresh = record { document = document; root = root; content = 0 }
+  fresh = record { document = document; root = root; content = 0; published = false }
 
   abbrev Apart : DocumentRow Node → Type 0
   Apart row = row_cmp fresh row ≡ Equal → ⊥
@@ -192,6 +292,13 @@ module _ (rows : List (DocumentRow Node)) (document : List ℕ) (root : Node) (n
       step : (b : Bool) → is_same d document ≡ b → content_in (added rows document root) d ≡ content_in rows d
       step true e = ap content_of (find_in_own (is_of d) row_cmp fresh rows (all_apart rows none) (none_alike d e) (fresh_seen d true e)) ∙ sym (ap content_of (none_alike d e))
       step false e = ap content_of (find_in_other (is_of d) row_cmp fresh rows (fresh_seen d false e))
+
+  pub mark_added : (d : List ℕ) → published_in (added rows document root) d ≡ published_in rows d
+  mark_added d = step (is_same d document) refl
+    where
+      step : (b : Bool) → is_same d document ≡ b → published_in (added rows document root) d ≡ published_in rows d
+      step true e = ap mark_of (find_in_own (is_of d) row_cmp fresh rows (all_apart rows none) (none_alike d e) (fresh_seen d true e)) ∙ sym (ap mark_of (none_alike d e))
+      step false e = ap mark_of (find_in_other (is_of d) row_cmp fresh rows (fresh_seen d false e))
 
   added_among : (rs : List (DocumentRow Node)) → All Apart rs → IsPermutation (documents_in (insert_key row_cmp rs fresh)) (documents_in rs ++ document ∷ [])
   added_among [] apart = IsPermutation-refl _

@@ -23,7 +23,7 @@ use Rattle.world_rules.specs.FlatView.{FlatView}
 use Rattle.tree_world.specs.Trees.{Trees, text_at, links_at, AreCounted, IsCounted}
 use Rattle.tree_world.specs.Standing.{Stands, link_rows, IsCovered}
 use Rattle.tree_world.specs.Changed.{after_change}
-use Rattle.tree_world.proofs.Tables.{found_own, root_set, root_contents, content_documents, content_roots, content_set}
+use Rattle.tree_world.proofs.Tables.{found_own, root_set, root_contents, content_documents, content_roots, content_marks, content_set}
 use Rattle.tree_world.proofs.Roots.{RootsStand, taken_back}
 use Rattle.tree_world.proofs.Found.{address_is, address_alike}
 use Rattle.std.specs.List.{find}
@@ -83,6 +83,7 @@ module _ (trees : Trees) (view : FlatView) (stand : Stands trees view) (counted 
     bytes_once = bytes_once trees.documents (content trees.contents) document first text view.world.bytes counted past stand.bytes stand.bytes_once;
     total = total_is ∙ (λ i. stand.total i + sym (new_long document first text) i) ∙ sym (length-append view.world.bytes (new_bytes document first text));
     counts = counts_now;
+    marks = λ d. content_marks trees.documents document bytes d ∙ stand.marks d;
     link_table = stand.link_table;
     ids = stand.ids;
     ends = stand.ends;

@@ -17,7 +17,7 @@ use Rattle.granfilade.specs.Content.{ContentTree}
 use Rattle.spanfilade.specs.Index.{IndexTree}
 use Rattle.febe_data.specs.declared.access.Mode.TheVariants.{Write}
 use Rattle.doc_table.specs.declared.rows.DocumentRow.{DocumentRow}
-use Rattle.doc_table.specs.DocumentRows.{is_of, documents_in, has_in, root_in, content_in, added, removed, with_root, with_content}
+use Rattle.doc_table.specs.DocumentRows.{is_of, documents_in, has_in, root_in, content_in, published_in, added, removed, with_root, with_content, with_mark}
 use Rattle.access_table.specs.AccessRows.{AccessRows, mode_in, row_cmp, opened, closed}
 use Rattle.links.specs.LinkLists as links
 use Rattle.links.specs.LinkLists.{LinkLists, AllGrow}
@@ -27,21 +27,21 @@ use Rattle.world_rules.specs.World.{LinkRow, is_same, opens}
 use Rattle.world_rules.specs.Apply.{without_opening}
 use Rattle.world_rules.specs.declared.rows.SessionRow.{SessionRow}
 use Rattle.world_rules.specs.FlatView.{FlatView, with_entry}
-use Rattle.febe_data.specs.Plain.{PlainChange, restarted, began, ended, account_changed, document_opened, document_closed, document_created, version_made, copy_opened, text_inserted, span_deleted, blocks_swapped, specs_copied, link_made}
+use Rattle.febe_data.specs.Plain.{PlainChange, restarted, began, ended, account_changed, document_opened, document_closed, document_created, version_made, copy_opened, text_inserted, span_deleted, blocks_swapped, specs_copied, link_made, document_published}
 use Rattle.tree_world.specs.declared.undoing.UndoRecord.{UndoRecord}
 use Rattle.tree_world.specs.declared.undoing.Touched.{Touched}
 use Rattle.tree_world.specs.declared.undoing.Touched.TheVariants as touched
 use Rattle.tree_world.specs.Trees.{Trees, AreSound}
 use Rattle.tree_world.specs.Nodes.{nodes_in, AllGrown}
 use Rattle.tree_world.specs.Standing.{Stands, CountsStand, EachOnce}
-use Rattle.tree_world.specs.Undone.{Tables, tables_of, MarksStay, NodesCame, DocumentCame, DocumentEdited, LinkCame, EntryCame, ChangeCame, IsRow, IsKept, IsTouched, TablesGoBack, TablesWere, TablesMayGoBack, ComesBack, MayComeBack}
+use Rattle.tree_world.specs.Undone.{Tables, tables_of, MarksStay, NodesCame, DocumentCame, DocumentEdited, LinkCame, DocumentMarked, EntryCame, ChangeCame, IsRow, IsKept, IsTouched, TablesGoBack, TablesWere, TablesMayGoBack, ComesBack, MayComeBack}
 use Rattle.tree_world.proofs.Options.{none_there, one_value}
 use Rattle.tree_world.proofs.Found.{either_none, address_is, address_alike}
 use Rattle.tree_world.proofs.Tables.{root_set, content_roots, has_some, has_added, removed_added}
 use Rattle.tree_world.proofs.Roots.{taken_back}
 use Rattle.tree_world.proofs.Holds.{Holds, HoldsDue, unmarked, with_due, holds_same}
 use Rattle.tree_world.proofs.EntryCounted.{with_sessions, with_marks}
-use Rattle.tree_world.proofs.Marked.{due_same, due_stay}
+use Rattle.tree_world.proofs.Marked.{stay_self, due_same, due_stay}
 use Rattle.tree_world.proofs.AccessChanged.{fresh, all_apart, opens_own}
 
 -- ---- nodes
@@ -139,6 +139,24 @@ module _ (document : List ℕ) (root made : Node) (bytes content : ℕ) where
   filled_twice [] = refl
   filled_twice (row ∷ rows) = λ i. row_filled row i ∷ filled_twice rows i
 
+module _ (document : List ℕ) (made mark : Bool) where
+  abbrev marked : Bool → DocumentRow Node → DocumentRow Node
+  marked m row = cond (is_of document row) (record row { published = m }) row
+
+  own_marked : (m : Bool) (row : DocumentRow Node) → is_of document row ≡ true → marked m row ≡ record row { published = m }
+  own_marked m row e = ap (λ b. cond b (record row { published = m }) row) e
+
+  row_marked : (row : DocumentRow Node) → marked mark (marked made row) ≡ marked mark row
+  row_marked row = step (is_of document row) refl
+    where
+      step : (b : Bool) → is_of document row ≡ b → marked mark (cond b (record row { published = made }) row) ≡ marked mark row
+      step true e = own_marked mark (record row { published = made }) e ∙ sym (own_marked mark row e)
+      step false e = refl
+
+  pub marked_twice : (rows : List (DocumentRow Node)) → with_mark (with_mark rows document made) document mark ≡ with_mark rows document mark
+  marked_twice [] = refl
+  marked_twice (row ∷ rows) = λ i. row_marked row i ∷ marked_twice rows i
+
 module _ (document : List ℕ) (f : DocumentRow Node → DocumentRow Node) (others : (row : DocumentRow Node) → is_of document row ≡ false → f row ≡ row) where
   others_stay : (rows : List (DocumentRow Node)) → has_in rows document ≡ false → map f rows ≡ rows
   others_stay [] none = refl
@@ -190,6 +208,20 @@ content_as_was rows document content once is =
     own row true e = ap (λ n. record row { content = n }) (sym e)
     own row false e = refl
 
+pub mark_as_was : (rows : List (DocumentRow Node)) (document : List ℕ) (mark : Bool) → EachOnce is_same (documents_in rows) → published_in rows document ≡ mark → with_mark rows document mark ≡ rows
+mark_as_was rows document mark once is =
+    rows_stay document (λ (row : DocumentRow Node). cond (is_of document row) (record row { published = mark }) row) (λ row e. ap (λ b. cond b (record row { published = mark }) row) e) rows once (λ row found. own row (is_of document row) (found_mark row found))
+  where
+    mark_of : Option (DocumentRow Node) → Bool
+    mark_of found = unwrap_or (option_map (λ (row : DocumentRow Node). row.published) found) false
+
+    found_mark : (row : DocumentRow Node) → find (is_of document) rows ≡ Some row → row.published ≡ mark
+    found_mark row found = sym (ap mark_of found) ∙ is
+
+    own : (row : DocumentRow Node) (b : Bool) → row.published ≡ mark → cond b (record row { published = mark }) row ≡ row
+    own row true e = ap (λ m. record row { published = m }) (sym e)
+    own row false e = refl
+
 -- ---- each change
 
 pub of_old : (IsChange : Tables → Tables → Type 0) (trees old after : Trees) → trees ≡ old → EntryCame IsChange trees after → EntryCame IsChange old after
@@ -204,6 +236,30 @@ came_in trees session document root nodes index documents access counted due sta
     there = ap (λ rows. has_in rows document) now ∙ has_added trees.documents document root absent;
     documents = ap (λ rows. removed rows document) now ∙ removed_added trees.documents document root absent;
     access = ap (λ rows. closed rows session document) opens_now ∙ closed_again trees.access session document unopened;
+    links = refl;
+  },
+)
+
+-- a mark leaves alone which documents there are
+marked_there : (rows : List (DocumentRow Node)) (document : List ℕ) (mark : Bool) (d : List ℕ) → has_in (with_mark rows document mark) d ≡ has_in rows d
+marked_there [] document mark d = refl
+marked_there (row ∷ rows) document mark d = λ i. same (is_of document row) i || marked_there rows document mark d i
+  where
+    same : (b : Bool) → is_of d (cond b (record row { published = mark }) row) ≡ is_of d row
+    same true = refl
+    same false = refl
+
+pub was_published : (trees : Trees) (document : List ℕ) (documents : List (DocumentRow Node)) (counted : ℕ) → has_in trees.documents document ≡ true → documents ≡ with_mark trees.documents document true
+    → EntryCame (DocumentMarked document) trees (record trees { documents = documents; counted = counted })
+was_published trees document documents counted there now = (
+  record {
+    grown = record { contents = grown_none trees.contents.nodes; documents = grown_none trees.nodes; index = grown_none trees.index.nodes; from = grown_none trees.links.from.nodes; to = grown_none trees.links.to.nodes; three = grown_none trees.links.three.nodes };
+    due = stay_self trees.due;
+  },
+  record {
+    there = ap (λ rows. has_in rows document) now ∙ marked_there trees.documents document true document ∙ there;
+    documents = λ mark. ap (λ rows. with_mark rows document mark) now ∙ marked_twice document true mark trees.documents;
+    access = refl;
     links = refl;
   },
 )
@@ -278,6 +334,12 @@ as_home undo home root id before after is back = subst (λ t. TablesGoBack undo.
 pub home_back : (session : ℕ) (home : List ℕ) (root : Node) (id : List ℕ) (before after : Tables) → EachOnce is_same (documents_in before.documents) → TablesGoBack session (touched.Link home root id) before after → with_root after.documents home root ≡ before.documents
 home_back session home root id before after once back = back.1.documents root ∙ root_as_was before.documents home root once back.0
 
+pub as_mark : (undo : UndoRecord) (document : List ℕ) (mark : Bool) (before after : Tables) → undo.touched ≡ touched.Mark document mark → TablesGoBack undo.session undo.touched before after → TablesGoBack undo.session (touched.Mark document mark) before after
+as_mark undo document mark before after is back = subst (λ t. TablesGoBack undo.session t before after) is back
+
+pub mark_back : (session : ℕ) (document : List ℕ) (mark : Bool) (before after : Tables) → EachOnce is_same (documents_in before.documents) → TablesGoBack session (touched.Mark document mark) before after → with_mark after.documents document mark ≡ before.documents
+mark_back session document mark before after once back = back.1.documents mark ∙ mark_as_was before.documents document mark once back.0
+
 -- no document stands twice in the table
 once_apart : (documents : List (List ℕ)) → EachOnce is_same documents → IsDistinct is_same documents
 unfolding IsDistinct
@@ -350,6 +412,7 @@ module _ (session : ℕ) (it : Touched) (before after : Trees) where
   goes_back (blocks_swapped document cuts) is came = by_row document is came
   goes_back (specs_copied document at specs) is came = by_row document is came
   goes_back (link_made home number place from to three) is came = subst GoesBack (sym is.is) (came.0, (is.is_root, came.1))
+  goes_back (document_published document) is came = subst GoesBack (sym is) (came.0, (refl, came.1))
 
 pub came_inside : (session : ℕ) (change : PlainChange) (before now inside : Trees) → inside ≡ now → ChangeCame session change before now → ChangeCame session change before inside
 came_inside session change before now inside is came = subst (λ t. ChangeCame session change before t) (sym is) came

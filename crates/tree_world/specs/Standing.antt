@@ -7,7 +7,7 @@ use Rattle.granfilade.specs.Content.{ByteAt, content}
 use Rattle.enfilade_core.specs.declared.tree.Node.{Node}
 use Rattle.poom.specs.Laid.{IsRoot}
 use Rattle.doc_table.specs.declared.rows.DocumentRow.{DocumentRow}
-use Rattle.doc_table.specs.DocumentRows.{documents_in, content_in}
+use Rattle.doc_table.specs.DocumentRows.{documents_in, content_in, published_in}
 use Rattle.access_table.specs.AccessRows.{mode_in, account_in}
 use Rattle.enfilade_core.specs.declared.tree.Row as placed
 use Rattle.spanfilade.specs.Index.{IndexTree, rows_in_index, row_end}
@@ -19,6 +19,7 @@ use Rattle.world_rules.specs.declared.rows.OpenRow.{OpenRow}
 use Rattle.world_rules.specs.declared.rows.AccountRow.{AccountRow}
 use Rattle.world_rules.specs.declared.rows.SessionRow.{SessionRow}
 use Rattle.world_rules.specs.World.{World, LinkRow, is_same, is_text_of, is_link_of, opens, mode_of, account_of_session, content_length}
+use Rattle.world_rules.specs.Readable.{is_published}
 use Rattle.world_rules.specs.Picking.{is_between}
 use Rattle.world_rules.specs.Edits.{new_rows}
 use Rattle.world_rules.specs.FlatView.{FlatView, entries_in}
@@ -88,8 +89,8 @@ pub record SessionsStand (trees : Trees) (world : World) : Type 0 where
 -- The documents are the world's, each once and with one root, whose rows are those of one document: text at `1.1` and on,
 -- links at `2.1` and on. Laid out, they are the world's rows of the document, in V order; an address that is no document's
 -- has none. All content that a document shows is in the index for it, which may have more. The bytes are the world's, each
--- address once, and so is how many of them each document has. The links are the world's, each id once, and the index of
--- each end has exactly their runs.
+-- address once, and so is how many of them each document has. A document is marked where the world has it as published. The
+-- links are the world's, each id once, and the index of each end has exactly their runs.
 pub record Stands (trees : Trees) (view : FlatView) : Type 0 where
   pub documents : IsPermutation (documents_in trees.documents) view.world.documents
   pub documents_once : EachOnce is_same view.world.documents
@@ -101,6 +102,7 @@ pub record Stands (trees : Trees) (view : FlatView) : Type 0 where
   pub bytes_once : EachOnce (λ (a b : ByteRow). is_same a.address b.address) view.world.bytes
   pub total : trees.content ≡ length view.world.bytes
   pub counts : (document : List ℕ) → content_in trees.documents document ≡ content_length view.world document
+  pub marks : (document : List ℕ) → published_in trees.documents document ≡ is_published view.world document
   pub link_table : IsPermutation trees.links.links view.world.links
   pub ids : EachIdOnce trees.links.links
   pub ends : EndsStand trees.links

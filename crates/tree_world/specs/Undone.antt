@@ -1,15 +1,15 @@
 -- How an entry is taken back: what was kept before it, and what it did to trees and tables.
-use Rattle.std.specs.Prelude.{◌≡◌, ℕ, ◌<◌, List, length, Some, IsTrue}
+use Rattle.std.specs.Prelude.{◌≡◌, ℕ, ◌<◌, Bool, List, length, Some, IsTrue}
 use Rattle.enfilade_core.specs.declared.tree.Node.{Node}
 use Rattle.enfilade_core.specs.declared.tree.TreeMark.{TreeMark}
 use Rattle.doc_table.specs.declared.rows.DocumentRow.{DocumentRow}
-use Rattle.doc_table.specs.DocumentRows.{documents_in, has_in, root_in, content_in, removed, with_root, with_content}
+use Rattle.doc_table.specs.DocumentRows.{documents_in, has_in, root_in, content_in, published_in, removed, with_root, with_content, with_mark}
 use Rattle.access_table.specs.AccessRows.{AccessRows, closed}
 use Rattle.spanfilade.specs.Index.{mark_of}
 use Rattle.links.specs.LinkLists as links
 use Rattle.links.specs.LinkLists.{LinkLists, AllGrow, marks_of}
 use Rattle.links.specs.declared.row.LinkMarks.{LinkMarks}
-use Rattle.febe_data.specs.Plain.{PlainChange, document_created, version_made, copy_opened, text_inserted, span_deleted, blocks_swapped, specs_copied, link_made}
+use Rattle.febe_data.specs.Plain.{PlainChange, document_created, version_made, copy_opened, text_inserted, span_deleted, blocks_swapped, specs_copied, link_made, document_published}
 use Rattle.world_rules.specs.World.{is_same, link_address}
 use Rattle.world_rules.specs.FlatView.{FlatView, with_entry}
 use Rattle.tree_world.specs.declared.undoing.UndoRecord.{UndoRecord}
@@ -61,6 +61,13 @@ pub record LinkCame (home id : List ℕ) (before after : Tables) : Type 0 where
   pub access : after.access ≡ before.access
   pub links : links.removed after.links.links id ≡ before.links.links
 
+-- a document was published: the tables are as before but for its mark
+pub record DocumentMarked (document : List ℕ) (before after : Tables) : Type 0 where
+  pub there : IsTrue (has_in after.documents document)
+  pub documents : (mark : Bool) → with_mark after.documents document mark ≡ with_mark before.documents document mark
+  pub access : after.access ≡ before.access
+  pub links : after.links ≡ before.links
+
 -- nodes came in, and the tables were changed like this
 abbrev pub EntryCame : (Tables → Tables → Type 0) → Trees → Trees → Type 0
 EntryCame IsChange before after = NodesCame before after × IsChange (tables_of before) (tables_of after)
@@ -75,6 +82,7 @@ ChangeCame session (span_deleted document span) before after = EntryCame (Docume
 ChangeCame session (blocks_swapped document cuts) before after = EntryCame (DocumentEdited document) before after
 ChangeCame session (specs_copied document at specs) before after = EntryCame (DocumentEdited document) before after
 ChangeCame session (link_made home number place from to three) before after = EntryCame (LinkCame home (link_address home number)) before after
+ChangeCame session (document_published document) before after = EntryCame (DocumentMarked document) before after
 ChangeCame session other before after = Unit {0}
 
 -- ---- what is kept
@@ -114,6 +122,10 @@ pub record IsHome (trees : Trees) (home id : List ℕ) (it : Touched) : Type 0 w
   pub is_root : root_in trees.documents home ≡ Some root
   pub is : it ≡ touched.Link home root id
 
+-- the document's mark
+abbrev pub IsMark : Trees → List ℕ → Touched → Type 0
+IsMark trees document it = it ≡ touched.Mark document (published_in trees.documents document)
+
 -- what a change is to touch, with what stands there
 abbrev pub IsTouched : Trees → PlainChange → Touched → Type 0
 IsTouched trees (document_created document) it = it ≡ touched.Document document
@@ -124,6 +136,7 @@ IsTouched trees (span_deleted document span) it = IsRow trees document it
 IsTouched trees (blocks_swapped document cuts) it = IsRow trees document it
 IsTouched trees (specs_copied document at specs) it = IsRow trees document it
 IsTouched trees (link_made home number place from to three) it = IsHome trees home (link_address home number) it
+IsTouched trees (document_published document) it = IsMark trees document it
 IsTouched trees other it = ⊥
 
 -- ---- how it goes back
@@ -133,6 +146,7 @@ abbrev pub TablesGoBack : ℕ → Touched → Tables → Tables → Type 0
 TablesGoBack session (touched.Document document) before after = DocumentCame session document before after
 TablesGoBack session (touched.Row document root content) before after = (root_in before.documents document ≡ Some root) × (content_in before.documents document ≡ content) × DocumentEdited document before after
 TablesGoBack session (touched.Link home root id) before after = (root_in before.documents home ≡ Some root) × LinkCame home id before after
+TablesGoBack session (touched.Mark document mark) before after = (published_in before.documents document ≡ mark) × DocumentMarked document before after
 
 -- The same with what is kept of the links. No document stands twice, and the index of each end has exactly the runs of
 -- that end.

@@ -56,6 +56,7 @@ impl TreeWorld {
                 to,
                 three,
             } => self.make_link(alloc, home, *number, *place, from, to, three),
+            Change::Publish { document } => self.publish(document),
             _ => self.change_beside(alloc, session, change),
         }
     }

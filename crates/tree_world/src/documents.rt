@@ -1,4 +1,4 @@
-//! The documents that show what specs pick.
+//! The documents that show what specs pick, of those that a session may read.
 ghost use Rattle.std.specs.Prelude.{◌≡◌, ◌++◌, ◌∷◌, [], map, filter, All, IfOk, OnOk, if◌then◌else◌};
 ghost use Rattle.tumbler.specs.Places.{IsTumbler};
 ghost use Rattle.tumbler.specs.Span.{SpanFits};
@@ -11,6 +11,7 @@ ghost use Rattle.world_rules.specs.FlatView.{FlatView};
 ghost use Rattle.world_rules.specs.Finding.{documents_found};
 ghost use Rattle.tree_world.specs.Standing.{Stands};
 ghost use Rattle.tree_world.specs.inside.Asked.{IsAsked, is_shown};
+ghost use Rattle.tree_world.specs.inside.Reads.{shows_for};
 ghost use Rattle.tree_world.specs.inside.Seen.{rows_show, shows};
 
 use crate::run_spans::run_spans;
@@ -19,7 +20,7 @@ use enfilade_core::Node;
 use febe_data::{List, Memory, Span, Spec, Tumbler};
 use poom::Poom;
 use std::alloc::Global;
-use world_rules::WorldError;
+use world_rules::{LookUp, WorldError};
 
 /// Whether a tree has content, or links, in the span.
 fn shows_span(poom: &Poom, root: Node, span: &Span) -> Result<bool, Memory>
@@ -87,9 +88,11 @@ impl TreeWorld {
         Ok(Some(Asked { root, shows }))
     }
 
-    /// Adds the document if it shows content of one of the spans. It gives what was asked.
+    /// Adds the document if it may be read for the account and shows content of one of the spans. It gives what was asked
+    /// last: of a document that may not be read no tree is asked.
     fn push_showing(
         &self,
+        account: &Option<Tumbler>,
         made: &mut List<Tumbler>,
         last: Option<Asked>,
         document: &Tumbler,
@@ -97,10 +100,13 @@ impl TreeWorld {
     ) -> Result<Option<Asked>, Memory>
         requires fits { All SpanFits spans.now }
         requires last { IsAsked self.now spans.now last }
-        ensures items { OnOk result (made.new.items ≡ made.old.items ++ (if shows self.now spans.now document.now then document.now ∷ [] else [])) }
+        ensures items { OnOk result (made.new.items ≡ made.old.items ++ (if shows_for self.now account.now spans.now document.now then document.now ∷ [] else [])) }
         ensures valid { OnOk result (All IsTumbler made.old.items → All IsTumbler made.new.items) }
         ensures asked { IfOk result (IsAsked self.now spans.now) }
     {
+        if !self.may_read(account, document) {
+            return Ok(last);
+        }
         let asked = self.asked(last, document, spans)?;
         if !is_shown(asked) {
             return Ok(asked);
@@ -110,21 +116,23 @@ impl TreeWorld {
         Ok(asked)
     }
 
-    /// Those of the documents that show content of one of the spans, in the order in which they are given.
+    /// Those of the documents that may be read for the account and show content of one of the spans, in the order in which
+    /// they are given.
     fn showing(
         &self,
         alloc: Global,
+        account: &Option<Tumbler>,
         documents: &[Tumbler],
         spans: &[Span],
     ) -> Result<List<Tumbler>, Memory>
         requires { All SpanFits spans.now }
-        ensures items { IfOk result (λ made. made.items ≡ filter (shows self.now spans.now) documents.now) }
+        ensures items { IfOk result (λ made. made.items ≡ filter (shows_for self.now account.now spans.now) documents.now) }
         ensures valid { IfOk result (λ made. All IsTumbler made.items) }
     {
         let mut made = List::new(alloc);
         let mut last = None;
         for document in documents {
-            last = self.push_showing(&mut made, last, document, spans)?;
+            last = self.push_showing(account, &mut made, last, document, spans)?;
         }
         Ok(made)
     }
@@ -138,20 +146,22 @@ impl TreeWorld {
         Ok(found)
     }
 
-    /// The documents that have content which the specs pick, ascending.
+    /// The documents that the session may read and that have content which the specs pick, ascending.
     pub(crate) fn documents_with(
         &self,
         alloc: Global,
+        session: u64,
         specs: &[Spec],
     ) -> Result<List<Tumbler>, WorldError>
-        ensures items { (view : FlatView) → Stands self.now view → IfOk result (λ made. made.items ≡ documents_found view.world (map plain_spec specs.now)) }
+        ensures items { (view : FlatView) → Stands self.now view → IfOk result (λ made. made.items ≡ documents_found view.world session (map plain_spec specs.now)) }
         ensures valid { IfOk result (λ made. All IsTumbler made.items) }
     {
         let _ = &self.pooms;
         let runs = self.runs_by_specs(alloc, specs)?;
         let spans = run_spans(alloc, runs.as_slice())?;
         let met = self.documents_met(&spans)?;
-        let made = self.showing(alloc, met.as_slice(), spans.as_slice())?;
+        let account = self.account_of_session(session);
+        let made = self.showing(alloc, &account, met.as_slice(), spans.as_slice())?;
         Ok(made)
     }
 }

@@ -1,4 +1,4 @@
-//! Which text is in the ends of links.
+//! Which text is in the ends of links whose homes may be read.
 ghost use Rattle.std.specs.Prelude.{◌≡◌, ℕ, ◌<◌, ◌≤◌, ◌||◌, ◌⊎◌, map, All, IfOk, OnOk};
 ghost use Rattle.std.specs.List.{list_any};
 ghost use Rattle.tumbler.specs.Span.{SpanFits};
@@ -8,10 +8,11 @@ ghost use Rattle.poom.specs.Laid.{IsRoot, texts};
 ghost use Rattle.poom_compare.specs.Shared.{rows_picked};
 ghost use Rattle.poom_compare.specs.Placed.{is_in, is_in_some, IsInterval, AreApart, IsPlaced, rows_laid, rows_at};
 ghost use Rattle.links.specs.LinkLists.{runs_at};
-ghost use Rattle.world_rules.specs.World.{LinkRow as PlainLink};
+ghost use Rattle.world_rules.specs.World.{LinkRow as PlainLink, account_of_session};
 ghost use Rattle.world_rules.specs.FlatView.{FlatView};
 ghost use Rattle.world_rules.specs.Ends.{runs_of_end, end_set_of, end_set, NamesSpans};
 ghost use Rattle.tree_world.specs.Standing.{Stands};
+ghost use Rattle.tree_world.specs.inside.Reads.{links_for};
 ghost use Rattle.tree_world.specs.inside.InEnds.{is_met_at, has_row_in_end, IsWithin, AreNumbers, span_between, spans_in_end};
 
 use crate::ends::spec_of;
@@ -23,7 +24,7 @@ use febe_data::{List, Memory, Span, Spec, Tumbler};
 use poom_compare::{Interval, Placed, joined, runs_picked};
 use std::alloc::Global;
 use std::collections::BTreeMap;
-use world_rules::{End, WorldError, span_from};
+use world_rules::{End, LookUp, WorldError, span_from};
 
 /// The most text that a document has.
 const MOST_TEXT: u32 = 1_073_741_824;
@@ -86,22 +87,27 @@ fn spans_between(alloc: Global, intervals: &[Interval]) -> Result<List<Span>, Wo
 }
 
 impl TreeWorld {
-    /// Adds the positions at which the run shows bytes of that end of some link.
+    /// Adds the positions at which the run shows bytes of that end of some link whose home may be read for the account.
+    /// Where the numbers of the run's content are not known yet, they are found.
     fn push_in_end(
         &self,
-        made: &mut Vec<Interval>,
+        alloc: Global,
+        account: &Option<Tumbler>,
         end: End,
         placed: &Placed,
         extents: &BTreeMap<Tumbler, Interval>,
-        known: &BTreeMap<Tumbler, Vec<Interval>>,
+        known: &mut BTreeMap<Tumbler, Vec<Interval>>,
+        made: &mut Vec<Interval>,
     ) -> Result<(), WorldError>
         requires each { All (IsInterval 1073741824) made.old.items }
         requires placed { IsPlaced placed.now }
         requires within { IsWithin extents.now placed.now }
-        requires known { AreNumbers end self.now.links.links extents.now known.now }
+        requires known { AreNumbers end (links_for self.now account.now) extents.now known.old }
+        ensures known { OnOk result (AreNumbers end (links_for self.now account.now) extents.now known.new) }
         ensures each { OnOk result (All (IsInterval 1073741824) made.new.items) }
-        ensures same { OnOk result ((n : ℕ) → is_in_some made.new.items n ≡ (is_in_some made.old.items n || has_row_in_end end self.now.links.links (rows_at placed.now) n)) }
+        ensures same { OnOk result ((n : ℕ) → is_in_some made.new.items n ≡ (is_in_some made.old.items n || has_row_in_end end (links_for self.now account.now) (rows_at placed.now) n)) }
     {
+        self.find_numbers(alloc, account, end, &placed.document, extents, known)?;
         let Some(numbers) = known.get(&placed.document) else {
             return Err(WorldError::NoTumbler);
         };
@@ -111,51 +117,60 @@ impl TreeWorld {
         Ok(())
     }
 
-    /// The positions at which some of the runs show bytes of that end of some link.
+    /// The positions at which some of the runs show bytes of that end of some link whose home may be read for the account.
     ///
     /// The index is asked once for each content, so that it does not matter how often runs and links have the same bytes.
     fn all_in_end(
         &self,
         alloc: Global,
+        account: &Option<Tumbler>,
         end: End,
         placed: &[Placed],
     ) -> Result<Vec<Interval>, WorldError>
         requires { All IsPlaced placed.now }
         ensures each { IfOk result (λ made. All (IsInterval 1073741824) made.items) }
-        ensures same { IfOk result (λ made. (n : ℕ) → is_in_some made.items n ≡ has_row_in_end end self.now.links.links (rows_laid placed.now) n) }
+        ensures same { IfOk result (λ made. (n : ℕ) → is_in_some made.items n ≡ has_row_in_end end (links_for self.now account.now) (rows_laid placed.now) n) }
     {
         let extents = extents_of(alloc, placed)?;
         let mut known = BTreeMap::new(alloc);
         let mut made = Vec::new(alloc);
         for run in placed {
-            self.find_numbers(alloc, end, &run.document, &extents, &mut known)?;
-            self.push_in_end(&mut made, end, run, &extents, &known)?;
+            self.push_in_end(alloc, account, end, run, &extents, &mut known, &mut made)?;
         }
         Ok(made)
     }
 
-    /// What of the picked text of a tree is in that end of some link, as the fewest intervals.
+    /// What of the picked text of a tree is in that end of some link whose home may be read for the account, as the fewest
+    /// intervals.
     fn spans_in_end(
         &self,
         alloc: Global,
+        account: &Option<Tumbler>,
         root: Node,
         end: End,
         spans: &[Span],
     ) -> Result<List<Span>, WorldError>
         requires root { IsRoot self.now.nodes root.0 }
         requires fits { All SpanFits spans.now }
-        ensures { IfOk result (λ made. made.items ≡ spans_in_end end self.now.links.links spans.now (texts (rows_of self.now.nodes root.0))) }
+        ensures { IfOk result (λ made. made.items ≡ spans_in_end end (links_for self.now account.now) spans.now (texts (rows_of self.now.nodes root.0))) }
     {
         let placed = runs_picked(&self.pooms, root, spans)?;
-        let all = self.all_in_end(alloc, end, placed.as_slice())?;
+        let all = self.all_in_end(alloc, account, end, placed.as_slice())?;
         let fewest = joined(alloc, all, MOST_TEXT)?;
         let made = spans_between(alloc, fewest.as_slice())?;
         Ok(made)
     }
 
-    /// Which of the text that the spec picks is in that end of some link.
-    fn end_set_of(&self, alloc: Global, end: End, spec: &Spec) -> Result<Spec, WorldError>
-        ensures value { (view : FlatView) → Stands self.now view → IfOk result (λ made. plain_spec made ≡ end_set_of view.world end (plain_spec spec.now)) }
+    /// Which of the text that the spec picks is in that end of some link whose home the session may read: the account is
+    /// the session's.
+    fn end_set_of(
+        &self,
+        alloc: Global,
+        account: &Option<Tumbler>,
+        end: End,
+        spec: &Spec,
+    ) -> Result<Spec, WorldError>
+        ensures value { (view : FlatView) (session : ℕ) → Stands self.now view → account.now ≡ account_of_session view.world session → IfOk result (λ made. plain_spec made ≡ end_set_of view.world session end (plain_spec spec.now)) }
         ensures valid { IfOk result (λ made. NamesSpans (plain_spec made)) }
     {
         let spans = spec.spans.as_slice();
@@ -165,23 +180,25 @@ impl TreeWorld {
         let Some(root) = self.documents.root(&spec.document) else {
             return Ok(spec_of(&spec.document, List::new(alloc)));
         };
-        let found = self.spans_in_end(alloc, root, end, spans)?;
+        let found = self.spans_in_end(alloc, account, root, end, spans)?;
         Ok(spec_of(&spec.document, found))
     }
 
-    /// One spec for each spec: which of the text that it picks is in that end of some link.
+    /// One spec for each spec: which of the text that it picks is in that end of some link whose home the session may read.
     pub(crate) fn specs_in_end(
         &self,
         alloc: Global,
+        session: u64,
         end: End,
         specs: &[Spec],
     ) -> Result<List<Spec>, WorldError>
-        ensures value { (view : FlatView) → Stands self.now view → IfOk result (λ made. map plain_spec made.items ≡ end_set view.world end (map plain_spec specs.now)) }
+        ensures value { (view : FlatView) → Stands self.now view → IfOk result (λ made. map plain_spec made.items ≡ end_set view.world session end (map plain_spec specs.now)) }
         ensures valid { IfOk result (λ made. All NamesSpans (map plain_spec made.items)) }
     {
+        let account = self.account_of_session(session);
         let mut made = List::new(alloc);
         for spec in specs {
-            made.push(self.end_set_of(alloc, end, spec)?)?;
+            made.push(self.end_set_of(alloc, &account, end, spec)?)?;
         }
         Ok(made)
     }

@@ -1,5 +1,5 @@
-//! Where the ends of links are now.
-ghost use Rattle.std.specs.Prelude.{◌≡◌, map, All, IfOk, Some};
+//! Where the ends of links are now, as far as a session may read.
+ghost use Rattle.std.specs.Prelude.{◌≡◌, ◌++◌, ◌∷◌, [], map, All, IfOk, OnOk, Some, if◌then◌else◌};
 ghost use Rattle.tumbler.specs.Places.{IsTumbler};
 ghost use Rattle.tumbler.specs.Span.{SpanFits};
 ghost use Rattle.febe_data.specs.Plain.{plain_spec};
@@ -10,13 +10,14 @@ ghost use Rattle.world_rules.specs.Finding.{link_at};
 ghost use Rattle.world_rules.specs.Ends.{runs_of_end, run_now, NamesSpans};
 ghost use Rattle.world_rules.specs.Answers.{follow_of};
 ghost use Rattle.tree_world.specs.Standing.{Stands};
+ghost use Rattle.tree_world.specs.inside.Reads.{reads_in, now_for};
 
 use crate::linking::span_of_run;
 use crate::world::TreeWorld;
 use febe_data::{List, Run, Span, Spec, Tumbler};
 use links::LinkRow;
 use std::alloc::Global;
-use world_rules::{End, WorldError};
+use world_rules::{End, LookUp, WorldError};
 
 /// The runs of that end.
 fn runs_of_end(link: &LinkRow, end: End) -> &[Run]
@@ -78,32 +79,58 @@ impl TreeWorld {
         Ok(spec_of(&run.origin, spans))
     }
 
-    /// One spec for each run.
-    fn runs_now(&self, alloc: Global, runs: &[Run]) -> Result<List<Spec>, WorldError>
-        ensures value { (view : FlatView) → Stands self.now view → IfOk result (λ made. map plain_spec made.items ≡ map (run_now view.world) runs.now) }
+    /// Adds where the run's bytes are now, if its origin may be read for the account.
+    fn push_now(
+        &self,
+        alloc: Global,
+        account: &Option<Tumbler>,
+        run: &Run,
+        made: &mut List<Spec>,
+    ) -> Result<(), WorldError>
+        ensures value { (view : FlatView) → Stands self.now view → OnOk result (map plain_spec made.new.items ≡ map plain_spec made.old.items ++ (if reads_in self.now account.now run.now.origin then run_now view.world run.now ∷ [] else [])) }
+        ensures valid { OnOk result (All NamesSpans (map plain_spec made.old.items) → All NamesSpans (map plain_spec made.new.items)) }
+    {
+        if !self.may_read(account, &run.origin) {
+            return Ok(());
+        }
+        made.push(self.run_now(alloc, run)?)?;
+        Ok(())
+    }
+
+    /// One spec for each run whose origin may be read for the account.
+    fn runs_now(
+        &self,
+        alloc: Global,
+        account: &Option<Tumbler>,
+        runs: &[Run],
+    ) -> Result<List<Spec>, WorldError>
+        ensures value { (view : FlatView) → Stands self.now view → IfOk result (λ made. map plain_spec made.items ≡ now_for view.world self.now account.now runs.now) }
         ensures valid { IfOk result (λ made. All NamesSpans (map plain_spec made.items)) }
     {
         let mut made = List::new(alloc);
         for run in runs {
-            made.push(self.run_now(alloc, run)?)?;
+            self.push_now(alloc, account, run, &mut made)?;
         }
         Ok(made)
     }
 
-    /// Where that end of the link is now: one spec for each of its runs. Nothing where there is no such link.
+    /// Where that end of the link is now: one spec for each of its runs whose origin the session may read. Nothing where
+    /// there is no such link, or its home may not be read.
     pub(crate) fn end_specs(
         &self,
         alloc: Global,
+        session: u64,
         id: &Tumbler,
         end: End,
     ) -> Result<List<Spec>, WorldError>
-        ensures value { (view : FlatView) → Stands self.now view → IfOk result (λ made. map plain_spec made.items ≡ follow_of view.world (link_at view.world id.now) (Some end)) }
+        ensures value { (view : FlatView) → Stands self.now view → IfOk result (λ made. map plain_spec made.items ≡ follow_of view.world session (link_at view.world session id.now) (Some end)) }
         ensures valid { IfOk result (λ made. All NamesSpans (map plain_spec made.items)) }
     {
-        let Some(link) = self.links.get(id) else {
+        let account = self.account_of_session(session);
+        let Some(link) = self.link_for(&account, id) else {
             return Ok(List::new(alloc));
         };
-        let made = self.runs_now(alloc, runs_of_end(link, end))?;
+        let made = self.runs_now(alloc, &account, runs_of_end(link, end))?;
         Ok(made)
     }
 }

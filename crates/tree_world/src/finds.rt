@@ -37,43 +37,62 @@ impl Find for TreeWorld {
         self.relation(alloc, left, right)
     }
 
-    fn documents_found(&self, alloc: Global, specs: &[Spec]) -> Result<List<Tumbler>, WorldError> {
-        self.documents_with(alloc, specs)
+    fn documents_found(
+        &self,
+        alloc: Global,
+        session: u64,
+        specs: &[Spec],
+    ) -> Result<List<Tumbler>, WorldError> {
+        self.documents_with(alloc, session, specs)
     }
 
-    fn links_found(&self, want: &Want, runs: &WantedRuns) -> Result<u32, WorldError> {
-        self.count_links(want, runs)
+    fn links_found(&self, session: u64, want: &Want, runs: &WantedRuns) -> Result<u32, WorldError> {
+        self.count_links(session, want, runs)
     }
 
     fn ids_found(
         &self,
         alloc: Global,
+        session: u64,
         want: &Want,
         runs: &WantedRuns,
     ) -> Result<List<Tumbler>, WorldError> {
-        self.link_ids(alloc, want, runs)
+        self.link_ids(alloc, session, want, runs)
     }
 
     fn ids_after(
         &self,
         alloc: Global,
+        session: u64,
         want: &Want,
         runs: &WantedRuns,
         after: &Tumbler,
         limit: u32,
     ) -> Result<List<Tumbler>, WorldError> {
-        self.link_ids_after(alloc, want, runs, after, limit)
+        self.link_ids_after(alloc, session, want, runs, after, limit)
     }
 
-    fn has_link(&self, id: &Tumbler) -> bool {
-        self.is_link(id)
+    fn has_link(&self, session: u64, id: &Tumbler) -> bool {
+        self.is_link(session, id)
     }
 
-    fn end_now(&self, alloc: Global, id: &Tumbler, end: End) -> Result<List<Spec>, WorldError> {
-        self.end_specs(alloc, id, end)
+    fn end_now(
+        &self,
+        alloc: Global,
+        session: u64,
+        id: &Tumbler,
+        end: End,
+    ) -> Result<List<Spec>, WorldError> {
+        self.end_specs(alloc, session, id, end)
     }
 
-    fn end_set(&self, alloc: Global, end: End, specs: &[Spec]) -> Result<List<Spec>, WorldError> {
-        self.specs_in_end(alloc, end, specs)
+    fn end_set(
+        &self,
+        alloc: Global,
+        session: u64,
+        end: End,
+        specs: &[Spec],
+    ) -> Result<List<Spec>, WorldError> {
+        self.specs_in_end(alloc, session, end, specs)
     }
 }

@@ -24,6 +24,8 @@ mod measures;
 mod numbers;
 mod picking;
 mod positions;
+mod publishing;
+mod readable;
 mod relating;
 mod retrieving;
 mod run_spans;

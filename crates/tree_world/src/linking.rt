@@ -1,20 +1,21 @@
-//! Which links are wanted, found in the table of links.
+//! Which links are wanted, found in the table of links. Of those that are found the ones whose home may not be read go.
 ghost use Rattle.std.specs.Prelude.{◌≡◌, length, map, not, is_none, All, IfOk, IsTrue};
 ghost use Rattle.tumbler.specs.Places.{IsTumbler};
 ghost use Rattle.tumbler.specs.Span.{SpanFits};
 ghost use Rattle.febe_data.specs.Plain.{plain_spec, plain_want};
-ghost use Rattle.links.specs.LinkLists.{IsRun, run_span};
+ghost use Rattle.links.specs.LinkLists.{IsRun, run_span, has_in};
 ghost use Rattle.world_rules.specs.FlatView.{FlatView};
 ghost use Rattle.world_rules.specs.Finding.{links_found, ids_found, ids_after, link_at};
 ghost use Rattle.world_rules.specs.Wanted.{AreWantedRuns};
 ghost use Rattle.tree_world.specs.Standing.{Stands};
 ghost use Rattle.tree_world.specs.inside.Met.{IsWantedEnd, AreWantedEnds};
+ghost use Rattle.tree_world.specs.inside.Reads.{ids_above};
 
 use crate::world::TreeWorld;
 use febe_data::{List, Run, Span, Spec, Tumbler, Want};
 use links::{WantedEnds, run_span};
 use std::alloc::Global;
-use world_rules::{WantedRuns, WorldError};
+use world_rules::{LookUp, WantedRuns, WorldError};
 
 /// The addresses of the run's bytes. What is no run of a document's content has none.
 pub(crate) fn span_of_run(run: &Run) -> Result<Span, WorldError>
@@ -91,66 +92,114 @@ fn are_tumblers(tumblers: &[Tumbler])
 }
 
 impl TreeWorld {
-    /// Whether there is a link of that id.
-    pub(crate) fn is_link(&self, id: &Tumbler) -> bool
-        ensures { (view : FlatView) → Stands self.now view → result ≡ not (is_none (link_at view.world id.now)) }
+    /// Whether there is a link of that id whose home the session may read.
+    pub(crate) fn is_link(&self, session: u64, id: &Tumbler) -> bool
+        ensures { (view : FlatView) → Stands self.now view → result ≡ not (is_none (link_at view.world session id.now)) }
+    {
+        let account = self.account_of_session(session);
+        self.link_for(&account, id).is_some()
+    }
+
+    /// Whether there is a link of that id, whoever may read its home.
+    fn has_id(&self, id: &Tumbler) -> bool
+        ensures { result ≡ has_in self.now.links.links id.now }
     {
         self.links.get(id).is_some()
     }
 
-    /// The first so many ids above the tumbler, of the links that are wanted.
-    pub(crate) fn link_ids_after(
+    /// The ids above the tumbler of all links that are wanted, whoever may read their homes.
+    fn ids_above(
         &self,
         alloc: Global,
         want: &Want,
         runs: &WantedRuns,
         after: &Tumbler,
-        limit: u32,
     ) -> Result<List<Tumbler>, WorldError>
         requires { (view : FlatView) → Stands self.now view → AreWantedRuns view.world (plain_want want.now) runs.now }
-        ensures items { (view : FlatView) → Stands self.now view → IfOk result (λ made. made.items ≡ ids_after view.world (plain_want want.now) after.now limit) }
-        ensures valid { IfOk result (λ made. All IsTumbler made.items) }
+        ensures { (view : FlatView) → Stands self.now view → IfOk result (λ found. found.items ≡ ids_above view.world (plain_want want.now) self.now.links.links after.now) }
     {
         if !all_fit(want.homes.as_slice()) {
             return Err(WorldError::NoTumbler);
         }
         let ends = wanted_ends(alloc, want, runs)?;
         self.links.in_order();
-        let found = self.links.find(alloc, &want.homes, &ends, after, limit)?;
-        are_tumblers(found.as_slice());
-        Ok(found)
-    }
-
-    /// The ids of the links that are wanted, ascending. No link has the tumbler of no places as its id.
-    pub(crate) fn link_ids(
-        &self,
-        alloc: Global,
-        want: &Want,
-        runs: &WantedRuns,
-    ) -> Result<List<Tumbler>, WorldError>
-        requires { (view : FlatView) → Stands self.now view → AreWantedRuns view.world (plain_want want.now) runs.now }
-        ensures items { (view : FlatView) → Stands self.now view → IfOk result (λ made. made.items ≡ ids_found view.world (plain_want want.now)) }
-        ensures valid { IfOk result (λ made. All IsTumbler made.items) }
-    {
-        let least = Tumbler::zero(alloc);
-        if self.is_link(&least) {
-            return Err(WorldError::NoTumbler);
-        }
-        let found = self.link_ids_after(alloc, want, runs, &least, u32::MAX)?;
+        let found = self.links.find(alloc, &want.homes, &ends, after, u32::MAX)?;
         if found.len() >= u32::MAX as usize {
             return Err(WorldError::TooGreat);
         }
         Ok(found)
     }
 
-    /// How many links are wanted.
-    pub(crate) fn count_links(&self, want: &Want, runs: &WantedRuns) -> Result<u32, WorldError>
+    /// The first so many ids above the tumbler, of the links that are wanted and whose home the session may read.
+    pub(crate) fn link_ids_after(
+        &self,
+        alloc: Global,
+        session: u64,
+        want: &Want,
+        runs: &WantedRuns,
+        after: &Tumbler,
+        limit: u32,
+    ) -> Result<List<Tumbler>, WorldError>
         requires { (view : FlatView) → Stands self.now view → AreWantedRuns view.world (plain_want want.now) runs.now }
-        ensures { (view : FlatView) → Stands self.now view → IfOk result (λ count. count ≡ length (links_found view.world (plain_want want.now))) }
+        ensures items { (view : FlatView) → Stands self.now view → IfOk result (λ made. made.items ≡ ids_after view.world session (plain_want want.now) after.now limit) }
+        ensures valid { IfOk result (λ made. All IsTumbler made.items) }
     {
+        let met = self.ids_above(alloc, want, runs, after)?;
+        let account = self.account_of_session(session);
         self.links.in_order();
-        let found = self.link_ids(self.alloc, want, runs)?;
-        let count = found.len();
+        let ids = met.as_slice();
+        let found = self
+            .links
+            .ids_read_for(alloc, ids, &self.documents, &account, limit)?;
+        are_tumblers(found.as_slice());
+        Ok(found)
+    }
+
+    /// The ids of the links that are wanted and whose home the session may read, ascending. No link has the tumbler of no
+    /// places as its id.
+    pub(crate) fn link_ids(
+        &self,
+        alloc: Global,
+        session: u64,
+        want: &Want,
+        runs: &WantedRuns,
+    ) -> Result<List<Tumbler>, WorldError>
+        requires { (view : FlatView) → Stands self.now view → AreWantedRuns view.world (plain_want want.now) runs.now }
+        ensures items { (view : FlatView) → Stands self.now view → IfOk result (λ made. made.items ≡ ids_found view.world session (plain_want want.now)) }
+        ensures valid { IfOk result (λ made. All IsTumbler made.items) }
+    {
+        let least = Tumbler::zero(alloc);
+        if self.has_id(&least) {
+            return Err(WorldError::NoTumbler);
+        }
+        let found = self.link_ids_after(alloc, session, want, runs, &least, u32::MAX)?;
+        if found.len() >= u32::MAX as usize {
+            return Err(WorldError::TooGreat);
+        }
+        Ok(found)
+    }
+
+    /// How many links are wanted, of those whose home the session may read. Their ids are looked through where they are, and
+    /// not listed once more.
+    pub(crate) fn count_links(
+        &self,
+        session: u64,
+        want: &Want,
+        runs: &WantedRuns,
+    ) -> Result<u32, WorldError>
+        requires { (view : FlatView) → Stands self.now view → AreWantedRuns view.world (plain_want want.now) runs.now }
+        ensures { (view : FlatView) → Stands self.now view → IfOk result (λ count. count ≡ length (links_found view.world session (plain_want want.now))) }
+    {
+        let least = Tumbler::zero(self.alloc);
+        if self.has_id(&least) {
+            return Err(WorldError::NoTumbler);
+        }
+        let met = self.ids_above(self.alloc, want, runs, &least)?;
+        let account = self.account_of_session(session);
+        self.links.in_order();
+        let count = self
+            .links
+            .count_read_for(met.as_slice(), &self.documents, &account);
         if count > u32::MAX as usize {
             return Err(WorldError::TooGreat);
         }

@@ -26,6 +26,10 @@ impl LookUp for TreeWorld {
         self.documents.has(document)
     }
 
+    fn is_published(&self, document: &Tumbler) -> bool {
+        self.documents.published(document)
+    }
+
     fn account_of_session(&self, session: u64) -> Option<Tumbler> {
         match self.access.account(session) {
             Some(account) => Some(account.copy()),

@@ -8,6 +8,7 @@ ghost use Rattle.poom_compare.specs.declared.positions.Interval.{Interval};
 ghost use Rattle.poom_compare.specs.Placed.{is_in, is_in_some, IsInterval, AreApart, IsPlaced};
 ghost use Rattle.world_rules.specs.Picking.{number_of};
 ghost use Rattle.tree_world.specs.inside.InEnds.{names_number, IsWithin, IsNumbersOf, AreNumbers};
+ghost use Rattle.tree_world.specs.inside.Reads.{links_for};
 
 use crate::end_sets::number_of;
 use crate::linking::span_of_run;
@@ -139,19 +140,24 @@ pub(crate) fn numbers_between(numbers: &[Interval], from: u32, to: u32) -> &[Int
 }
 
 impl TreeWorld {
-    /// Which of the content's bytes, of those whose numbers are in the extent, are in that end of some link.
+    /// Which of the content's bytes, of those whose numbers are in the extent, are in that end of some link whose home may
+    /// be read for the account.
     fn numbers_in_end(
         &self,
         alloc: Global,
+        account: &Option<Tumbler>,
         end: End,
         document: &Tumbler,
         extent: Interval,
     ) -> Result<Vec<Interval>, WorldError>
-        ensures { IfOk result (λ made. IsNumbersOf end self.now.links.links document.now extent made.items) }
+        ensures { IfOk result (λ made. IsNumbersOf end (links_for self.now account.now) document.now extent made.items) }
     {
         let bytes = span_of_run(&run_between(document, extent))?;
         self.links.in_order();
-        let spans = self.links.spans_of_end(alloc, number_of(end), &bytes)?;
+        let number = number_of(end);
+        let spans = self
+            .links
+            .spans_of_end_for(alloc, number, &bytes, &self.documents, account)?;
         let all = all_numbers(alloc, spans.as_slice())?;
         let made = joined(alloc, all, u32::MAX)?;
         Ok(made)
@@ -161,13 +167,14 @@ impl TreeWorld {
     pub(crate) fn find_numbers(
         &self,
         alloc: Global,
+        account: &Option<Tumbler>,
         end: End,
         document: &Tumbler,
         extents: &BTreeMap<Tumbler, Interval>,
         known: &mut BTreeMap<Tumbler, Vec<Interval>>,
     ) -> Result<(), WorldError>
-        requires { AreNumbers end self.now.links.links extents.now known.old }
-        ensures { OnOk result (AreNumbers end self.now.links.links extents.now known.new) }
+        requires { AreNumbers end (links_for self.now account.now) extents.now known.old }
+        ensures { OnOk result (AreNumbers end (links_for self.now account.now) extents.now known.new) }
     {
         if known.contains_key(document) {
             return Ok(());
@@ -175,7 +182,7 @@ impl TreeWorld {
         let Some(extent) = extents.get(document) else {
             return Err(WorldError::NoTumbler);
         };
-        let numbers = self.numbers_in_end(alloc, end, document, *extent)?;
+        let numbers = self.numbers_in_end(alloc, account, end, document, *extent)?;
         known.insert(document.copy(), numbers)?;
         Ok(())
     }

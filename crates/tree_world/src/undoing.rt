@@ -6,7 +6,7 @@ ghost use Rattle.world_rules.specs.FlatView.{FlatView, after_entry};
 ghost use Rattle.tree_world.specs.Condition.{Condition, condition_of};
 ghost use Rattle.tree_world.specs.Nodes.{WorldNodes, nodes_in, AllGrown};
 ghost use Rattle.tree_world.specs.Standing.{Stands};
-ghost use Rattle.tree_world.specs.Undone.{Tables, IsRow, IsHome, IsKept, IsTouched, TablesWere, TablesMayGoBack, ComesBack, MayComeBack, ComesTo, ComesToNodes};
+ghost use Rattle.tree_world.specs.Undone.{Tables, IsRow, IsHome, IsMark, IsKept, IsTouched, TablesWere, TablesMayGoBack, ComesBack, MayComeBack, ComesTo, ComesToNodes};
 
 use crate::tending::Rebalance;
 use crate::world::TreeWorld;
@@ -39,8 +39,8 @@ pub trait Undo: Rebalance {
     ghost comes_to_nodes: { Self → Self.UndoRecord → WorldNodes → Type 0 };
 
     /// Changes the world as the entry says, and counts it, as `apply` does. It is for the changes that the limits count,
-    /// which alone are written down: a document made, a version, an edit, a link. Others are refused. Nodes only come in
-    /// behind those that are there. Where it is refused the trees are in the condition that they were in, with the very
+    /// which alone are written down: a document made, a version, an edit, a link, a publish. Others are refused. Nodes only
+    /// come in behind those that are there. Where it is refused the trees are in the condition that they were in, with the very
     /// nodes that they had.
     fn apply_with_undo(&mut self, alloc: Global, entry: &Entry) -> Result<Self::UndoRecord, Memory>
         ensures ok { (view : FlatView) → Self.stands self.old view → IfOk result (λ undo. Self.stands self.new (after_entry view (plain_entry entry.now))) }
@@ -79,6 +79,11 @@ pub enum Touched {
         root: Node,
         id: Tumbler,
     },
+    /// A document's mark: whether it was published already.
+    Mark {
+        document: Tumbler,
+        mark: bool,
+    },
 }
 
 impl Drop for Touched {
@@ -94,6 +99,10 @@ impl Drop for Touched {
                 home: _,
                 root: _,
                 id: _,
+            } => {}
+            Touched::Mark {
+                document: _,
+                mark: _,
             } => {}
         }
     }
@@ -154,6 +163,16 @@ impl TreeWorld {
         })
     }
 
+    /// The document's mark.
+    fn mark(&self, document: &Tumbler) -> Touched
+        ensures { IsMark self.now document.now result }
+    {
+        Touched::Mark {
+            document: document.copy(),
+            mark: self.documents.published(document),
+        }
+    }
+
     /// What the change is to touch, where the limits count it.
     fn touched(&self, change: &Change) -> Option<Touched>
         ensures { IfSome result (IsTouched self.now (plain_change change.now)) }
@@ -195,6 +214,7 @@ impl TreeWorld {
                 to: _,
                 three: _,
             } => self.home(home, *number),
+            Change::Publish { document } => Some(self.mark(document)),
             _ => None,
         }
     }
@@ -273,6 +293,7 @@ fn tables_back(
             documents.set_root(home, *root);
             links.back(id, &undo.links);
         }
+        Touched::Mark { document, mark } => documents.set_published(document, *mark),
     }
 }
 

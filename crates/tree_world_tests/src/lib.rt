@@ -2,4 +2,6 @@
 #![tactic(auto, using(tree_world::proofs::Counted::by_session))]
 
 #[cfg(test)]
+mod private;
+#[cfg(test)]
 mod taken_back;

@@ -164,6 +164,7 @@ fn is_changing(request: &Request) -> bool {
             to,
             three,
         } => { is(home, 8) && are_specs(from, 9) && are_specs(to, 10) && are_specs(three, 11) }
+        Request::Publish { document } => is(document, 12),
         _ => false,
     }
 }
@@ -326,6 +327,7 @@ fn is_change(change: &Change) -> bool {
                 && are_specs(to, 7)
                 && are_specs(three, 8)
         }
+        Change::Publish { document } => is(document, 9),
         _ => false,
     }
 }
@@ -361,6 +363,7 @@ fn numbers_of_refusals_modes_and_rules(rt: HostRuntime) {
         (Refusal::Full, 12),
         (Refusal::Disk, 13),
         (Refusal::Memory, 14),
+        (Refusal::Private, 15),
     ];
     for (refusal, number) in refusals.iter() {
         assert_eq!(rt; refusal.copy().number(), *number);
@@ -398,6 +401,8 @@ fn clones_of_changing_requests(rt: HostRuntime) -> Result<(), Fail> {
     check_changing(&rt, alloc, copy_of(alloc)?)?;
     check_changing(&rt, alloc, rearrange_of(alloc)?)?;
     check_changing(&rt, alloc, create_link_of(alloc)?)?;
+    let document = made(alloc, 12);
+    check_changing(&rt, alloc, Request::Publish { document })?;
     Ok(())
 }
 
@@ -463,6 +468,8 @@ fn clones_of_entries(rt: HostRuntime) -> Result<(), Fail> {
     check_change(&rt, alloc, rearranged(alloc)?)?;
     check_change(&rt, alloc, copied(alloc)?)?;
     check_change(&rt, alloc, linked(alloc)?)?;
+    let document = made(alloc, 9);
+    check_change(&rt, alloc, Change::Publish { document })?;
     Ok(())
 }
 

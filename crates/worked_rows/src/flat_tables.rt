@@ -1,7 +1,7 @@
 //! The tables' requests, asked of the flat world.
 
 use crate::sessions::{Sessions, bytes_of, push_row};
-use crate::tables::{ACCESS, EDITS, LIMITED, LINKS, Row, Step, TWO_WRITERS, VERSIONS};
+use crate::tables::{ACCESS, EDITS, LIMITED, LINKS, PRIVATE, Row, Step, TWO_WRITERS, VERSIONS};
 use febe_data::{BadLimits, Limits};
 use std::alloc::Global;
 use std::process::Abort;
@@ -89,6 +89,11 @@ fn links_are_found_and_followed(rt: HostRuntime) -> Result<(), Fail> {
 fn documents_are_opened_and_closed(rt: HostRuntime) -> Result<(), Fail> {
     check_rows(&rt, rt.alloc(), TWO_WRITERS)?;
     check_rows(&rt, rt.alloc(), ACCESS)
+}
+
+#[test]
+fn private_documents_are_not_shown(rt: HostRuntime) -> Result<(), Fail> {
+    check_rows(&rt, rt.alloc(), PRIVATE)
 }
 
 #[test]

@@ -10,6 +10,8 @@ mod crash_rows;
 #[cfg(test)]
 mod disk_rows;
 #[cfg(test)]
+mod drawn_rows;
+#[cfg(test)]
 mod entry_rows;
 #[cfg(test)]
 mod faults;
@@ -24,6 +26,8 @@ mod history_rows;
 #[cfg(test)]
 mod journal_rows;
 #[cfg(test)]
+mod marked_rows;
+#[cfg(test)]
 mod page_bytes;
 #[cfg(test)]
 mod page_faults;
@@ -35,6 +39,8 @@ mod page_rows;
 mod page_sessions;
 #[cfg(test)]
 mod paged_runs;
+#[cfg(test)]
+mod private_rows;
 #[cfg(test)]
 mod protocol_rows;
 #[cfg(test)]

@@ -36,6 +36,7 @@ pub(crate) enum Kind {
     Rearrange,
     Copy,
     Link,
+    Publish,
 }
 
 /// A kind, a session and a serial.
@@ -61,6 +62,7 @@ fn kind_of(change: &Change) -> Kind {
         Change::Rearrange { .. } => Kind::Rearrange,
         Change::Copy { .. } => Kind::Copy,
         Change::Link { .. } => Kind::Link,
+        Change::Publish { .. } => Kind::Publish,
     }
 }
 

@@ -115,11 +115,12 @@ fn a_pass_sees_what_another_did(rt: HostRuntime) -> Result<(), Fail> {
     };
     let mut second = lock.new_pass(&mut first);
     write_document(&rt, alloc, &lock, &mut first, "0~A~0.1.1~t1:x")?;
-    assert!(rt; lock.front(&mut second) == 5);
+    ask(&rt, alloc, &lock, &mut first, "40~A~")?;
+    assert!(rt; lock.front(&mut second) == 6);
     begin(&rt, alloc, &lock, &mut second);
     ask(&rt, alloc, &lock, &mut second, "35~A~1~1~")?;
     let told = ask(&rt, alloc, &lock, &mut second, "5~1~A~1~0.1.1~1.1~")?;
-    assert!(rt; told.is(alloc, "5~1~t1:x", 7)?);
+    assert!(rt; told.is(alloc, "5~1~t1:x", 8)?);
     lock.end_pass(&mut first, second);
     drop(lock);
     drop(first);

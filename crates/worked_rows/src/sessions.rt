@@ -89,13 +89,18 @@ impl Sessions {
             limits,
             asked: List::new(alloc),
         };
+        sessions.restart(alloc)?;
+        Ok(sessions)
+    }
+
+    /// Ends all sessions at once, as an opening does.
+    pub(crate) fn restart(&mut self, alloc: Global) -> Result<(), Memory> {
         let restart = Entry {
             session: 0,
             serial: 0,
             change: Change::Restart,
         };
-        sessions.add(alloc, restart)?;
-        Ok(sessions)
+        self.add(alloc, restart)
     }
 
     /// Adds an entry, which changes the world.

@@ -1,7 +1,7 @@
 //! Steps of one store beside what they are answered.
 
 use crate::sessions::{bytes_of, request_of};
-use crate::tables::{Row, Step as Line, TWO_WRITERS};
+use crate::tables::{PRIVATE, Row, Step as Line, TWO_WRITERS};
 use febe_data::{Limits, List, Memory, Request};
 use febe_reply::write_reply;
 use green_fakes::MemoryDisk;
@@ -174,10 +174,18 @@ fn documents_pass_between_sessions(rt: HostRuntime) -> Result<(), Fail> {
     Ok(())
 }
 
+#[test]
+fn a_store_shows_no_private_documents(rt: HostRuntime) -> Result<(), Fail> {
+    for row in PRIVATE {
+        check_row(&rt, rt.alloc(), *row)?;
+    }
+    Ok(())
+}
+
 /// A session's request and its reply; or `begin`, or `end`. The reply is empty where the session is not live.
 type Turn = (u64, &'static str, &'static str);
 
-/// Three sessions that take turns, in 60 steps: two documents that quote each other, links, versions and handing over.
+/// Three sessions that take turns, in 63 steps: two documents that quote each other, links, versions and handing over.
 const TURNS: &[Turn] = &[
     (1, "begin", ""),
     (2, "begin", ""),
@@ -189,6 +197,8 @@ const TURNS: &[Turn] = &[
     (3, "11~", "?1~"),
     (1, "0~A~0.1.1~t6:abcdef", "0~"),
     (2, "0~0.1.1.0.2.0.1~0.1.1~t3:xyz", "0~"),
+    (1, "40~A~", "40~"),
+    (2, "40~0.1.1.0.2.0.1~", "40~"),
     (3, "35~A~1~1~", "35~A~"),
     (2, "35~A~1~1~", "35~A~"),
     (3, "5~1~A~1~0.1.1~1.9~", "5~1~t6:abcdef"),
@@ -233,6 +243,7 @@ const TURNS: &[Turn] = &[
     (2, "5~1~0.1.1.0.2.0.1~1~0.1.1~1.9~", ""),
     (1, "35~0.1.1.0.2.0.1~2~2~", "35~0.1.1.0.1.0.2~"),
     (1, "5~1~0.1.1.0.1.0.2~1~0.1.1~1.9~", "5~1~t6:xyzbcd"),
+    (1, "40~0.1.1.0.1.0.2~", "40~"),
     (3, "35~0.1.1.0.2.0.1~2~1~", "?5~"),
     (3, "34~0.1.1.0.2~", "34~"),
     (3, "35~0.1.1.0.2.0.1~2~1~", "35~0.1.1.0.2.0.1~"),
@@ -285,9 +296,9 @@ fn check_turns(rt: &impl Abort, alloc: Global, house: &mut House) -> Result<(), 
 #[test]
 fn three_sessions_take_turns(rt: HostRuntime) -> Result<(), Fail> {
     let alloc = rt.alloc();
-    assert_eq!(rt; TURNS.len(), 60);
+    assert_eq!(rt; TURNS.len(), 63);
     let mut house = fresh(alloc)?;
     check_turns(&rt, alloc, &mut house)?;
-    assert_eq!(rt; house.store.history().len(), 31);
+    assert_eq!(rt; house.store.history().len(), 34);
     Ok(())
 }

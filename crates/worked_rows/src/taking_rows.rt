@@ -61,12 +61,29 @@ const TAKINGS: &[Taking] = &[
         7,
     ),
     (
-        "P0~11~4",
+        "P0~11~6",
         1,
         &[],
         100,
         &[Answer::Greeting, Answer::Request, Answer::Malformed(6)],
         7,
+    ),
+    // a 4 may go on as 40
+    (
+        "P0~11~4",
+        1,
+        &[],
+        100,
+        &[Answer::Greeting, Answer::Request, Answer::Truncated(7)],
+        7,
+    ),
+    (
+        "P0~11~4~",
+        1,
+        &[],
+        100,
+        &[Answer::Greeting, Answer::Request, Answer::Malformed(7)],
+        8,
     ),
     (
         "P0~34~0.1.1.0.1~",

@@ -6,7 +6,7 @@ use Rattle.std.specs.Cmp.Lexicographic.{bytes_decides}
 use Rattle.std.proofs.lemmas.List.{map-append, length-map}
 use Rattle.std.proofs.lemmas.List.Elements.{filter-append}
 use Rattle.std.proofs.lemmas.List.Sums.{length-filter}
-use Rattle.febe_data.specs.Plain.{PlainEntry, PlainChange, restarted, began, ended, account_changed, document_opened, document_closed, document_created, version_made, copy_opened, text_inserted, span_deleted, blocks_swapped, specs_copied, link_made}
+use Rattle.febe_data.specs.Plain.{PlainEntry, PlainChange, restarted, began, ended, account_changed, document_opened, document_closed, document_created, version_made, copy_opened, text_inserted, span_deleted, blocks_swapped, specs_copied, link_made, document_published}
 use Rattle.world_rules.specs.declared.rows.ByteRow.{ByteRow}
 use Rattle.world_rules.specs.declared.cuts.Cuts.{Cuts}
 use Rattle.world_rules.specs.World.{World, empty_world, is_same, is_child_of, content_address, content_length_of}
@@ -112,6 +112,7 @@ change_numbers world session (span_deleted document span) placed numbered = numb
 change_numbers world session (blocks_swapped document cuts) placed numbered = swapped world document (cuts_of cuts) numbered
 change_numbers world session (specs_copied document at specs) placed numbered = numbered
 change_numbers world session (link_made home number place from to three) placed numbered = numbered
+change_numbers world session (document_published document) placed numbered = numbered
 
 numbers_along : (history : List PlainEntry) (world : World) → AllPlaced world history → AreNumbered world.bytes → AreNumbered (fold apply world history).bytes
 numbers_along [] world placed numbered = numbered

@@ -6,7 +6,7 @@ use Rattle.std.specs.Cmp.Lexicographic.{bytes_decides}
 use Rattle.std.proofs.lemmas.Bool.{or_left, or_right, cases_lt}
 use Rattle.std.proofs.lemmas.List.Folds.{list_any-append}
 use Rattle.std.proofs.lemmas.List.Sums.{sum_by_push}
-use Rattle.febe_data.specs.Plain.{PlainEntry, PlainChange, restarted, began, ended, account_changed, document_opened, document_closed, document_created, version_made, copy_opened, text_inserted, span_deleted, blocks_swapped, specs_copied, link_made}
+use Rattle.febe_data.specs.Plain.{PlainEntry, PlainChange, restarted, began, ended, account_changed, document_opened, document_closed, document_created, version_made, copy_opened, text_inserted, span_deleted, blocks_swapped, specs_copied, link_made, document_published}
 use Rattle.world_rules.specs.declared.cuts.Cuts.{Cuts}
 use Rattle.world_rules.specs.World.{World, empty_world, is_same, is_child_of, next_below}
 use Rattle.world_rules.specs.Edits.{cuts_of}
@@ -84,6 +84,7 @@ change_counts world session (span_deleted document span) placed there = there
 change_counts world session (blocks_swapped document cuts) placed there = swapped world document (cuts_of cuts) there
 change_counts world session (specs_copied document at specs) placed there = there
 change_counts world session (link_made home number place from to three) placed there = there
+change_counts world session (document_published document) placed there = there
 
 counts_along : (history : List PlainEntry) (world : World) → AllPlaced world history → UpToCount world.documents → UpToCount (fold apply world history).documents
 counts_along [] world placed there = there

@@ -6,7 +6,7 @@ use Rattle.std.proofs.lemmas.Bool.{or_left}
 use Rattle.std.proofs.lemmas.List.Elements.{All-nil, All-cons, All-append, All-weaker}
 use Rattle.std.proofs.lemmas.List.Folds.{list_any-append}
 use Rattle.std.proofs.lemmas.List.Sums.{sum_by-append, sum_by_push}
-use Rattle.febe_data.specs.Plain.{PlainSpec, PlainEntry, PlainChange, restarted, began, ended, account_changed, document_opened, document_closed, document_created, version_made, copy_opened, text_inserted, span_deleted, blocks_swapped, specs_copied, link_made}
+use Rattle.febe_data.specs.Plain.{PlainSpec, PlainEntry, PlainChange, restarted, began, ended, account_changed, document_opened, document_closed, document_created, version_made, copy_opened, text_inserted, span_deleted, blocks_swapped, specs_copied, link_made, document_published}
 use Rattle.world_rules.specs.declared.rows.ByteRow.{ByteRow}
 use Rattle.world_rules.specs.declared.cuts.Cuts.{Cuts}
 use Rattle.world_rules.specs.World.{World, LinkRow, empty_world, is_same, is_child_of, has_document, content_address, content_length, content_length_of, link_address, links_made_in}
@@ -184,6 +184,7 @@ change_whole world session (specs_copied document at specs) placed orderly whole
     (with_named world world.rows document at (picked_addresses world specs) (copies_are_there world specs whole.rows) whole.rows) whole
 change_whole world session (link_made home number place from to three) placed orderly whole =
     linked world (change_world world session (link_made home number place from to three)) home number place from to three placed refl refl refl refl orderly whole
+change_whole world session (document_published document) placed orderly whole = same world (change_world world session (document_published document)) refl refl refl refl whole
 
 whole_along : (history : List PlainEntry) (world : World) → AllPlaced world history → IsOrderly world → IsWhole world → IsWhole (fold apply world history)
 whole_along [] world placed orderly whole = whole

@@ -5,6 +5,7 @@ use Rattle.febe_data.specs.Plain.{PlainEntry}
 use Rattle.world_rules.specs.declared.rows.Row.{Row}
 use Rattle.world_rules.specs.declared.rows.ByteRow.{ByteRow}
 use Rattle.world_rules.specs.World.{World, LinkRow, empty_world, is_same, has_document}
+use Rattle.world_rules.specs.Readable.{is_published}
 use Rattle.world_rules.specs.Apply.{world_of}
 use Rattle.world_rules.specs.Placed.{AllPlaced}
 use Rattle.world_rules.specs.Laws.{text_rows, link_rows}
@@ -45,6 +46,10 @@ LinksAreThere = HoldsAfterPlaced (λ world. (address : List ℕ) → IsLinkThere
 -- the home of each link is a document that is there
 abbrev pub HomesAreThere : Type 0
 HomesAreThere = HoldsAfterPlaced (λ world. All (λ (link : LinkRow). IsTrue (has_document world link.home)) world.links)
+
+-- each published document is there
+abbrev pub PublishedAreThere : Type 0
+PublishedAreThere = HoldsAfterPlaced (λ world. (document : List ℕ) → IsTrue (is_published world document) → IsTrue (has_document world document))
 
 -- the runs of each link are content bytes that have come, of documents that are there
 abbrev pub RunsAreThere : Type 0

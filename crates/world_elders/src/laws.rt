@@ -1,5 +1,5 @@
 //! Laws of the worlds that histories of placed changes make.
-ghost use Rattle.world_elders.specs.Laws.{BytesAreOwned, BytesAreThere, EldersAreThere, HomesAreThere, LinkRowsNameLinks, LinksAreThere, NumbersContent, RunsAreThere, ShowsBytesThere};
+ghost use Rattle.world_elders.specs.Laws.{BytesAreOwned, BytesAreThere, EldersAreThere, HomesAreThere, LinkRowsNameLinks, LinksAreThere, NumbersContent, PublishedAreThere, RunsAreThere, ShowsBytesThere};
 
 /// Where the last place of a document's address is above 1, the address with 1 less there is a document of the world too.
 pub fn elders_are_there()
@@ -40,6 +40,11 @@ pub fn links_are_there()
 /// The home of each link is a document of the world. That its links are numbered is a law of `world_laws`.
 pub fn homes_are_there()
     ensures { HomesAreThere }
+{}
+
+/// Each published document is a document of the world.
+pub fn published_are_there()
+    ensures { PublishedAreThere }
 {}
 
 /// Each run of a link is one byte or more of the content of a document of the world, all of which have come, and it was

@@ -1,14 +1,14 @@
 -- What an entry makes of a turned view is a turned one of what it makes of the view.
-use Rattle.std.proofs.Common.{◌≡◌, ℕ, ◌∙◌, Bool, true, false, List, [], ◌∷◌, ◌++◌, Option, Some, None, Result, Ok, Err, OnOk, OnErr, cond, refl, sym, ap, subst, IsPermutation}
+use Rattle.std.proofs.Common.{◌≡◌, ℕ, ◌∙◌, ◌&&◌, Bool, true, false, List, [], ◌∷◌, ◌++◌, Option, Some, None, Result, Ok, Err, OnOk, OnErr, cond, refl, sym, ap, subst, IsPermutation}
 use Rattle.std.specs.List.{find}
 use Rattle.std.proofs.lemmas.List.Sorted.{IsPermutation-append_left}
-use Rattle.febe_data.specs.Plain.{PlainChange, PlainEntry, restarted, began, ended, account_changed, document_opened, document_closed, document_created, version_made, copy_opened, text_inserted, span_deleted, blocks_swapped, specs_copied, link_made}
+use Rattle.febe_data.specs.Plain.{PlainChange, PlainEntry, restarted, began, ended, account_changed, document_opened, document_closed, document_created, version_made, copy_opened, text_inserted, span_deleted, blocks_swapped, specs_copied, link_made, document_published}
 use Rattle.world_rules.specs.declared.cuts.Cuts.{Cuts}
 use Rattle.world_rules.specs.World.{World, LinkRow, is_same}
 use Rattle.world_rules.specs.Edits.{cuts_of}
 use Rattle.world_rules.specs.Apply.{change_world, with_swapped, link_between}
 use Rattle.world_rules.specs.FlatView.{FlatView, after_entry}
-use Rattle.world_rows.specs.Turned.{IsTurned, with_lists}
+use Rattle.world_rows.specs.Turned.{IsTurned, with_lists, first_read}
 use Rattle.world_rows.proofs.Turns.{turned_has}
 
 -- the documents and the links after a change
@@ -43,6 +43,7 @@ changed_lists world documents links session (span_deleted document span) = refl
 changed_lists world documents links session (blocks_swapped document cuts) = swapped_lists world documents links document (cuts_of cuts)
 changed_lists world documents links session (specs_copied document at specs) = refl
 changed_lists world documents links session (link_made home number place from to three) = refl
+changed_lists world documents links session (document_published document) = refl
 
 documents_moved : (documents others : List (List ℕ)) (change : PlainChange) → IsPermutation documents others → IsPermutation (documents_after documents change) (documents_after others change)
 documents_moved documents others restarted moved = moved
@@ -59,13 +60,14 @@ documents_moved documents others (span_deleted document span) moved = moved
 documents_moved documents others (blocks_swapped document cuts) moved = moved
 documents_moved documents others (specs_copied document at specs) moved = moved
 documents_moved documents others (link_made home number place from to three) moved = moved
+documents_moved documents others (document_published document) moved = moved
 
 -- ---- links
 
--- the links are the same in another order, and the first of an id is the same
+-- the links are the same in another order, and the first of an id is the same, whichever homes are read
 record AreMoved (links others : List LinkRow) : Type 0 where
   pub moved : IsPermutation links others
-  pub by_id : (id : List ℕ) → find (λ (link : LinkRow). is_same link.id id) links ≡ find (λ (link : LinkRow). is_same link.id id) others
+  pub by_id : (reads : List ℕ → Bool) (id : List ℕ) → first_read links reads id ≡ first_read others reads id
 
 abbrev or_else : {X : Type 0} → Option X → Option X → Option X
 or_else (Some x) other = Some x
@@ -83,9 +85,9 @@ find_push p (y ∷ xs) x = by_test (p y) (find_push p xs x)
 one_more : (links others : List LinkRow) (link : LinkRow) → AreMoved links others → AreMoved (links ++ link ∷ []) (others ++ link ∷ [])
 one_more links others link are = record {
   moved = IsPermutation-append_left (link ∷ []) links others are.moved;
-  by_id = λ id.
-      let p = (λ (l : LinkRow). is_same l.id id) in
-      find_push p links link ∙ ap (λ (found : Option LinkRow). or_else found (cond (p link) (Some link) None)) (are.by_id id) ∙ sym (find_push p others link);
+  by_id = λ reads id.
+      let p = (λ (l : LinkRow). reads l.home && is_same l.id id) in
+      find_push p links link ∙ ap (λ (found : Option LinkRow). or_else found (cond (p link) (Some link) None)) (are.by_id reads id) ∙ sym (find_push p others link);
 }
 
 links_moved : (world : World) (links others : List LinkRow) (change : PlainChange) → AreMoved links others → AreMoved (links_after world links change) (links_after world others change)
@@ -103,6 +105,7 @@ links_moved world links others (span_deleted document span) are = are
 links_moved world links others (blocks_swapped document cuts) are = are
 links_moved world links others (specs_copied document at specs) are = are
 links_moved world links others (link_made home number place from to three) are = one_more links others (link_between world home number from to three) are
+links_moved world links others (document_published document) are = are
 
 -- ---- entries
 

@@ -73,6 +73,12 @@ fn linked(alloc: Global, number: u32, place: u32, of: &[u32]) -> Result<Change, 
     })
 }
 
+fn published(alloc: Global, document: &[u32]) -> Result<Change, Memory> {
+    Ok(Change::Publish {
+        document: address(alloc, document)?,
+    })
+}
+
 /// The log in which session 4 made a document, and put `abc` into it.
 fn short_log(alloc: Global) -> Result<Log, Memory> {
     let mut log = Log {
@@ -131,5 +137,15 @@ fn documents_and_links_fit_by_their_places(rt: HostRuntime) -> Result<(), Fail> 
     ] {
         assert_eq!(rt; log.fits(alloc, 4, 6, change), Ok(wanted));
     }
+    Ok(())
+}
+
+#[test]
+fn a_publish_fits_where_its_document_is_there(rt: HostRuntime) -> Result<(), Fail> {
+    let alloc = rt.alloc();
+    let log = short_log(alloc)?;
+    let (there, absent) = (published(alloc, &FIRST)?, published(alloc, &SECOND)?);
+    assert_eq!(rt; log.fits(alloc, 4, 6, there), Ok(true));
+    assert_eq!(rt; log.fits(alloc, 4, 6, absent), Ok(false));
     Ok(())
 }

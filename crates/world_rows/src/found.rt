@@ -95,11 +95,19 @@ fn relates<W: Find>(alloc: Global, world: &W) -> Result<bool, Memory> {
     Ok(diagonals.as_slice() == [shared].as_slice())
 }
 
-/// Whether both documents show `a`, the first before the second.
+/// Whether both documents show `a`, the first before the second, to their own account.
 fn finds_documents<W: Find>(alloc: Global, world: &W) -> Result<bool, Memory> {
     let picked = specs(alloc, &SECOND, 1, 1)?;
-    let found = world.documents_found(alloc, picked.as_slice())?;
+    let found = world.documents_found(alloc, 1, picked.as_slice())?;
     let wanted = [address(alloc, &FIRST)?, address(alloc, &SECOND)?];
+    Ok(found.as_slice() == wanted.as_slice())
+}
+
+/// Whether another session finds the one that is published alone.
+fn finds_what_is_published<W: Find>(alloc: Global, world: &W) -> Result<bool, Memory> {
+    let picked = specs(alloc, &SECOND, 1, 1)?;
+    let found = world.documents_found(alloc, 2, picked.as_slice())?;
+    let wanted = [address(alloc, &FIRST)?];
     Ok(found.as_slice() == wanted.as_slice())
 }
 
@@ -142,11 +150,11 @@ fn finds_links<W: Find>(alloc: Global, world: &W) -> Result<bool, Memory> {
     let Some(runs) = wanted_runs(alloc, world, &want)? else {
         return Ok(false);
     };
-    let ids = world.ids_found(alloc, &want, &runs)?;
-    let after = world.ids_after(alloc, &want, &runs, &address(alloc, &FIRST)?, 7)?;
-    let behind = world.ids_after(alloc, &want, &runs, &address(alloc, &LINK)?, 7)?;
+    let ids = world.ids_found(alloc, 1, &want, &runs)?;
+    let after = world.ids_after(alloc, 1, &want, &runs, &address(alloc, &FIRST)?, 7)?;
+    let behind = world.ids_after(alloc, 2, &want, &runs, &address(alloc, &LINK)?, 7)?;
     Ok(
-        world.links_found(&want, &runs)? == 1
+        world.links_found(2, &want, &runs)? == 1
             && is_the_link(alloc, ids.as_slice())?
             && is_the_link(alloc, after.as_slice())?
             && behind.is_empty(),
@@ -165,12 +173,12 @@ fn is_place(alloc: Global, specs: &[Spec], position: u32) -> Result<bool, Memory
 /// Whether the link is there, with its second end at `b`, and its third where `c` is picked.
 fn has_its_ends<W: Find>(alloc: Global, world: &W) -> Result<bool, Memory> {
     let id = address(alloc, &LINK)?;
-    let end = world.end_now(alloc, &id, End::To)?;
+    let end = world.end_now(alloc, 1, &id, End::To)?;
     let picked = specs(alloc, &FIRST, 1, 9)?;
-    let set = world.end_set(alloc, End::Three, picked.as_slice())?;
+    let set = world.end_set(alloc, 2, End::Three, picked.as_slice())?;
     Ok(
-        world.has_link(&id)
-            && !world.has_link(&address(alloc, &FIRST)?)
+        world.has_link(2, &id)
+            && !world.has_link(1, &address(alloc, &FIRST)?)
             && is_place(alloc, end.as_slice(), 2)?
             && is_place(alloc, set.as_slice(), 3)?,
     )
@@ -182,6 +190,7 @@ pub(crate) fn check_finds<W: Find>(rt: &impl Abort, alloc: Global, world: &W) ->
     assert!(rt; gives_its_text(alloc, world)?);
     assert!(rt; relates(alloc, world)?);
     assert!(rt; finds_documents(alloc, world)?);
+    assert!(rt; finds_what_is_published(alloc, world)?);
     assert!(rt; finds_links(alloc, world)?);
     assert!(rt; has_its_ends(alloc, world)?);
     Ok(())

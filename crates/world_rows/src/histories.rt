@@ -97,8 +97,8 @@ fn push_link(alloc: Global, history: &mut List<Entry>) -> Result<(), Memory> {
     push(history, linked)
 }
 
-/// A session sets its account, makes these two documents in this order, and puts a text, a quotation and a link into
-/// them.
+/// A session sets its account, makes these two documents in this order, puts a text, a quotation and a link into them, and
+/// publishes the first one.
 pub(crate) fn history(
     alloc: Global,
     document: &[u32],
@@ -112,5 +112,7 @@ pub(crate) fn history(
     push_document(alloc, &mut history, other)?;
     push_text(alloc, &mut history)?;
     push_link(alloc, &mut history)?;
+    let document = address(alloc, &FIRST)?;
+    push(&mut history, Change::Publish { document })?;
     Ok(history)
 }

@@ -12,6 +12,8 @@ mod histories;
 #[cfg(test)]
 mod looked;
 #[cfg(test)]
+mod private;
+#[cfg(test)]
 mod turned;
 #[cfg(test)]
 mod worlds;

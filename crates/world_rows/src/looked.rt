@@ -23,6 +23,14 @@ fn has_documents<W: LookUp>(alloc: Global, world: &W) -> Result<bool, Memory> {
     )
 }
 
+/// Whether the first document is published, and the second is not.
+fn has_published<W: LookUp>(alloc: Global, world: &W) -> Result<bool, Memory> {
+    Ok(
+        world.is_published(&address(alloc, &FIRST)?)
+            && !world.is_published(&address(alloc, &SECOND)?),
+    )
+}
+
 /// Whether the next document and the first version have their addresses.
 fn numbers_documents<W: LookUp>(alloc: Global, world: &W) -> Result<bool, Memory> {
     let next = address(alloc, &[1, 1, 0, 1, 0, 3])?;
@@ -62,7 +70,7 @@ fn check_lengths<W: LookUp>(rt: &impl Abort, alloc: Global, world: &W) -> Result
     );
     assert_eq!(rt;
         (world.content(), world.counted(), world.entries_of(1)),
-        (3, 5, 10)
+        (3, 6, 11)
     );
     Ok(())
 }
@@ -75,6 +83,7 @@ pub(crate) fn check_lookups<W: LookUp>(
 ) -> Result<(), Fail> {
     assert!(rt; has_account(alloc, world)?);
     assert!(rt; has_documents(alloc, world)?);
+    assert!(rt; has_published(alloc, world)?);
     assert!(rt; numbers_documents(alloc, world)?);
     assert!(rt; numbers_contents(alloc, world)?);
     check_open(rt, alloc, world)?;

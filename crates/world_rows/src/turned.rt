@@ -31,6 +31,10 @@ impl<W: LookUp> LookUp for TurnedWorld<W> {
         self.held.has_document(document)
     }
 
+    fn is_published(&self, document: &Tumbler) -> bool {
+        self.held.is_published(document)
+    }
+
     fn account_of_session(&self, session: u64) -> Option<Tumbler> {
         self.held.account_of_session(session)
     }
@@ -103,44 +107,64 @@ impl<W: Find> Find for TurnedWorld<W> {
         self.held.diagonals(alloc, left, right)
     }
 
-    fn documents_found(&self, alloc: Global, specs: &[Spec]) -> Result<List<Tumbler>, WorldError> {
-        self.held.documents_found(alloc, specs)
+    fn documents_found(
+        &self,
+        alloc: Global,
+        session: u64,
+        specs: &[Spec],
+    ) -> Result<List<Tumbler>, WorldError> {
+        self.held.documents_found(alloc, session, specs)
     }
 
-    fn links_found(&self, want: &Want, runs: &WantedRuns) -> Result<u32, WorldError> {
-        self.held.links_found(want, runs)
+    fn links_found(&self, session: u64, want: &Want, runs: &WantedRuns) -> Result<u32, WorldError> {
+        self.held.links_found(session, want, runs)
     }
 
     fn ids_found(
         &self,
         alloc: Global,
+        session: u64,
         want: &Want,
         runs: &WantedRuns,
     ) -> Result<List<Tumbler>, WorldError> {
-        self.held.ids_found(alloc, want, runs)
+        self.held.ids_found(alloc, session, want, runs)
     }
 
     fn ids_after(
         &self,
         alloc: Global,
+        session: u64,
         want: &Want,
         runs: &WantedRuns,
         after: &Tumbler,
         limit: u32,
     ) -> Result<List<Tumbler>, WorldError> {
-        self.held.ids_after(alloc, want, runs, after, limit)
+        self.held
+            .ids_after(alloc, session, want, runs, after, limit)
     }
 
-    fn has_link(&self, id: &Tumbler) -> bool {
-        self.held.has_link(id)
+    fn has_link(&self, session: u64, id: &Tumbler) -> bool {
+        self.held.has_link(session, id)
     }
 
-    fn end_now(&self, alloc: Global, id: &Tumbler, end: End) -> Result<List<Spec>, WorldError> {
-        self.held.end_now(alloc, id, end)
+    fn end_now(
+        &self,
+        alloc: Global,
+        session: u64,
+        id: &Tumbler,
+        end: End,
+    ) -> Result<List<Spec>, WorldError> {
+        self.held.end_now(alloc, session, id, end)
     }
 
-    fn end_set(&self, alloc: Global, end: End, specs: &[Spec]) -> Result<List<Spec>, WorldError> {
-        self.held.end_set(alloc, end, specs)
+    fn end_set(
+        &self,
+        alloc: Global,
+        session: u64,
+        end: End,
+        specs: &[Spec],
+    ) -> Result<List<Spec>, WorldError> {
+        self.held.end_set(alloc, session, end, specs)
     }
 }
 

@@ -9,12 +9,12 @@ use Rattle.std.proofs.lemmas.List.{take_at, take-append-drop, length-append}
 use Rattle.std.proofs.lemmas.List.Elements.{All-nil, All-cons, All-head, All-tail, All-append, All-filter}
 use Rattle.tumbler.specs.Address.{IsAccount, IsDocumentOf}
 use Rattle.tumbler.proofs.Addresses.{one_cut}
-use Rattle.febe_data.specs.Plain.{PlainEntry, PlainChange, restarted, began, ended, account_changed, document_opened, document_closed, document_created, version_made, copy_opened, text_inserted, span_deleted, blocks_swapped, specs_copied, link_made}
+use Rattle.febe_data.specs.Plain.{PlainEntry, PlainChange, restarted, began, ended, account_changed, document_opened, document_closed, document_created, version_made, copy_opened, text_inserted, span_deleted, blocks_swapped, specs_copied, link_made, document_published}
 use Rattle.world_rules.specs.declared.rows.AccountRow.{AccountRow}
 use Rattle.world_rules.specs.World.{World, empty_world, is_same, is_of_account, account_of_session}
 use Rattle.world_rules.specs.Edits.{Cuts, cuts_of}
 use Rattle.world_rules.specs.Apply.{apply, change_world, world_of, with_swapped}
-use Rattle.world_rules.specs.Refusals.{owns}
+use Rattle.world_rules.specs.Readable.{owns}
 use Rattle.world_rules.specs.Placed.{IsKnownAccount, IsPlaced, AllPlaced}
 use Rattle.world_rules.specs.Accounts.{OfItsAccount, SetsAccounts, OwnsByAccount}
 
@@ -77,6 +77,7 @@ change_accounts world session (span_deleted document span) placed all = all
 change_accounts world session (blocks_swapped document cuts) placed all = swapped_accounts world document (cuts_of cuts) all
 change_accounts world session (specs_copied document at specs) placed all = all
 change_accounts world session (link_made home number place from to three) placed all = all
+change_accounts world session (document_published document) placed all = all
 
 pub accounts_along : (history : List PlainEntry) (world : World) → AllPlaced world history → AllAccounts world → AllAccounts (fold apply world history)
 accounts_along [] world placed all = all

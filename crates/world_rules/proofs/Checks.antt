@@ -6,13 +6,14 @@ use Rattle.std.proofs.lemmas.Bool.Decides.{nat_tests}
 use Rattle.std.proofs.lemmas.Option.{none-some}
 use Rattle.tumbler.specs.Places.{IsTumbler}
 use Rattle.febe_data.specs.declared.refusal.Refusal.{Refusal}
-use Rattle.febe_data.specs.declared.refusal.Refusal.TheVariants.{NoSuchDocument, NotOpen, BadAddress, TooLong}
+use Rattle.febe_data.specs.declared.refusal.Refusal.TheVariants.{NoSuchDocument, Private, NotOpen, BadAddress, TooLong}
 use Rattle.febe_data.specs.LimitsView.{LimitsView}
 use Rattle.febe_data.specs.Plain.{PlainSpec, relate}
 use Rattle.febe_data.specs.Validity.{IsList}
-use Rattle.world_rules.specs.World.{World, has_document, mode_of}
+use Rattle.world_rules.specs.World.{World, has_document, account_of_session, mode_of}
+use Rattle.world_rules.specs.Readable.{is_readable_by}
 use Rattle.world_rules.specs.Relation.{diagonals}
-use Rattle.world_rules.specs.Refusals.{Check, first_holding, picking, has_bad_span, is_bad_span, is_too_long, lacks_document, lacks_opening, wanted}
+use Rattle.world_rules.specs.Refusals.{Check, first_holding, picking, has_bad_span, is_bad_span, is_too_long, lacks_document, hides_document, lacks_opening, wanted}
 
 held_step : (holds : Bool) (own refusal : Refusal) (found more : Option Refusal) → (found ≡ Some refusal → more ≡ Some refusal)
     → (if holds then Some own else found) ≡ Some refusal → (if holds then Some own else more) ≡ Some refusal
@@ -40,9 +41,10 @@ first_fails false refusal xs none = (refl, none)
 -- specs that are picked from have no bad span
 pub picking_fits : (world : World) (session : ℕ) (specs : List PlainSpec) → first_holding (picking world session specs) ≡ None → has_bad_span specs ≡ false
 picking_fits world session specs none =
-    let after = first_fails (lacks_document world specs) NoSuchDocument ((lacks_opening world session specs, NotOpen) ∷ (has_bad_span specs, BadAddress) ∷ []) none in
-    let left = first_fails (lacks_opening world session specs) NotOpen ((has_bad_span specs, BadAddress) ∷ []) after.1 in
-    (first_fails (has_bad_span specs) BadAddress [] left.1).0
+    let there = first_fails (lacks_document world specs) NoSuchDocument ((hides_document world session specs, Private) ∷ (lacks_opening world session specs, NotOpen) ∷ (has_bad_span specs, BadAddress) ∷ []) none in
+    let shown = first_fails (hides_document world session specs) Private ((lacks_opening world session specs, NotOpen) ∷ (has_bad_span specs, BadAddress) ∷ []) there.1 in
+    let open_too = first_fails (lacks_opening world session specs) NotOpen ((has_bad_span specs, BadAddress) ∷ []) shown.1 in
+    (first_fails (has_bad_span specs) BadAddress [] open_too.1).0
 
 -- three spec sets are as the one of all their specs
 any-append : {X : Type 0} (p : X → Bool) (xs ys : List X) → list_any p (xs ++ ys) ≡ (list_any p xs || list_any p ys)
@@ -59,10 +61,13 @@ lacks-append world xs ys = any-append (λ (spec : PlainSpec). not (has_document 
 pub closed-append : (world : World) (session : ℕ) (xs ys : List PlainSpec) → lacks_opening world session (xs ++ ys) ≡ (lacks_opening world session xs || lacks_opening world session ys)
 closed-append world session xs ys = any-append (λ (spec : PlainSpec). is_none (mode_of world session spec.document)) xs ys
 
+pub hides-append : (world : World) (session : ℕ) (xs ys : List PlainSpec) → hides_document world session (xs ++ ys) ≡ (hides_document world session xs || hides_document world session ys)
+hides-append world session xs ys = any-append (λ (spec : PlainSpec). not (is_readable_by world.published (account_of_session world session) spec.document)) xs ys
+
 pub bad-append : (xs ys : List PlainSpec) → has_bad_span (xs ++ ys) ≡ (has_bad_span xs || has_bad_span ys)
 bad-append xs ys = any-append (λ (spec : PlainSpec). list_any is_bad_span spec.spans) xs ys
 
-pub ruleset three_sets = (lacks-append, closed-append, bad-append)
+pub ruleset three_sets = (lacks-append, hides-append, closed-append, bad-append)
 
 pub ruleset refusals = (held_first, held_then, picking_fits)
 
@@ -85,14 +90,15 @@ pub ruleset served = (held_first, held_then, are_listed)
 -- where what is read is not refused, no span is bad
 pub spans_fit : (world : World) (session : ℕ) (left right : PlainSpec) → first_holding (picking world session (left ∷ right ∷ [])) ≡ None
     → (list_any is_bad_span left.spans ≡ false) × (list_any is_bad_span right.spans ≡ false)
-spans_fit world session left right none = go (lacks_document world (left ∷ right ∷ [])) (lacks_opening world session (left ∷ right ∷ [])) (list_any is_bad_span left.spans) (list_any is_bad_span right.spans) none
+spans_fit world session left right none = go (lacks_document world (left ∷ right ∷ [])) (hides_document world session (left ∷ right ∷ [])) (lacks_opening world session (left ∷ right ∷ [])) (list_any is_bad_span left.spans) (list_any is_bad_span right.spans) none
   where
-    go : (a b l r : Bool) → first_holding ((a, NoSuchDocument) ∷ (b, NotOpen) ∷ (l || (r || false), BadAddress) ∷ []) ≡ None → (l ≡ false) × (r ≡ false)
-    go true b l r e = absurd cc
-    go false true l r e = absurd cc
-    go false false true r e = absurd cc
-    go false false false true e = absurd cc
-    go false false false false e = (refl, refl)
+    go : (a h b l r : Bool) → first_holding ((a, NoSuchDocument) ∷ (h, Private) ∷ (b, NotOpen) ∷ (l || (r || false), BadAddress) ∷ []) ≡ None → (l ≡ false) × (r ≡ false)
+    go true h b l r e = absurd cc
+    go false true b l r e = absurd cc
+    go false false true l r e = absurd cc
+    go false false false true r e = absurd cc
+    go false false false false true e = absurd cc
+    go false false false false false e = (refl, refl)
 
 pub too_many_diagonals : (limits : LimitsView) (counted : ℕ) (world : World) (session : ℕ) (left right : PlainSpec) → first_holding (picking world session (left ∷ right ∷ [])) ≡ None → is_too_long (length (diagonals world left right)) ≡ true
     → wanted limits counted world session (relate left right) ≡ Some TooLong

@@ -44,4 +44,5 @@ copies_specs world session document at specs place =
       same_documents = refl;
       same_bytes = refl;
       same_links = refl;
+      same_published = refl;
     }

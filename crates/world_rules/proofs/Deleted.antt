@@ -172,4 +172,5 @@ deletes_span world session document span =
       same_documents = refl;
       same_bytes = refl;
       same_links = refl;
+      same_published = refl;
     }

@@ -7,7 +7,7 @@ use Rattle.std.proofs.lemmas.Bool.{true≢false, or_cases}
 use Rattle.std.proofs.lemmas.List.{length-append}
 use Rattle.std.proofs.lemmas.List.Elements.{All-nil, All-cons, All-head, All-tail, All-append}
 use Rattle.tumbler.specs.Address.{IsField, IsAccount, IsDocument, IsDocumentOf}
-use Rattle.febe_data.specs.Plain.{PlainEntry, PlainChange, restarted, began, ended, account_changed, document_opened, document_closed, document_created, version_made, copy_opened, text_inserted, span_deleted, blocks_swapped, specs_copied, link_made}
+use Rattle.febe_data.specs.Plain.{PlainEntry, PlainChange, restarted, began, ended, account_changed, document_opened, document_closed, document_created, version_made, copy_opened, text_inserted, span_deleted, blocks_swapped, specs_copied, link_made, document_published}
 use Rattle.world_rules.specs.World.{World, empty_world, is_same, is_child_of}
 use Rattle.world_rules.specs.Edits.{Cuts, cuts_of}
 use Rattle.world_rules.specs.Apply.{apply, change_world, world_of, with_swapped}
@@ -94,6 +94,7 @@ change_documents world session (span_deleted document span) placed accounts all 
 change_documents world session (blocks_swapped document cuts) placed accounts all = swapped_documents world document (cuts_of cuts) all
 change_documents world session (specs_copied document at specs) placed accounts all = all
 change_documents world session (link_made home number place from to three) placed accounts all = all
+change_documents world session (document_published document) placed accounts all = all
 
 documents_along : (history : List PlainEntry) (world : World) → AllPlaced world history → AllAccounts world → AllDocuments world → AllDocuments (fold apply world history)
 documents_along [] world placed accounts all = all

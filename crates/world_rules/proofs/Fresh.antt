@@ -6,7 +6,7 @@ use Rattle.std.proofs.lemmas.Bool.{and_parts, true≢false}
 use Rattle.std.proofs.lemmas.List.Elements.{filter-append, All-nil, All-cons, All-head, All-tail, All-append, All-filter, All-map, All-weaker}
 use Rattle.std.proofs.lemmas.List.Sums.{length-filter}
 use Rattle.tumbler.specs.declared.span.Span.{Span}
-use Rattle.febe_data.specs.Plain.{PlainSpec, PlainEntry, PlainChange, restarted, began, ended, account_changed, document_opened, document_closed, document_created, version_made, copy_opened, text_inserted, span_deleted, blocks_swapped, specs_copied, link_made}
+use Rattle.febe_data.specs.Plain.{PlainSpec, PlainEntry, PlainChange, restarted, began, ended, account_changed, document_opened, document_closed, document_created, version_made, copy_opened, text_inserted, span_deleted, blocks_swapped, specs_copied, link_made, document_published}
 use Rattle.world_rules.specs.declared.rows.Part.TheVariants.{Text}
 use Rattle.world_rules.specs.declared.rows.Row.{Row}
 use Rattle.world_rules.specs.declared.rows.ByteRow.{ByteRow}
@@ -196,6 +196,7 @@ change_come world session (span_deleted document span) placed come = without_com
 change_come world session (blocks_swapped document cuts) placed come = swap_come world session document cuts placed.bounds placed.are_cuts come
 change_come world session (specs_copied document at specs) placed come = with_come world.bytes world.rows document at (picked_addresses world specs) (copies_come world specs come) come
 change_come world session (link_made home number place from to three) placed come = link_come world.bytes world.rows home number place come
+change_come world session (document_published document) placed come = come
 
 come_along : (history : List PlainEntry) (world : World) → AllPlaced world history → AllCome world → AllCome (fold apply world history)
 come_along [] world placed come = come

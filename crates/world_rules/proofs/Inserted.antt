@@ -73,21 +73,22 @@ inserts_numbered world document at first text place other numbered =
 
 -- text rows of a document that come in leave all else
 pub leaves_all_but : (world after : World) (document : List ℕ) (at : ℕ) (addresses : List (List ℕ)) → after.rows ≡ rows_with world.rows document at addresses → after.documents ≡ world.documents
-    → after.links ≡ world.links → after.open_rows ≡ world.open_rows → after.accounts ≡ world.accounts → LeavesAllBut world document after
-leaves_all_but world after document at addresses rows documents links open_rows accounts =
+    → after.links ≡ world.links → after.published ≡ world.published → after.open_rows ≡ world.open_rows → after.accounts ≡ world.accounts → LeavesAllBut world document after
+leaves_all_but world after document at addresses rows documents links published open_rows accounts =
     let other : Row → Bool = λ row. not (is_text_of document row) in
     record {
       others = ap (filter other) rows ∙ others_with other document (λ row none. not-true (is_text_of document row) none) (λ k row. refl) world.rows at addresses;
       same_documents = documents;
       same_links = links;
+      same_published = published;
       same_open_rows = open_rows;
       same_accounts = accounts;
     }
 
 pub insert_leaves_others : InsertLeavesOthers
 insert_leaves_others world session document at first text =
-    (leaves_all_but world (change_world world session (text_inserted document at first text)) document at (content_addresses document first (length text)) refl refl refl refl refl, refl)
+    (leaves_all_but world (change_world world session (text_inserted document at first text)) document at (content_addresses document first (length text)) refl refl refl refl refl refl, refl)
 
 pub copy_leaves_others : CopyLeavesOthers
 copy_leaves_others world session document at specs =
-    (leaves_all_but world (change_world world session (specs_copied document at specs)) document at (picked_addresses world specs) refl refl refl refl refl, refl)
+    (leaves_all_but world (change_world world session (specs_copied document at specs)) document at (picked_addresses world specs) refl refl refl refl refl refl, refl)

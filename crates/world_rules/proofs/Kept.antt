@@ -4,7 +4,7 @@ use Rattle.std.specs.Prelude.{filter, Option, Some, None}
 use Rattle.std.specs.List.{fold}
 use Rattle.std.proofs.lemmas.Bool.{true≢false}
 use Rattle.std.proofs.lemmas.List.Elements.{filter-append}
-use Rattle.febe_data.specs.Plain.{PlainEntry, PlainChange, restarted, began, ended, account_changed, document_opened, document_closed, document_created, version_made, copy_opened, text_inserted, span_deleted, blocks_swapped, specs_copied, link_made}
+use Rattle.febe_data.specs.Plain.{PlainEntry, PlainChange, restarted, began, ended, account_changed, document_opened, document_closed, document_created, version_made, copy_opened, text_inserted, span_deleted, blocks_swapped, specs_copied, link_made, document_published}
 use Rattle.world_rules.specs.World.{World, empty_world}
 use Rattle.world_rules.specs.Picking.{picked_addresses}
 use Rattle.world_rules.specs.Edits.{Cuts, cuts_of, rows_with, content_addresses, new_bytes, rows_without, rows_swapped, rows_as}
@@ -16,7 +16,7 @@ use Rattle.world_rules.specs.Laws.{HasContentsOf, KeepsContents, KeptAgain}
 swapped_alike : (one other : World) (session : ℕ) (document cuts : List ℕ) (bounds : Option Cuts) → cuts_of cuts ≡ bounds → HasContentsOf one other
     → HasContentsOf (change_world one session (blocks_swapped document cuts)) (change_world other session (blocks_swapped document cuts))
 swapped_alike one other session document cuts (Some bounds) e same =
-    rw e (record { documents = same.documents; rows = ap (λ rows. rows_swapped rows document bounds) same.rows; bytes = same.bytes; links = same.links })
+    rw e (record { documents = same.documents; rows = ap (λ rows. rows_swapped rows document bounds) same.rows; bytes = same.bytes; links = same.links; published = same.published })
 swapped_alike one other session document cuts None e same = rw e same
 
 -- a counted change changes the contents of two worlds alike
@@ -28,29 +28,31 @@ counted_alike one other session (account_changed account) counted same = absurd 
 counted_alike one other session (document_opened document mode) counted same = absurd (true≢false (sym counted))
 counted_alike one other session (document_closed document) counted same = absurd (true≢false (sym counted))
 counted_alike one other session (document_created document) counted same =
-    record { documents = ap (λ ds. ds ++ document ∷ []) same.documents; rows = same.rows; bytes = same.bytes; links = same.links }
+    record { documents = ap (λ ds. ds ++ document ∷ []) same.documents; rows = same.rows; bytes = same.bytes; links = same.links; published = same.published }
 counted_alike one other session (version_made source document) counted same =
-    record { documents = ap (λ ds. ds ++ document ∷ []) same.documents; rows = ap (λ rows. rows ++ rows_as rows source document) same.rows; bytes = same.bytes; links = same.links }
+    record { documents = ap (λ ds. ds ++ document ∷ []) same.documents; rows = ap (λ rows. rows ++ rows_as rows source document) same.rows; bytes = same.bytes; links = same.links; published = same.published }
 counted_alike one other session (copy_opened source document) counted same =
-    record { documents = ap (λ ds. ds ++ document ∷ []) same.documents; rows = ap (λ rows. rows ++ rows_as rows source document) same.rows; bytes = same.bytes; links = same.links }
+    record { documents = ap (λ ds. ds ++ document ∷ []) same.documents; rows = ap (λ rows. rows ++ rows_as rows source document) same.rows; bytes = same.bytes; links = same.links; published = same.published }
 counted_alike one other session (text_inserted document at first text) counted same =
-    record { documents = same.documents; rows = ap (λ rows. rows_with rows document at (content_addresses document first (length text))) same.rows; bytes = ap (λ bytes. bytes ++ new_bytes document first text) same.bytes; links = same.links }
+    record { documents = same.documents; rows = ap (λ rows. rows_with rows document at (content_addresses document first (length text))) same.rows; bytes = ap (λ bytes. bytes ++ new_bytes document first text) same.bytes; links = same.links; published = same.published }
 counted_alike one other session (span_deleted document span) counted same =
-    record { documents = same.documents; rows = ap (λ rows. rows_without rows document span) same.rows; bytes = same.bytes; links = same.links }
+    record { documents = same.documents; rows = ap (λ rows. rows_without rows document span) same.rows; bytes = same.bytes; links = same.links; published = same.published }
 counted_alike one other session (blocks_swapped document cuts) counted same = swapped_alike one other session document cuts (cuts_of cuts) refl same
 counted_alike one other session (specs_copied document at specs) counted same =
-    record { documents = same.documents; rows = ap (λ rows. rows_with rows document at (picked_addresses (record one { rows = rows }) specs)) same.rows; bytes = same.bytes; links = same.links }
+    record { documents = same.documents; rows = ap (λ rows. rows_with rows document at (picked_addresses (record one { rows = rows }) specs)) same.rows; bytes = same.bytes; links = same.links; published = same.published }
 counted_alike one other session (link_made home number place from to three) counted same =
-    record { documents = same.documents; rows = ap (λ rows. rows ++ link_row home number place ∷ []) same.rows; bytes = same.bytes; links = λ i. same.links i ++ link_between (record one { rows = same.rows i }) home number from to three ∷ [] }
+    record { documents = same.documents; rows = ap (λ rows. rows ++ link_row home number place ∷ []) same.rows; bytes = same.bytes; links = λ i. same.links i ++ link_between (record one { rows = same.rows i }) home number from to three ∷ []; published = same.published }
+counted_alike one other session (document_published document) counted same =
+    record { documents = same.documents; rows = same.rows; bytes = same.bytes; links = same.links; published = ap (λ marked. marked ++ document ∷ []) same.published }
 
 -- any other changes no contents
 pub others_leave : (one other : World) (session : ℕ) (change : PlainChange) → is_durable change ≡ false → HasContentsOf one other → HasContentsOf one (change_world other session change)
-others_leave one other session restarted counted same = record { documents = same.documents; rows = same.rows; bytes = same.bytes; links = same.links }
+others_leave one other session restarted counted same = record { documents = same.documents; rows = same.rows; bytes = same.bytes; links = same.links; published = same.published }
 others_leave one other session began counted same = same
-others_leave one other session ended counted same = record { documents = same.documents; rows = same.rows; bytes = same.bytes; links = same.links }
-others_leave one other session (account_changed account) counted same = record { documents = same.documents; rows = same.rows; bytes = same.bytes; links = same.links }
-others_leave one other session (document_opened document mode) counted same = record { documents = same.documents; rows = same.rows; bytes = same.bytes; links = same.links }
-others_leave one other session (document_closed document) counted same = record { documents = same.documents; rows = same.rows; bytes = same.bytes; links = same.links }
+others_leave one other session ended counted same = record { documents = same.documents; rows = same.rows; bytes = same.bytes; links = same.links; published = same.published }
+others_leave one other session (account_changed account) counted same = record { documents = same.documents; rows = same.rows; bytes = same.bytes; links = same.links; published = same.published }
+others_leave one other session (document_opened document mode) counted same = record { documents = same.documents; rows = same.rows; bytes = same.bytes; links = same.links; published = same.published }
+others_leave one other session (document_closed document) counted same = record { documents = same.documents; rows = same.rows; bytes = same.bytes; links = same.links; published = same.published }
 others_leave one other session change counted same = absurd (true≢false counted)
 
 contents_step : (one other : World) (entry : PlainEntry) (history : List PlainEntry) (counted : Bool) → is_durable entry.change ≡ counted → HasContentsOf one other
@@ -64,7 +66,7 @@ contents_along [] one other same = same
 contents_along (entry ∷ history) one other same = contents_step one other entry history (is_durable entry.change) refl same (contents_along history)
 
 pub keeps_contents : KeepsContents
-keeps_contents history = contents_along history empty_world empty_world (record { documents = refl; rows = refl; bytes = refl; links = refl })
+keeps_contents history = contents_along history empty_world empty_world (record { documents = refl; rows = refl; bytes = refl; links = refl; published = refl })
 
 -- a filter keeps what it kept
 filter_again_step : {X : Type 0} (p : X → Bool) (x : X) (xs : List X) (passes : Bool) → p x ≡ passes → filter p (filter p xs) ≡ filter p xs → filter p (filter p (x ∷ xs)) ≡ filter p (x ∷ xs)

@@ -34,6 +34,7 @@ pub mod CountSteps
 pub mod Spelled
 pub mod ByPlace
 pub mod Accounts
+pub mod Publishing
 pub mod Serials
 pub mod DocumentAddresses
 pub mod ThreeRuns

@@ -1,5 +1,5 @@
 -- Links, which are numbered in each home as they come.
-use Rattle.std.proofs.Common.{◌≡◌, ◌≢◌, ℕ, zero, suc, ◌+◌, ◌≤◌, ◌∙◌, Bool, true, false, cond, List, [], ◌∷◌, ◌++◌, length, map, ap, sym, refl, subst, arith, append_assoc, append-nil, All, get_or}
+use Rattle.std.proofs.Common.{◌≡◌, ◌≢◌, ℕ, zero, suc, ◌+◌, ◌≤◌, ◌∙◌, ◌&&◌, Bool, true, false, cond, List, [], ◌∷◌, ◌++◌, length, map, ap, sym, refl, subst, arith, append_assoc, append-nil, All, get_or}
 use Rattle.std.specs.Prelude.{count_by, filter, Some}
 use Rattle.std.specs.List.{fold, AllPairs}
 use Rattle.std.specs.declared.cmp.Ordering.{Ordering}
@@ -13,9 +13,10 @@ use Rattle.std.proofs.lemmas.List.Kept.{AllPairs-filter}
 use Rattle.std.proofs.lemmas.List.Quantifiers.{all_pairs_push}
 use Rattle.std.proofs.lemmas.List.Sums.{sum_by_push}
 use Rattle.std.proofs.lemmas.Map.Views.{All-insert_key}
-use Rattle.febe_data.specs.Plain.{PlainEntry, PlainChange, restarted, began, ended, account_changed, document_opened, document_closed, document_created, version_made, copy_opened, text_inserted, span_deleted, blocks_swapped, specs_copied, link_made}
+use Rattle.febe_data.specs.Plain.{PlainEntry, PlainChange, restarted, began, ended, account_changed, document_opened, document_closed, document_created, version_made, copy_opened, text_inserted, span_deleted, blocks_swapped, specs_copied, link_made, document_published}
 use Rattle.world_rules.specs.World.{World, LinkRow, empty_world, is_same, link_address}
 use Rattle.world_rules.specs.Edits.{Cuts, cuts_of}
+use Rattle.world_rules.specs.Readable.{is_readable}
 use Rattle.world_rules.specs.Finding.{is_wanted, links_found, ids_found}
 use Rattle.world_rules.specs.Apply.{apply, change_world, link_between, world_of}
 use Rattle.world_rules.specs.Placed.{IsPlaced, AllPlaced}
@@ -138,6 +139,7 @@ change_made world session (span_deleted document span) placed made = made
 change_made world session (blocks_swapped document cuts) placed made = subst AreMade (sym (swapped_links world session document cuts placed.bounds placed.are_cuts)) made
 change_made world session (specs_copied document at specs) placed made = made
 change_made world session (link_made home number place from to three) placed made = made_next world.links (link_between world home number from to three) number refl placed.is_next made
+change_made world session (document_published document) placed made = made
 
 made_along : (history : List PlainEntry) (world : World) → AllPlaced world history → AreMade world.links → AreMade (fold apply world history).links
 made_along [] world placed made = made
@@ -176,10 +178,10 @@ length_fold (id ∷ new) all each apart =
     ∙ omega arith
 
 pub ids_for_links : IdsForLinks
-ids_for_links history placed want =
+ids_for_links history placed session want =
     let world : World = world_of history in
-    let found : List LinkRow = links_found world want in
-    let differ : AllPairs Differs found = AllPairs-filter Differs (is_wanted world want) world.links (links_once history placed) in
-    let counted : length (ids_found world want) ≡ 0 + length (ids found) =
+    let found : List LinkRow = links_found world session want in
+    let differ : AllPairs Differs found = AllPairs-filter Differs (λ (link : LinkRow). is_readable world session link.home && is_wanted world want link) world.links (links_once history placed) in
+    let counted : length (ids_found world session want) ≡ 0 + length (ids found) =
     length_fold (ids found) [] (pairs_map Differs (λ (id : List ℕ) (later : List ℕ). id ≢ later) (λ (link : LinkRow). link.id) (λ a b differs. differs) found differ) (λ k d within. All-nil (λ other. other ≢ get_or (ids found) k d)) in
     counted ∙ omega (arith, length-map found (λ (link : LinkRow). link.id))

@@ -7,7 +7,7 @@ use Rattle.std.proofs.lemmas.Bool.{true≢false, false_from_ne_true}
 use Rattle.std.proofs.lemmas.List.Elements.{filter-append}
 use Rattle.std.proofs.lemmas.List.Sums.{length-filter}
 use Rattle.tumbler.specs.declared.span.Span.{Span}
-use Rattle.febe_data.specs.Plain.{PlainEntry, PlainChange, restarted, began, ended, account_changed, document_opened, document_closed, document_created, version_made, copy_opened, text_inserted, span_deleted, blocks_swapped, specs_copied, link_made}
+use Rattle.febe_data.specs.Plain.{PlainEntry, PlainChange, restarted, began, ended, account_changed, document_opened, document_closed, document_created, version_made, copy_opened, text_inserted, span_deleted, blocks_swapped, specs_copied, link_made, document_published}
 use Rattle.world_rules.specs.declared.rows.Row.{Row}
 use Rattle.world_rules.specs.World.{World, empty_world, is_same, is_text, is_text_of, is_link_of, has_document}
 use Rattle.world_rules.specs.Picking.{picked_addresses}
@@ -87,10 +87,10 @@ version_numbered world after source document other true e version orderly =
 version_numbered world after source document other false e version orderly = same_rows world after other (version.others other e) (orderly.numbered other)
 
 orderly_version : (world after : World) (source document : List ℕ) → IsNext world document → after.rows ≡ world.rows ++ rows_as world.rows source document → after.bytes ≡ world.bytes → after.links ≡ world.links
-    → after.documents ≡ world.documents ++ document ∷ [] → IsOrderly world → IsOrderly after
-orderly_version world after source document next rows bytes links documents orderly =
+    → after.published ≡ world.published → after.documents ≡ world.documents ++ document ∷ [] → IsOrderly world → IsOrderly after
+orderly_version world after source document next rows bytes links published documents orderly =
     let missing : has_document world document ≡ false = next_missing world document next orderly.children in
-    let version : IsVersion world source document after = versioned world after source document (orderly.owned document missing) rows documents bytes links in
+    let version : IsVersion world source document after = versioned world after source document (orderly.owned document missing) rows documents bytes links published in
     record {
       numbered = λ d. version_numbered world after source document d (is_same d document) refl version orderly;
       owned = λ d gone. let pushed = has_push world.documents document d (ap (λ (ds : List (List ℕ)). has ds d) (sym documents) ∙ gone) in version.others d (differs_back document d pushed.1) ∙ orderly.owned d pushed.0;
@@ -226,8 +226,8 @@ change_orderly world session (account_changed account) placed orderly = orderly_
 change_orderly world session (document_opened document mode) placed orderly = orderly_same world (change_world world session (document_opened document mode)) refl refl orderly
 change_orderly world session (document_closed document) placed orderly = orderly_same world (change_world world session (document_closed document)) refl refl orderly
 change_orderly world session (document_created document) placed orderly = orderly_created world (change_world world session (document_created document)) document placed refl refl orderly
-change_orderly world session (version_made source document) placed orderly = orderly_version world (change_world world session (version_made source document)) source document placed refl refl refl refl orderly
-change_orderly world session (copy_opened source document) placed orderly = orderly_version world (change_world world session (copy_opened source document)) source document placed refl refl refl refl orderly
+change_orderly world session (version_made source document) placed orderly = orderly_version world (change_world world session (version_made source document)) source document placed refl refl refl refl refl orderly
+change_orderly world session (copy_opened source document) placed orderly = orderly_version world (change_world world session (copy_opened source document)) source document placed refl refl refl refl refl orderly
 change_orderly world session (text_inserted document at first text) placed orderly =
     orderly_with world (change_world world session (text_inserted document at first text)) document at (content_addresses document first (length text)) (record { there = placed.there; from_one = placed.from_one; to_end = placed.to_end }) refl refl orderly
 change_orderly world session (span_deleted document span) placed orderly = orderly_without world session document span orderly
@@ -236,6 +236,7 @@ change_orderly world session (specs_copied document at specs) placed orderly =
     orderly_with world (change_world world session (specs_copied document at specs)) document at (picked_addresses world specs) placed refl refl orderly
 change_orderly world session (link_made home number place from to three) placed orderly =
     orderly_linked world (change_world world session (link_made home number place from to three)) home number place placed refl refl orderly
+change_orderly world session (document_published document) placed orderly = orderly_same world (change_world world session (document_published document)) refl refl orderly
 
 orderly_along : (history : List PlainEntry) (world : World) → AllPlaced world history → IsOrderly world → IsOrderly (fold apply world history)
 orderly_along [] world placed orderly = orderly

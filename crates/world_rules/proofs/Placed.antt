@@ -11,7 +11,7 @@ use Rattle.febe_data.specs.declared.access.Rule.TheVariants.{Refuse, Copy, Alway
 use Rattle.febe_data.specs.LimitsView.{LimitsView}
 use Rattle.febe_data.specs.declared.refusal.Refusal.{Refusal}
 use Rattle.febe_data.specs.declared.refusal.Refusal.TheVariants.{BadAddress}
-use Rattle.febe_data.specs.Plain.{PlainSpec, PlainRequest, insert, copy, rearrange, create, delete, version, quit, create_link, set_account, opens, closes}
+use Rattle.febe_data.specs.Plain.{PlainSpec, PlainRequest, insert, copy, rearrange, create, delete, version, quit, create_link, set_account, opens, closes, publish}
 use Rattle.world_rules.specs.World.{World, account_of_session, has_document, next_version, next_document, is_of_account, text_length, content_length, link_length, links_made_in}
 use Rattle.world_rules.specs.Edits.{Cuts, cuts_of}
 use Rattle.world_rules.specs.Refusals.{wanted, checks, is_place, position_of, has_bad_span, has_bad_cut, lacks_document, opens_version, wants_account, Check, first_holding}
@@ -46,7 +46,7 @@ insert_comes_in : (limits : LimitsView) (counted : ℕ) (world : World) (session
     → ComesInAt world document (slice_index at 1) (content_length world document + 1)
 insert_comes_in limits counted world session document at text none =
     let is_not_there : not (has_document world document) ≡ false = none_holds (checks limits counted world session (insert document at text)) 0 (false, BadAddress) (omega arith) none in
-    let is_no_place : not (is_place (text_length world document) at) ≡ false = none_holds (checks limits counted world session (insert document at text)) 3 (false, BadAddress) (omega arith) none in
+    let is_no_place : not (is_place (text_length world document) at) ≡ false = none_holds (checks limits counted world session (insert document at text)) 4 (false, BadAddress) (omega arith) none in
     let within = place_within (text_length world document) at (not-false (is_place (text_length world document) at) is_no_place) in
     record { there = not-false (has_document world document) is_not_there; from_one = within.0; to_end = within.1; is_next = refl }
 
@@ -54,7 +54,7 @@ copy_comes_in : (limits : LimitsView) (counted : ℕ) (world : World) (session :
     → IsCopiedTo world document (slice_index at 1)
 copy_comes_in limits counted world session document at specs none =
     let lacks : (not (has_document world document) || lacks_document world specs) ≡ false = none_holds (checks limits counted world session (copy document at specs)) 0 (false, BadAddress) (omega arith) none in
-    let bad : (not (is_place (text_length world document) at) || has_bad_span specs) ≡ false = none_holds (checks limits counted world session (copy document at specs)) 3 (false, BadAddress) (omega arith) none in
+    let bad : (not (is_place (text_length world document) at) || has_bad_span specs) ≡ false = none_holds (checks limits counted world session (copy document at specs)) 4 (false, BadAddress) (omega arith) none in
     let is_not_there : not (has_document world document) ≡ false = (or_parts (not (has_document world document)) (lacks_document world specs) lacks).0 in
     let is_no_place : not (is_place (text_length world document) at) ≡ false = (or_parts (not (is_place (text_length world document) at)) (has_bad_span specs) bad).0 in
     let within = place_within (text_length world document) at (not-false (is_place (text_length world document) at) is_no_place) in
@@ -110,8 +110,8 @@ rearrange_cuts : (limits : LimitsView) (counted : ℕ) (world : World) (session 
     → IsCutAt world document (map position_of cuts)
 rearrange_cuts limits counted world session document cuts none =
     cut_at_step world document cuts (cuts_of (map position_of cuts)) refl
-    (none_holds (checks limits counted world session (rearrange document cuts)) 3 (false, BadAddress) (omega arith) none)
     (none_holds (checks limits counted world session (rearrange document cuts)) 4 (false, BadAddress) (omega arith) none)
+    (none_holds (checks limits counted world session (rearrange document cuts)) 5 (false, BadAddress) (omega arith) none)
 
 -- ---- documents
 
@@ -174,6 +174,13 @@ account_is_account : (limits : LimitsView) (counted : ℕ) (world : World) (sess
 account_is_account limits counted world session account none =
     (account_tested account).0 (not-false (account_test account) (none_holds (checks limits counted world session (set_account account)) 0 (false, BadAddress) (omega arith) none))
 
+-- ---- publish
+
+publish_there : (limits : LimitsView) (counted : ℕ) (world : World) (session : ℕ) (document : List ℕ) → wanted limits counted world session (publish document) ≡ None → has_document world document ≡ true
+publish_there limits counted world session document none =
+    let missing : not (has_document world document) ≡ false = none_holds (checks limits counted world session (publish document)) 0 (false, BadAddress) (omega arith) none in
+    not-false (has_document world document) missing
+
 -- ---- all requests
 
 by_effect : (world : World) (one made : Effect) → Some one ≡ Some made → IsPlaced world one.change → IsPlaced world made.change
@@ -192,6 +199,7 @@ placed limits counted world session (create_link home from to three) made none e
 placed limits counted world session (set_account account) made none e = by_effect world _ made e (account_is_account limits counted world session account none)
 placed limits counted world session (opens document mode rule) made none e = by_effect world _ made e (opens_placed limits counted world session document mode rule none)
 placed limits counted world session (closes document) made none e = by_effect world _ made e tt
+placed limits counted world session (publish document) made none e = by_effect world _ made e (publish_there limits counted world session document none)
 placed limits counted world session other made none e = cc
 
 pub served_is_placed : ServedIsPlaced

@@ -190,8 +190,8 @@ in_order world document cuts up from_one to_end = record {
 }
 
 pub rearranged : (world after : World) (document : List ℕ) (cuts : Cuts) → Ascend cuts → ArePlaces world document cuts → after.rows ≡ rows_swapped world.rows document cuts → after.documents ≡ world.documents → after.bytes ≡ world.bytes → after.links ≡ world.links
-    → IsRearranged world document cuts after
-rearranged world after document cuts up places rows documents bytes links =
+    → after.published ≡ world.published → IsRearranged world document cuts after
+rearranged world after document cuts up places rows documents bytes links published =
     let order : InOrder cuts (length (text_rows world document)) = in_order world document cuts up places.from_one places.to_end in
     let row : InRow 1 (text_rows world document) = text_in_row world document places.numbered in
     let text : text_rows after document ≡ swapped cuts (text_rows world document) = ap (filter (is_text_of document)) rows ∙ text_swapped world.rows document cuts order row in
@@ -205,9 +205,10 @@ rearranged world after document cuts up places rows documents bytes links =
       same_documents = documents;
       same_bytes = bytes;
       same_links = links;
+      same_published = published;
     }
 
 pub rearranges : Rearranges
 rearranges world session document cuts bounds is places =
     let after : World = change_world world session (blocks_swapped document cuts) in
-    rearranged world after document bounds (cuts_ascend cuts bounds is) places (rw is refl) (rw is refl) (rw is refl) (rw is refl)
+    rearranged world after document bounds (cuts_ascend cuts bounds is) places (rw is refl) (rw is refl) (rw is refl) (rw is refl) (rw is refl)

@@ -2,7 +2,7 @@
 use Rattle.std.proofs.Common.{◌≡◌, ℕ, ◌+◌, ◌≤◌, ◌∙◌, Bool, true, false, List, [], ◌∷◌, ◌++◌, ap, sym, refl, subst, inl, inr, ◌⊎◌}
 use Rattle.std.specs.List.{fold}
 use Rattle.std.proofs.lemmas.List.Elements.{All-nil}
-use Rattle.febe_data.specs.Plain.{PlainEntry, PlainChange, restarted, began, ended, account_changed, document_opened, document_closed, document_created, version_made, copy_opened, text_inserted, span_deleted, blocks_swapped, specs_copied, link_made}
+use Rattle.febe_data.specs.Plain.{PlainEntry, PlainChange, restarted, began, ended, account_changed, document_opened, document_closed, document_created, version_made, copy_opened, text_inserted, span_deleted, blocks_swapped, specs_copied, link_made, document_published}
 use Rattle.world_rules.specs.declared.rows.Row.{Row}
 use Rattle.world_rules.specs.declared.rows.ByteRow.{ByteRow}
 use Rattle.world_rules.specs.World.{World, LinkRow, empty_world, content_length_of, text_length, link_length, links_made_in, has_document, next_below}
@@ -60,6 +60,7 @@ module _ (one other : World) (same : HasContentsOf one other) (accounts : AllAcc
     is_next = placed.is_next ∙ ap (λ (links : List LinkRow). links_made_in (record one { links = links }) home + 1) (sym same.links);
     at_end = placed.at_end ∙ ap (λ (n : ℕ). n + 1) (sym (same_links home));
   }
+  placed_too (document_published document) placed = same_there document placed
 
 -- ---- along a history
 
@@ -81,4 +82,4 @@ placed_push (first ∷ history) world entry placed last = (placed.0, placed_push
 
 pub recovered_is_placed : RecoveredIsPlaced
 recovered_is_placed history placed =
-    placed_push (durable_entries history) empty_world restart_entry (kept_placed history empty_world empty_world (record { documents = refl; rows = refl; bytes = refl; links = refl }) (All-nil HasAccount) placed) tt
+    placed_push (durable_entries history) empty_world restart_entry (kept_placed history empty_world empty_world (record { documents = refl; rows = refl; bytes = refl; links = refl; published = refl }) (All-nil HasAccount) placed) tt

@@ -7,7 +7,7 @@ use Rattle.std.proofs.lemmas.List.{append-nil, map_push, length-append}
 use Rattle.std.proofs.lemmas.List.Elements.{filter-append}
 use Rattle.febe_data.specs.declared.access.Mode.{Mode}
 use Rattle.febe_data.specs.declared.refusal.Refusal.{Refusal}
-use Rattle.febe_data.specs.Plain.{PlainRequest, insert, copy, rearrange, create, delete, version, quit, create_link, set_account, opens, closes, PlainReply, PlainChange, PlainEntry, restarted, began}
+use Rattle.febe_data.specs.Plain.{PlainRequest, insert, copy, rearrange, create, delete, version, quit, create_link, set_account, opens, closes, publish, PlainReply, PlainChange, PlainEntry, restarted, began}
 use Rattle.world_rules.specs.World.{World}
 use Rattle.world_rules.specs.Apply.{world_of}
 use Rattle.world_rules.specs.History.{durable_entries, entries_of, restart_entry}
@@ -101,6 +101,7 @@ effect_goes world session (create_link home from to three) made e = by_effect _ 
 effect_goes world session (set_account account) made e = by_effect _ made e (record { no_restart = λ e. cc; no_begin = λ e. cc })
 effect_goes world session (opens document mode rule) made e = by_effect _ made e (opening_goes world session document mode (opens_version world session document mode rule))
 effect_goes world session (closes document) made e = by_effect _ made e (record { no_restart = λ e. cc; no_begin = λ e. cc })
+effect_goes world session (publish document) made e = by_effect _ made e (record { no_restart = λ e. cc; no_begin = λ e. cc })
 effect_goes world session other made e = cc
 
 abbrev GoOn : List PlainEntry → List PlainEntry → Type 0
@@ -110,7 +111,7 @@ by_none : (before added : List PlainEntry) → SerialsCount before → added ≡
 by_none before added count e = subst (GoOn before) (sym e) (subst SerialsCount (sym (append-nil before)) count)
 
 by_served : (session : ℕ) (before : List PlainEntry) (request : PlainRequest) (reply : PlainReply) (added : List PlainEntry) (rose : Bool) (made : Option Effect) → SerialsCount before
-    → effect (world_of before) session request ≡ made → MatchOption made (IsQueryAnswered before request reply added) (λ m. IsDone before session m reply added ⊎ IsDiskFault m reply added rose) → GoOn before added
+    → effect (world_of before) session request ≡ made → MatchOption made (IsQueryAnswered before session request reply added) (λ m. IsDone before session m reply added ⊎ IsDiskFault m reply added rose) → GoOn before added
 by_served session before request reply added rose None count e a = by_none before added count a.nothing
 by_served session before request reply added rose (Some made) count e (inl a) =
     let goes = effect_goes (world_of before) session request made e in

@@ -1,5 +1,5 @@
 -- Lists of spans and specs that a reply can spell.
-use Rattle.std.proofs.Common.{◌≡◌, ◌+◌, ◌≤◌, ◌++◌, ◌∷◌, [], false, List, length, map, All, length-append, arith, refl}
+use Rattle.std.proofs.Common.{◌≡◌, ℕ, ◌+◌, ◌≤◌, ◌++◌, ◌∷◌, [], false, List, length, map, All, length-append, arith, refl}
 use Rattle.std.proofs.lemmas.Bool.{ltb-false}
 use Rattle.std.proofs.lemmas.List.{length-map}
 use Rattle.std.proofs.lemmas.List.Elements.{All-push}
@@ -31,8 +31,8 @@ are_specs specs named few few_spans = record {
 }
 
 -- as many specs as were asked for, with no more spans than a list may have
-pub end_set_valid : (w : world.World) (end : End) (specs made : List Spec) → map plain_spec made ≡ end_set w end (map plain_spec specs) → All NamesSpans (map plain_spec made)
+pub end_set_valid : (w : world.World) (session : ℕ) (end : End) (specs made : List Spec) → map plain_spec made ≡ end_set w session end (map plain_spec specs) → All NamesSpans (map plain_spec made)
     → is_too_long (length specs) ≡ false → is_too_long (spans_in_all (map plain_spec made)) ≡ false → IsSpecSet (map plain_spec made)
-end_set_valid w end specs made value named few few_spans =
+end_set_valid w session end specs made value named few few_spans =
     let same : length (map plain_spec made) ≡ length specs = rw (value, length-map, length-map) refl in
     are_specs (map plain_spec made) named (rw same (ltb-false 65536 (length specs) few)) (ltb-false 65536 (spans_in_all (map plain_spec made)) few_spans)

@@ -47,8 +47,8 @@ source_as rows source document true e none =
 source_as rows source document false e none = others_as rows source document source e
 
 pub versioned : (world after : World) (source document : List ℕ) → rows_of world document ≡ [] → after.rows ≡ world.rows ++ rows_as world.rows source document → after.documents ≡ world.documents ++ document ∷ [] → after.bytes ≡ world.bytes → after.links ≡ world.links
-    → IsVersion world source document after
-versioned world after source document none rows documents bytes links =
+    → after.published ≡ world.published → IsVersion world source document after
+versioned world after source document none rows documents bytes links published =
     let text : text_rows after document ≡ map (moved_to document) (text_rows world source) = ap (filter (is_text_of document)) rows ∙ part_of (λ (row : Row). is_text row.part) world.rows source document (λ row. refl) none in
     record {
       text = text;
@@ -59,10 +59,11 @@ versioned world after source document none rows documents bytes links =
       comes_in = documents;
       same_bytes = bytes;
       same_links = links;
+      same_published = published;
     }
 
 pub versions_rows : VersionsRows
 versions_rows world session source document none =
     let after : World = change_world world session (version_made source document) in
-    let made : IsVersion world source document after = versioned world after source document none refl refl refl refl in
+    let made : IsVersion world source document after = versioned world after source document none refl refl refl refl refl in
     (made, made)

@@ -4,7 +4,7 @@ use Rattle.tumbler.specs.Address.{IsAccount, IsDocument, IsDocumentOf}
 use Rattle.febe_data.specs.Plain.{PlainEntry}
 use Rattle.world_rules.specs.World.{empty_world, has_document, is_of_account, account_of_session}
 use Rattle.world_rules.specs.Apply.{world_of}
-use Rattle.world_rules.specs.Refusals.{owns}
+use Rattle.world_rules.specs.Readable.{owns}
 use Rattle.world_rules.specs.Placed.{AllPlaced}
 
 -- a document's address begins with one account alone, so the document is of an account exactly where that is its account

@@ -1,4 +1,4 @@
--- What queries are answered: scans of the world's lists.
+-- What queries of a session are answered: scans of the world's lists.
 use Rattle.std.specs.Prelude.{ℕ, ◌+◌, ◌==◌, List, [], ◌∷◌, ◌++◌, length, map, Option, Some, if◌then◌else◌}
 use Rattle.std.specs.List.{flat_map, filter_map}
 use Rattle.tumbler.specs.declared.span.Span.{Span}
@@ -52,25 +52,25 @@ whole_span_of world document = span_over (link_length world document) (span_set_
 -- ---- links
 
 -- where an end of a link is now, where there are both
-abbrev pub follow_of : World → Option LinkRow → Option End → List PlainSpec
-follow_of world (Some found) (Some end) = end_now world end found
-follow_of world found end = []
+abbrev pub follow_of : World → ℕ → Option LinkRow → Option End → List PlainSpec
+follow_of world session (Some found) (Some end) = end_now world session end found
+follow_of world session found end = []
 
 -- ---- all queries
 
--- the reply of a query; what is no query gives nothing
-abbrev pub answer : World → PlainRequest → PlainReply
-answer world (span_set document) = gave_span_set (span_set_of world document)
-answer world (retrieve specs) = retrieved (items_of world specs)
-answer world (relate left right) = related (diagonals world left right)
-answer world (whole_span document) = gave_whole_span (whole_span_of world document)
-answer world (follow id end) = followed (follow_of world (link_at world id) (end_numbered end))
-answer world (find_documents specs) = found_documents (documents_found world specs)
-answer world (end_sets specs) = gave_end_sets (end_set world From specs) (end_set world To specs) (end_set world Three specs)
-answer world (count_links want) = counted_links (length (links_found world want))
-answer world (find_links want) = found_links (ids_found world want)
-answer world (next_links want after limit) = gave_next_links (ids_after world want after limit)
-answer world other = retrieved []
+-- the reply to a query of the session; what is no query gives nothing
+abbrev pub answer : World → ℕ → PlainRequest → PlainReply
+answer world session (span_set document) = gave_span_set (span_set_of world document)
+answer world session (retrieve specs) = retrieved (items_of world specs)
+answer world session (relate left right) = related (diagonals world left right)
+answer world session (whole_span document) = gave_whole_span (whole_span_of world document)
+answer world session (follow id end) = followed (follow_of world session (link_at world session id) (end_numbered end))
+answer world session (find_documents specs) = found_documents (documents_found world session specs)
+answer world session (end_sets specs) = gave_end_sets (end_set world session From specs) (end_set world session To specs) (end_set world session Three specs)
+answer world session (count_links want) = counted_links (length (links_found world session want))
+answer world session (find_links want) = found_links (ids_found world session want)
+answer world session (next_links want after limit) = gave_next_links (ids_after world session want after limit)
+answer world session other = retrieved []
 
 -- where the item is a link, its id is a tumbler
 abbrev pub NamesTumbler : PlainItem → Type 0

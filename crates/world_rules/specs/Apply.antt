@@ -2,7 +2,7 @@
 use Rattle.std.specs.Prelude.{ℕ, ◌==◌, not, List, [], ◌∷◌, ◌++◌, length, filter, Option, Some, None}
 use Rattle.std.specs.List.{fold}
 use Rattle.febe_data.specs.declared.access.Mode.TheVariants.{Write}
-use Rattle.febe_data.specs.Plain.{PlainSpec, PlainChange, PlainEntry, restarted, began, ended, account_changed, document_opened, document_closed, document_created, version_made, copy_opened, text_inserted, span_deleted, blocks_swapped, specs_copied, link_made}
+use Rattle.febe_data.specs.Plain.{PlainSpec, PlainChange, PlainEntry, restarted, began, ended, account_changed, document_opened, document_closed, document_created, version_made, copy_opened, text_inserted, span_deleted, blocks_swapped, specs_copied, link_made, document_published}
 use Rattle.world_rules.specs.declared.rows.Part.TheVariants.{Links}
 use Rattle.world_rules.specs.declared.rows.Row.{Row}
 use Rattle.world_rules.specs.declared.rows.OpenRow.{OpenRow}
@@ -71,6 +71,8 @@ change_world world session (blocks_swapped document cuts) = with_swapped world d
 change_world world session (specs_copied document at specs) = record world { rows = rows_with world.rows document at (picked_addresses world specs) }
 change_world world session (link_made home number place from to three) =
     record world { links = world.links ++ link_between world home number from to three ∷ []; rows = world.rows ++ link_row home number place ∷ [] }
+-- the document becomes one of the published ones, once more where it was
+change_world world session (document_published document) = record world { published = world.published ++ document ∷ [] }
 
 -- what an entry makes of a world
 abbrev pub apply : World → PlainEntry → World

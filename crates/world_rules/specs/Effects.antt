@@ -1,7 +1,7 @@
 -- What a request that is not refused changes, and what it is answered then.
 use Rattle.std.specs.Prelude.{ℕ, ◌+◌, Bool, true, false, List, [], map, Option, Some, None, unwrap_or}
 use Rattle.febe_data.specs.declared.access.Mode.{Mode}
-use Rattle.febe_data.specs.Plain.{PlainRequest, insert, copy, rearrange, create, delete, version, quit, create_link, set_account, opens, closes, PlainReply, inserted, copied, rearranged, created, deleted, versioned, has_quit, linked, account_set, opened, closed, PlainChange, ended, account_changed, document_opened, document_closed, document_created, version_made, copy_opened, text_inserted, span_deleted, blocks_swapped, specs_copied, link_made}
+use Rattle.febe_data.specs.Plain.{PlainRequest, insert, copy, rearrange, create, delete, version, quit, create_link, set_account, opens, closes, publish, PlainReply, inserted, copied, rearranged, created, deleted, versioned, has_quit, linked, account_set, opened, closed, published, PlainChange, ended, account_changed, document_opened, document_closed, document_created, version_made, copy_opened, text_inserted, span_deleted, blocks_swapped, specs_copied, link_made, document_published}
 use Rattle.world_rules.specs.World.{World, account_of_session, next_document, version_for, content_length, links_made_in, link_length, link_address}
 use Rattle.world_rules.specs.Refusals.{position_of, opens_version}
 
@@ -41,5 +41,6 @@ effect world session (create_link home from to three) =
 effect world session (set_account account) = Some (record { change = account_changed account; reply = account_set })
 effect world session (opens document mode rule) = Some (opening world session document mode (opens_version world session document mode rule))
 effect world session (closes document) = Some (record { change = document_closed document; reply = closed })
+effect world session (publish document) = Some (record { change = document_published document; reply = published })
 -- the others are queries
 effect world session other = None

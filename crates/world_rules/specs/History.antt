@@ -1,9 +1,9 @@
 -- Which entries of a history are kept, whose sessions are live, and how entries are numbered.
 use Rattle.std.specs.Prelude.{ℕ, ◌+◌, ◌==◌, ◌&&◌, ◌||◌, Bool, true, false, not, List, [], ◌∷◌, ◌++◌, length, filter}
 use Rattle.std.specs.List.{fold}
-use Rattle.febe_data.specs.Plain.{PlainChange, PlainEntry, restarted, began, ended, account_changed, document_opened, document_closed, document_created, version_made, copy_opened, text_inserted, span_deleted, blocks_swapped, specs_copied, link_made}
+use Rattle.febe_data.specs.Plain.{PlainChange, PlainEntry, restarted, began, ended, account_changed, document_opened, document_closed, document_created, version_made, copy_opened, text_inserted, span_deleted, blocks_swapped, specs_copied, link_made, document_published}
 
--- the changes that the limits count, and that are kept over a restart: those of documents, content and links
+-- the changes that the limits count, and that are kept over a restart: those of documents, content and links, and what is published
 abbrev pub is_durable : PlainChange → Bool
 is_durable restarted = false
 is_durable began = false
@@ -19,6 +19,7 @@ is_durable (span_deleted document span) = true
 is_durable (blocks_swapped document cuts) = true
 is_durable (specs_copied document at specs) = true
 is_durable (link_made home number place from to three) = true
+is_durable (document_published document) = true
 
 -- the counted entries, in their order
 abbrev pub durable_entries : List PlainEntry → List PlainEntry

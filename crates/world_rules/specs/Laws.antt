@@ -58,12 +58,13 @@ text_at world addresses = filter_map (byte_at world.bytes) addresses
 
 -- ---- what is kept
 
--- two worlds have the same contents: all but who has what open, and the accounts
+-- two worlds have the same contents, and the same is published: all but who has what open, and the accounts
 pub record HasContentsOf (one other : World) : Type 0 where
   pub documents : one.documents ≡ other.documents
   pub rows : one.rows ≡ other.rows
   pub bytes : one.bytes ≡ other.bytes
   pub links : one.links ≡ other.links
+  pub published : one.published ≡ other.published
 
 -- the kept entries alone build the contents that the whole history builds
 abbrev pub KeepsContents : Type 0
@@ -76,11 +77,12 @@ KeptAgain = (history : List PlainEntry) → durable_entries (recovered history) 
 -- ---- insert
 
 -- All but the document's text is as it was: the rows that are none of it, in their order, the documents, the links,
--- the open documents and the accounts.
+-- what is published, the open documents and the accounts.
 pub record LeavesAllBut (before : World) (document : List ℕ) (after : World) : Type 0 where
   pub others : filter (λ (row : Row). not (is_text_of document row)) after.rows ≡ filter (λ (row : Row). not (is_text_of document row)) before.rows
   pub same_documents : after.documents ≡ before.documents
   pub same_links : after.links ≡ before.links
+  pub same_published : after.published ≡ before.published
   pub same_open_rows : after.open_rows ≡ before.open_rows
   pub same_accounts : after.accounts ≡ before.accounts
 
@@ -126,7 +128,7 @@ RetrieveAfterInsert = (world : World) (document : List ℕ) (at first : ℕ) (te
 -- ---- copy
 
 -- What the specs picked comes in at the place, between the rows before it and the others, which make room.
--- Documents that were numbered are again, and the content and the links are as they were.
+-- Documents that were numbered are again, and the content, the links and what is published are as they were.
 pub record IsCopied (before : World) (document : List ℕ) (at : ℕ) (specs : List PlainSpec) (after : World) : Type 0 where
   pub text : text_rows after document
       ≡ take (at - 1) (text_rows before document)
@@ -137,6 +139,7 @@ pub record IsCopied (before : World) (document : List ℕ) (at : ℕ) (specs : L
   pub same_documents : after.documents ≡ before.documents
   pub same_bytes : after.bytes ≡ before.bytes
   pub same_links : after.links ≡ before.links
+  pub same_published : after.published ≡ before.published
 
 abbrev pub CopiesSpecs : Type 0
 CopiesSpecs = (world : World) (session : ℕ) (document : List ℕ) (at : ℕ) (specs : List PlainSpec) → IsOpenPlace world document at
@@ -155,7 +158,7 @@ abbrev pub staying : Span → List Row → List Row
 staying span rows = filter (λ (row : Row). not (picks span row)) rows
 
 -- The document shows, in order, what the span did not pick, and where it was numbered it is again.
--- The rows of other documents, the content and the links are as they were.
+-- The rows of other documents, the content, the links and what is published are as they were.
 pub record IsWithout (before : World) (document : List ℕ) (span : Span) (after : World) : Type 0 where
   pub text : addresses_of (text_rows after document) ≡ addresses_of (staying span (text_rows before document))
   pub links : addresses_of (link_rows after document) ≡ addresses_of (staying span (link_rows before document))
@@ -166,6 +169,7 @@ pub record IsWithout (before : World) (document : List ℕ) (span : Span) (after
   pub same_documents : after.documents ≡ before.documents
   pub same_bytes : after.bytes ≡ before.bytes
   pub same_links : after.links ≡ before.links
+  pub same_published : after.published ≡ before.published
 
 abbrev pub DeletesSpan : Type 0
 DeletesSpan = (world : World) (session : ℕ) (document : List ℕ) (span : Span) → IsWithout world document span (change_world world session (span_deleted document span))
@@ -173,7 +177,7 @@ DeletesSpan = (world : World) (session : ℕ) (document : List ℕ) (span : Span
 -- ---- version
 
 -- The document has the rows of the source, text and links alike, each at its place and in their order.
--- The source and all other documents, the content and the links are as they were.
+-- The source and all other documents, the content, the links and what is published are as they were.
 pub record IsVersion (before : World) (source document : List ℕ) (after : World) : Type 0 where
   pub text : text_rows after document ≡ map (moved_to document) (text_rows before source)
   pub links : link_rows after document ≡ map (moved_to document) (link_rows before source)
@@ -183,6 +187,7 @@ pub record IsVersion (before : World) (source document : List ℕ) (after : Worl
   pub comes_in : after.documents ≡ before.documents ++ document ∷ []
   pub same_bytes : after.bytes ≡ before.bytes
   pub same_links : after.links ≡ before.links
+  pub same_published : after.published ≡ before.published
 
 -- a version that comes in as a document that had no rows
 abbrev pub VersionsRows : Type 0
@@ -208,7 +213,7 @@ pub record ArePlaces (world : World) (document : List ℕ) (cuts : Cuts) : Type 
   pub to_end : cuts.fourth ≤ text_length world document + 1
 
 -- The document's text is numbered again, and its blocks stand in the other order.
--- Its links, the rows of other documents, the content and the links are as they were.
+-- Its links, the rows of other documents, the content, the links and what is published are as they were.
 pub record IsRearranged (before : World) (document : List ℕ) (cuts : Cuts) (after : World) : Type 0 where
   pub numbered : TextIsNumbered after document
   pub order : addresses_of (text_rows after document) ≡ addresses_of (in_other_order cuts (text_rows before document))
@@ -218,6 +223,7 @@ pub record IsRearranged (before : World) (document : List ℕ) (cuts : Cuts) (af
   pub same_documents : after.documents ≡ before.documents
   pub same_bytes : after.bytes ≡ before.bytes
   pub same_links : after.links ≡ before.links
+  pub same_published : after.published ≡ before.published
 
 abbrev pub Rearranges : Type 0
 Rearranges = (world : World) (session : ℕ) (document cuts : List ℕ) (bounds : Cuts) → cuts_of cuts ≡ Some bounds → ArePlaces world document bounds
@@ -299,7 +305,8 @@ LinksOnce = (history : List PlainEntry) → AllPlaced empty_world history → Al
 
 -- So the ids that are found, each once, are as many as the links.
 abbrev pub IdsForLinks : Type 0
-IdsForLinks = (history : List PlainEntry) → AllPlaced empty_world history → (want : PlainWant) → length (ids_found (world_of history) want) ≡ length (links_found (world_of history) want)
+IdsForLinks = (history : List PlainEntry) → AllPlaced empty_world history → (session : ℕ) (want : PlainWant)
+    → length (ids_found (world_of history) session want) ≡ length (links_found (world_of history) session want)
 
 -- after such a history no text row of any document shows a content byte that is yet to come, of whatever document
 abbrev pub ShowsWhatCame : Type 0

@@ -42,14 +42,14 @@ pub record IsDone (before : List PlainEntry) (session : ℕ) (made : Effect) (re
   pub entry : added ≡ entry_after before session made ∷ []
 
 -- a query is answered from the world as it is, and nothing is added
-pub record IsQueryAnswered (before : List PlainEntry) (request : PlainRequest) (reply : PlainReply) (added : List PlainEntry) : Type 0 where
-  pub reply_is : reply ≡ answer (world_of before) request
+pub record IsQueryAnswered (before : List PlainEntry) (session : ℕ) (request : PlainRequest) (reply : PlainReply) (added : List PlainEntry) : Type 0 where
+  pub reply_is : reply ≡ answer (world_of before) session request
   pub nothing : added ≡ []
 
 -- what a request that nothing refuses may be given
 abbrev pub IsServed : List PlainEntry → ℕ → PlainRequest → PlainReply → List PlainEntry → Bool → Type 0
 IsServed before session request reply added rose =
-    MatchOption (effect (world_of before) session request) (IsQueryAnswered before request reply added)
+    MatchOption (effect (world_of before) session request) (IsQueryAnswered before session request reply added)
     (λ made. IsDone before session made reply added ⊎ IsDiskFault made reply added rose)
 
 -- A step is legal where the session is live, and there was no memory, or the wanted refusal is given,

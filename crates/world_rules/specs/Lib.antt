@@ -7,6 +7,8 @@ pub use Rattle.febe_data.specs.Refusal
 pub use Rattle.febe_data.specs.Plain
 pub use Rattle.febe_data.specs.Validity
 pub mod World
+pub mod Readable
+pub mod Readers
 pub mod Picking
 pub mod Edits
 pub mod Apply
@@ -19,7 +21,10 @@ pub mod Ends
 pub mod Answers
 pub mod Refusals
 pub mod Effects
+pub mod Order
+pub mod Queries
 pub mod Legal
+pub mod Isolated
 pub mod FlatView
 pub mod FoldLaws
 pub mod InPlace
@@ -33,5 +38,6 @@ pub mod Laws
 pub mod Wanted
 pub mod inside
 pub mod Accounts
+pub mod Published
 pub mod VOrder
 pub mod Serials

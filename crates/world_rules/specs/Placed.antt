@@ -2,7 +2,7 @@
 use Rattle.std.specs.Prelude.{◌≡◌, ◌⊎◌, ℕ, ◌+◌, ◌<◌, ◌≤◌, true, List, [], ◌∷◌, ◌++◌, length, ⊤, IsTrue, Some}
 use Rattle.std.specs.List.{list_any}
 use Rattle.tumbler.specs.Address.{IsAccount}
-use Rattle.febe_data.specs.Plain.{PlainEntry, PlainChange, account_changed, document_created, version_made, copy_opened, text_inserted, blocks_swapped, specs_copied, link_made}
+use Rattle.febe_data.specs.Plain.{PlainEntry, PlainChange, account_changed, document_created, version_made, copy_opened, text_inserted, blocks_swapped, specs_copied, link_made, document_published}
 use Rattle.world_rules.specs.declared.rows.AccountRow.{AccountRow}
 use Rattle.world_rules.specs.World.{World, is_same, has_document, next_below, text_length, content_length, links_made_in, link_length}
 use Rattle.world_rules.specs.Edits.{Cuts, cuts_of}
@@ -56,7 +56,7 @@ pub record IsLinkedAt (world : World) (home : List ℕ) (number place : ℕ) : T
   pub at_end : place ≡ link_length world home + 1
 
 -- Documents are new, content bytes and links have the next numbers, what comes in or moves does so at places that are
--- there, and accounts are accounts' addresses. Other changes may be any.
+-- there, accounts are accounts' addresses, and what is published is there. Other changes may be any.
 abbrev pub IsPlaced : World → PlainChange → Type 0
 IsPlaced world (document_created document) = IsNext world document
 IsPlaced world (version_made source document) = IsNext world document
@@ -66,6 +66,7 @@ IsPlaced world (blocks_swapped document cuts) = IsCutAt world document cuts
 IsPlaced world (specs_copied document at specs) = IsCopiedTo world document at
 IsPlaced world (link_made home number place from to three) = IsLinkedAt world home number place
 IsPlaced world (account_changed account) = IsAccount account
+IsPlaced world (document_published document) = IsTrue (has_document world document)
 IsPlaced world other = ⊤
 
 -- each entry is so placed in the world that it finds

@@ -9,12 +9,14 @@ use Rattle.febe_data.specs.declared.access.Mode.TheVariants.{Read, Write}
 use Rattle.febe_data.specs.declared.access.Rule.{Rule}
 use Rattle.febe_data.specs.declared.access.Rule.TheVariants.{Refuse, Copy, Always}
 use Rattle.febe_data.specs.declared.refusal.Refusal.{Refusal}
-use Rattle.febe_data.specs.declared.refusal.Refusal.TheVariants.{NoAccount, NoSuchDocument, NotOpen, NotOpenForWriting, NotOwner, Conflict, BadAddress, BadCuts, NoSuchLink, NoSuchEnd, TooLong, Full}
+use Rattle.febe_data.specs.declared.refusal.Refusal.TheVariants.{NoAccount, NoSuchDocument, Private, NotOpen, NotOpenForWriting, NotOwner, Conflict, BadAddress, BadCuts, NoSuchLink, NoSuchEnd, TooLong, Full}
 use Rattle.febe_data.specs.LimitsView.{LimitsView}
 use Rattle.febe_data.specs.Validity.{spans_in_all}
-use Rattle.febe_data.specs.Plain.{PlainSpec, PlainWant, PlainRequest, insert, span_set, copy, rearrange, retrieve, relate, create, delete, version, whole_span, quit, follow, find_documents, create_link, end_sets, count_links, find_links, next_links, set_account, opens, closes}
+use Rattle.febe_data.specs.Plain.{PlainSpec, PlainWant, PlainRequest, insert, span_set, copy, rearrange, retrieve, relate, create, delete, version, whole_span, quit, follow, find_documents, create_link, end_sets, count_links, find_links, next_links, set_account, opens, closes, publish}
 use Rattle.world_rules.specs.declared.ends.End.TheVariants.{From, To, Three}
-use Rattle.world_rules.specs.World.{World, has_document, account_of_session, mode_of, is_held_against, is_of_account, text_length}
+use Rattle.world_rules.specs.World.{World, has_document, account_of_session, mode_of, is_held_against, text_length}
+use Rattle.world_rules.specs.Readable.{is_readable_by, is_readable}
+pub use Rattle.world_rules.specs.Readable.{owns}
 use Rattle.world_rules.specs.Picking.{picked_text, picked_links, picked_addresses, runs_of}
 use Rattle.world_rules.specs.Edits.{cuts_of}
 use Rattle.world_rules.specs.Relation.{diagonals}
@@ -37,6 +39,14 @@ first_holding (check ∷ checks) = if check.0 then Some check.1 else first_holdi
 abbrev pub lacks_document : World → List PlainSpec → Bool
 lacks_document world specs = list_any (λ (spec : PlainSpec). not (has_document world spec.document)) specs
 
+-- some spec names a document that is not published, nor of the account
+abbrev pub hides_document_by : (published : List (List ℕ)) → Option (List ℕ) → List PlainSpec → Bool
+hides_document_by published account specs = list_any (λ (spec : PlainSpec). not (is_readable_by published account spec.document)) specs
+
+-- some spec names a document that the session may not read
+abbrev pub hides_document : World → ℕ → List PlainSpec → Bool
+hides_document world session specs = hides_document_by world.published (account_of_session world session) specs
+
 -- some spec names a document that the session has not open
 abbrev pub lacks_opening : World → ℕ → List PlainSpec → Bool
 lacks_opening world session specs = list_any (λ (spec : PlainSpec). is_none (mode_of world session spec.document)) specs
@@ -45,14 +55,6 @@ abbrev pub is_read_only : Option Mode → Bool
 is_read_only (Some Read) = true
 is_read_only (Some Write) = false
 is_read_only None = false
-
--- the document is of the session's account
-abbrev pub owns : World → ℕ → List ℕ → Bool
-owns world session document = owned_by (account_of_session world session)
-  where
-    owned_by : Option (List ℕ) → Bool
-    owned_by (Some account) = is_of_account account document
-    owned_by None = false
 
 -- the session may open the document for writing
 abbrev pub may_write : World → ℕ → List ℕ → Bool
@@ -128,9 +130,17 @@ runs_in_all world from to three = length (runs_of world from) + length (runs_of 
 -- ---- the tests that requests share
 
 -- the document is there, and the session has it open
+abbrev pub holding : World → ℕ → List ℕ → List Check
+holding world session document =
+    (not (has_document world document), NoSuchDocument)
+    ∷ (is_none (mode_of world session document), NotOpen)
+    ∷ []
+
+-- the session may read it too
 abbrev pub reading : World → ℕ → List ℕ → List Check
 reading world session document =
     (not (has_document world document), NoSuchDocument)
+    ∷ (not (is_readable world session document), Private)
     ∷ (is_none (mode_of world session document), NotOpen)
     ∷ []
 
@@ -138,10 +148,11 @@ reading world session document =
 abbrev pub writing : World → ℕ → List ℕ → List Check
 writing world session document = reading world session document ++ (is_read_only (mode_of world session document), NotOpenForWriting) ∷ []
 
--- what the specs name is there and open, and the spans are spans
+-- what the specs name is there, may be read, and is open, and the spans are spans
 abbrev pub picking : World → ℕ → List PlainSpec → List Check
 picking world session specs =
     (lacks_document world specs, NoSuchDocument)
+    ∷ (hides_document world session specs, Private)
     ∷ (lacks_opening world session specs, NotOpen)
     ∷ (has_bad_span specs, BadAddress)
     ∷ []
@@ -150,6 +161,7 @@ picking world session specs =
 abbrev pub writing_from : World → ℕ → List ℕ → List PlainSpec → List Check
 writing_from world session document specs =
     (not (has_document world document) || lacks_document world specs, NoSuchDocument)
+    ∷ (not (is_readable world session document) || hides_document world session specs, Private)
     ∷ (is_none (mode_of world session document) || lacks_opening world session specs, NotOpen)
     ∷ (is_read_only (mode_of world session document), NotOpenForWriting)
     ∷ []
@@ -157,6 +169,10 @@ writing_from world session document specs =
 -- some spec of the want names a document that there is not
 abbrev pub lacks_document_of : World → PlainWant → Bool
 lacks_document_of world want = lacks_document world want.from || lacks_document world want.to || lacks_document world want.three
+
+-- or one that the session may not read
+abbrev pub hides_document_of : World → ℕ → PlainWant → Bool
+hides_document_of world session want = hides_document world session want.from || hides_document world session want.to || hides_document world session want.three
 
 -- or one that the session has not open
 abbrev pub lacks_opening_of : World → ℕ → PlainWant → Bool
@@ -170,6 +186,7 @@ has_bad_span_in want = has_bad_span want.from || has_bad_span want.to || has_bad
 abbrev pub finding : World → ℕ → PlainWant → List Check
 finding world session want =
     (lacks_document_of world want, NoSuchDocument)
+    ∷ (hides_document_of world session want, Private)
     ∷ (lacks_opening_of world session want, NotOpen)
     ∷ (has_bad_span_in want, BadAddress)
     ∷ (is_too_long (runs_in_all world want.from want.to want.three), TooLong)
@@ -225,14 +242,14 @@ checks limits counted world session (version document) =
 checks limits counted world session (whole_span document) = reading world session document
 checks limits counted world session quit = []
 checks limits counted world session (follow link end) =
-    (is_none (link_at world link), NoSuchLink)
+    (is_none (link_at world session link), NoSuchLink)
     ∷ (is_none (end_numbered end), NoSuchEnd)
-    ∷ (is_too_long (spans_in_all (follow_of world (link_at world link) (end_numbered end))), TooLong)
+    ∷ (is_too_long (spans_in_all (follow_of world session (link_at world session link) (end_numbered end))), TooLong)
     ∷ []
 checks limits counted world session (find_documents specs) =
     picking world session specs
     ++ (is_too_long (length (runs_of world specs)), TooLong)
-    ∷ (is_too_long (length (documents_found world specs)), TooLong)
+    ∷ (is_too_long (length (documents_found world session specs)), TooLong)
     ∷ []
 checks limits counted world session (create_link home from to three) =
     writing_from world session home (from ++ to ++ three)
@@ -242,18 +259,18 @@ checks limits counted world session (create_link home from to three) =
     ∷ []
 checks limits counted world session (end_sets specs) =
     picking world session specs
-    ++ (is_too_long (spans_in_all (end_set world From specs)), TooLong)
-    ∷ (is_too_long (spans_in_all (end_set world To specs)), TooLong)
-    ∷ (is_too_long (spans_in_all (end_set world Three specs)), TooLong)
+    ++ (is_too_long (spans_in_all (end_set world session From specs)), TooLong)
+    ∷ (is_too_long (spans_in_all (end_set world session To specs)), TooLong)
+    ∷ (is_too_long (spans_in_all (end_set world session Three specs)), TooLong)
     ∷ []
 checks limits counted world session (count_links want) = finding world session want
 checks limits counted world session (find_links want) =
     finding world session want
-    ++ (is_too_long (length (ids_found world want)), TooLong)
+    ++ (is_too_long (length (ids_found world session want)), TooLong)
     ∷ []
 checks limits counted world session (next_links want after limit) =
     finding world session want
-    ++ (is_too_long (length (ids_after world want after limit)), TooLong)
+    ++ (is_too_long (length (ids_after world session want after limit)), TooLong)
     ∷ []
 checks limits counted world session (set_account account) =
     (not (account_test account), BadAddress)
@@ -261,11 +278,17 @@ checks limits counted world session (set_account account) =
 checks limits counted world session (opens document mode rule) =
     (wants_account mode rule && is_none (account_of_session world session), NoAccount)
     ∷ (not (has_document world document), NoSuchDocument)
+    ∷ (not (is_readable world session document), Private)
     ∷ (is_strict mode rule && not (owns world session document), NotOwner)
     ∷ (is_strict mode rule && is_held_against world session document, Conflict)
     ∷ (opens_version world session document mode rule && history_full limits counted, Full)
     ∷ []
-checks limits counted world session (closes document) = reading world session document
+-- what a session has open it may close, whatever it may read
+checks limits counted world session (closes document) = holding world session document
+checks limits counted world session (publish document) =
+    writing world session document
+    ++ (history_full limits counted, Full)
+    ∷ []
 
 -- the refusal that a request is given, if it is refused
 abbrev pub wanted : LimitsView → ℕ → World → ℕ → PlainRequest → Option Refusal

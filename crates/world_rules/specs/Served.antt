@@ -23,7 +23,7 @@ pub record IsChanged (limits : LimitsView) (view : FlatView) (session : ℕ) (re
 pub record IsAnsweredBy (limits : LimitsView) (view : FlatView) (session : ℕ) (request : PlainRequest) (reply : PlainReply) : Type 0 where
   pub allowed : wanted limits view.counted view.world session request ≡ None
   pub query : effect view.world session request ≡ None
-  pub reply_is : reply ≡ answer view.world request
+  pub reply_is : reply ≡ answer view.world session request
 
 abbrev pub IsServedAs : LimitsView → FlatView → ℕ → PlainRequest → Served → Type 0
 IsServedAs limits view session request (Refused refusal) = wanted limits view.counted view.world session request ≡ Some refusal
@@ -43,4 +43,4 @@ told None (Some made) given = made.reply
 told None None given = given
 
 abbrev pub reply_for : LimitsView → FlatView → ℕ → PlainRequest → PlainReply
-reply_for limits view session request = told (wanted limits view.counted view.world session request) (effect view.world session request) (answer view.world request)
+reply_for limits view session request = told (wanted limits view.counted view.world session request) (effect view.world session request) (answer view.world session request)

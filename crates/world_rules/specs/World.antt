@@ -1,4 +1,4 @@
--- The world is six plain lists, which are read by filters.
+-- The world is seven plain lists, which are read by filters.
 use Rattle.std.specs.Prelude.{ℕ, ◌+◌, ◌==◌, ◌&&◌, Bool, true, false, List, [], ◌∷◌, ◌++◌, length, take, count_by, Option, Some, None, nat_eq, nat_lt, not, if◌then◌else◌}
 use Rattle.std.specs.List.{find, list_any, fold}
 use Rattle.std.specs.Option.{option_map}
@@ -23,18 +23,20 @@ pub record LinkRow : Type 0 where
   pub to : List Run
   pub three : List Run
 
--- documents, what stands at their V-addresses, content bytes, links, open documents, and accounts
+-- documents, what stands at their V-addresses, content bytes, links, published documents, open documents, and accounts
 pub record World : Type 0 where
   pub documents : List (List ℕ)
   pub rows : List Row
   pub bytes : List ByteRow
   pub links : List LinkRow
+  -- a document stands here once for each publish
+  pub published : List (List ℕ)
   pub open_rows : List OpenRow
   pub accounts : List AccountRow
 
 -- nothing was ever made
 abbrev pub empty_world : World
-empty_world = record { documents = []; rows = []; bytes = []; links = []; open_rows = []; accounts = [] }
+empty_world = record { documents = []; rows = []; bytes = []; links = []; published = []; open_rows = []; accounts = [] }
 
 -- ---- addresses
 

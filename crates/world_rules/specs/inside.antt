@@ -1,2 +1,1 @@
 pub mod WantRefusal
-pub mod Queries

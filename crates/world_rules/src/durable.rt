@@ -5,7 +5,8 @@ ghost use Rattle.world_rules.specs.History.{is_durable};
 
 use febe_data::Change;
 
-/// Whether the limits count the change, and it is kept over a restart: one of documents, content or links.
+/// Whether the limits count the change, and it is kept over a restart: one of documents, content or links, or of what is
+/// published.
 pub fn is_durable(change: &Change) -> bool
     ensures { result ≡ is_durable (plain_change change.now) }
 {
@@ -17,7 +18,8 @@ pub fn is_durable(change: &Change) -> bool
         | Change::Delete { .. }
         | Change::Rearrange { .. }
         | Change::Copy { .. }
-        | Change::Link { .. } => true,
+        | Change::Link { .. }
+        | Change::Publish { .. } => true,
         _ => false,
     }
 }

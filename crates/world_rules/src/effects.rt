@@ -1,7 +1,7 @@
 //! What a request that is not refused changes, and what it is answered then.
 ghost use Rattle.std.specs.Prelude.{◌≡◌, ◌≢◌, ◌+◌, ◌-◌, ◌<◌, ◌≤◌, ◌^◌, ◌∷◌, [], length, map, Some, IsOk, IfOk, slice_index, ◌++◌};
 ghost use Rattle.tumbler.specs.Places.{most_places, place, IsTumbler};
-ghost use Rattle.febe_data.specs.Plain.{plain_spec, plain_reply, create, version, opens, inserted, copied, rearranged, deleted, linked, account_set, closed, account_changed, copy_opened, document_opened, opened, document_closed, text_inserted, span_deleted, blocks_swapped, specs_copied, link_made};
+ghost use Rattle.febe_data.specs.Plain.{plain_spec, plain_reply, create, version, opens, inserted, copied, rearranged, deleted, linked, account_set, closed, account_changed, copy_opened, document_opened, opened, published, document_closed, text_inserted, span_deleted, blocks_swapped, specs_copied, link_made, document_published};
 ghost use Rattle.febe_data.specs.Validity.{IsReply};
 ghost use Rattle.world_rules.specs.World.{is_of_account, version_for, content_length, links_made_in, link_length, link_address};
 ghost use Rattle.world_rules.specs.FlatView.{FlatView};
@@ -291,6 +291,19 @@ pub(crate) fn close_effect(document: &Tumbler) -> Effect
             document: document.copy(),
         },
         reply: Reply::Closed,
+    }
+}
+
+/// What publishing does.
+pub(crate) fn publish_effect(document: &Tumbler) -> Effect
+    ensures made { plain_effect result ≡ record { change = document_published document.now; reply = published } }
+    ensures valid { IsReply (plain_reply result.reply) }
+{
+    Effect {
+        change: Change::Publish {
+            document: document.copy(),
+        },
+        reply: Reply::Published,
     }
 }
 

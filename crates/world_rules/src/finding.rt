@@ -4,14 +4,16 @@ ghost use Rattle.std.specs.List.{list_any};
 ghost use Rattle.febe_data.specs.LimitsView.{LimitsView};
 ghost use Rattle.febe_data.specs.Plain.{plain_want, count_links, find_links, next_links};
 ghost use Rattle.world_rules.specs.FlatView.{FlatView};
-ghost use Rattle.world_rules.specs.Refusals.{is_bad_span, is_too_long, lacks_document_of, lacks_opening_of, has_bad_span_in};
+ghost use Rattle.world_rules.specs.Refusals.{is_bad_span, is_too_long, lacks_document_of, hides_document_of, lacks_opening_of, has_bad_span_in};
 ghost use Rattle.world_rules.specs.Served.{IsServedAs, IsValidServed};
 ghost use Rattle.world_rules.specs.Wanted.{AreWantedRuns};
 ghost use Rattle.world_rules.specs.inside.WantRefusal.{AreRunsOrRefusal};
 
 use crate::errors::WorldError;
 use crate::lookups::{Find, LookUp, WantedRuns};
-use crate::refusals::{has_bad_end, has_bad_span, is_too_long, lacks_document, lacks_opening};
+use crate::refusals::{
+    has_bad_end, has_bad_span, hides_document, is_too_long, lacks_document, lacks_opening,
+};
 use crate::requests::Served;
 use crate::three_sets::three_runs;
 use febe_data::{Refusal, Reply, Tumbler, Want};
@@ -36,6 +38,16 @@ fn lacks_document_of<W: LookUp>(world: &W, want: &Want) -> bool
         || lacks_document(world, want.three.as_slice())
 }
 
+/// Whether a spec of the want names a document that the session may not read.
+fn hides_document_of<W: LookUp>(world: &W, session: u64, want: &Want) -> bool
+    ensures { (view : FlatView) → W.stands world.now view → result ≡ hides_document_of view.world session (plain_want want.now) }
+{
+    let account = world.account_of_session(session);
+    hides_document(world, &account, want.from.as_slice())
+        || hides_document(world, &account, want.to.as_slice())
+        || hides_document(world, &account, want.three.as_slice())
+}
+
 /// Whether a spec of the want names a document that the session has not open.
 fn lacks_opening_of<W: LookUp>(world: &W, session: u64, want: &Want) -> bool
     ensures { (view : FlatView) → W.stands world.now view → result ≡ lacks_opening_of view.world session (plain_want want.now) }
@@ -56,6 +68,9 @@ fn runs_or_refusal<W: Find>(
 {
     if lacks_document_of(world, want) {
         return Ok(Err(Refusal::NoSuchDocument));
+    }
+    if hides_document_of(world, session, want) {
+        return Ok(Err(Refusal::Private));
     }
     if lacks_opening_of(world, session, want) {
         return Ok(Err(Refusal::NotOpen));
@@ -92,7 +107,7 @@ pub(crate) fn serve_count_links<W: Find>(
         Ok(runs) => runs,
         Err(refusal) => return Ok(Served::Refused(refusal)),
     };
-    let count = world.links_found(want, &runs)?;
+    let count = world.links_found(session, want, &runs)?;
     Ok(Served::Answered(Reply::LinkCount(count)))
 }
 
@@ -111,7 +126,7 @@ pub(crate) fn serve_find_links<W: Find>(
         Ok(runs) => runs,
         Err(refusal) => return Ok(Served::Refused(refusal)),
     };
-    let ids = world.ids_found(alloc, want, &runs)?;
+    let ids = world.ids_found(alloc, session, want, &runs)?;
     if is_too_long(ids.len()) {
         return Ok(Served::Refused(Refusal::TooLong));
     }
@@ -135,7 +150,7 @@ pub(crate) fn serve_next_links<W: Find>(
         Ok(runs) => runs,
         Err(refusal) => return Ok(Served::Refused(refusal)),
     };
-    let ids = world.ids_after(alloc, want, &runs, after, limit)?;
+    let ids = world.ids_after(alloc, session, want, &runs, after, limit)?;
     if is_too_long(ids.len()) {
         return Ok(Served::Refused(Refusal::TooLong));
     }

@@ -7,6 +7,7 @@ ghost use Rattle.tumbler.specs.Address.{most_document_places, IsAccount, IsDocum
 ghost use Rattle.febe_data.specs.Plain.{plain_spec, plain_item, plain_want, plain_entry};
 ghost use Rattle.febe_data.specs.Validity.{IsDiagonal};
 ghost use Rattle.world_rules.specs.World.{has_document, account_of_session, mode_of, is_held_against, text_length, link_length, next_document, next_version, content_length, links_made_in};
+ghost use Rattle.world_rules.specs.Readable.{is_published};
 ghost use Rattle.world_rules.specs.Holding.{holder};
 ghost use Rattle.world_rules.specs.Picking.{picked_addresses, runs_of};
 ghost use Rattle.world_rules.specs.Refusals.{is_bad_span, has_bad_span, is_too_long, total_of, span_bytes, span_items};
@@ -57,6 +58,10 @@ pub trait LookUp {
 
     fn has_document(&self, document: &Tumbler) -> bool
         ensures { (view : FlatView) → stands self.now view → result ≡ has_document view.world document.now };
+
+    /// Whether the document is published.
+    fn is_published(&self, document: &Tumbler) -> bool
+        ensures { (view : FlatView) → stands self.now view → result ≡ is_published view.world document.now };
 
     /// The account that the session has set, if it has.
     fn account_of_session(&self, session: u64) -> Option<Tumbler>
@@ -148,52 +153,72 @@ pub trait Find: LookUp {
         ensures few { IfOk result (λ found. IfSome found (λ made. is_too_long (length made.items) ≡ false)) }
         ensures many { (view : FlatView) → Self.stands self.now view → IfOk result (λ found. IfNone found (is_too_long (length (diagonals view.world (plain_spec left.now) (plain_spec right.now))) ≡ true)) };
 
-    /// The documents that have content which the specs pick, ascending.
-    fn documents_found(&self, alloc: Global, specs: &[Spec]) -> Result<List<Tumbler>, WorldError>
-        ensures items { (view : FlatView) → Self.stands self.now view → IfOk result (λ made. made.items ≡ documents_found view.world (map plain_spec specs.now)) }
+    /// The documents that the session may read and that have content which the specs pick, ascending.
+    fn documents_found(
+        &self,
+        alloc: Global,
+        session: u64,
+        specs: &[Spec],
+    ) -> Result<List<Tumbler>, WorldError>
+        ensures items { (view : FlatView) → Self.stands self.now view → IfOk result (λ made. made.items ≡ documents_found view.world session (map plain_spec specs.now)) }
         ensures valid { IfOk result (λ made. All IsTumbler made.items) };
 
-    /// How many links are wanted. The runs are those that the want's specs pick.
-    fn links_found(&self, want: &Want, runs: &WantedRuns) -> Result<u32, WorldError>
+    /// How many links are wanted, of those whose home the session may read. The runs are those that the want's specs pick.
+    fn links_found(&self, session: u64, want: &Want, runs: &WantedRuns) -> Result<u32, WorldError>
         requires { (view : FlatView) → Self.stands self.now view → AreWantedRuns view.world (plain_want want.now) runs.now }
-        ensures { (view : FlatView) → Self.stands self.now view → IfOk result (λ count. count ≡ length (links_found view.world (plain_want want.now))) };
+        ensures { (view : FlatView) → Self.stands self.now view → IfOk result (λ count. count ≡ length (links_found view.world session (plain_want want.now))) };
 
-    /// The ids of the links that are wanted, ascending.
+    /// The ids of these links, ascending.
     fn ids_found(
         &self,
         alloc: Global,
+        session: u64,
         want: &Want,
         runs: &WantedRuns,
     ) -> Result<List<Tumbler>, WorldError>
         requires { (view : FlatView) → Self.stands self.now view → AreWantedRuns view.world (plain_want want.now) runs.now }
-        ensures items { (view : FlatView) → Self.stands self.now view → IfOk result (λ made. made.items ≡ ids_found view.world (plain_want want.now)) }
+        ensures items { (view : FlatView) → Self.stands self.now view → IfOk result (λ made. made.items ≡ ids_found view.world session (plain_want want.now)) }
         ensures valid { IfOk result (λ made. All IsTumbler made.items) };
 
     /// The first so many of them above the tumbler.
     fn ids_after(
         &self,
         alloc: Global,
+        session: u64,
         want: &Want,
         runs: &WantedRuns,
         after: &Tumbler,
         limit: u32,
     ) -> Result<List<Tumbler>, WorldError>
         requires { (view : FlatView) → Self.stands self.now view → AreWantedRuns view.world (plain_want want.now) runs.now }
-        ensures items { (view : FlatView) → Self.stands self.now view → IfOk result (λ made. made.items ≡ ids_after view.world (plain_want want.now) after.now limit) }
+        ensures items { (view : FlatView) → Self.stands self.now view → IfOk result (λ made. made.items ≡ ids_after view.world session (plain_want want.now) after.now limit) }
         ensures valid { IfOk result (λ made. All IsTumbler made.items) };
 
-    /// Whether there is a link of that id.
-    fn has_link(&self, id: &Tumbler) -> bool
-        ensures { (view : FlatView) → Self.stands self.now view → result ≡ not (is_none (link_at view.world id.now)) };
+    /// Whether there is a link of that id whose home the session may read.
+    fn has_link(&self, session: u64, id: &Tumbler) -> bool
+        ensures { (view : FlatView) → Self.stands self.now view → result ≡ not (is_none (link_at view.world session id.now)) };
 
-    /// Where that end of the link is now: one spec for each of its runs. Nothing where there is no such link.
-    fn end_now(&self, alloc: Global, id: &Tumbler, end: End) -> Result<List<Spec>, WorldError>
-        ensures value { (view : FlatView) → Self.stands self.now view → IfOk result (λ made. map plain_spec made.items ≡ follow_of view.world (link_at view.world id.now) (Some end)) }
+    /// Where that end of the link is now: one spec for each of its runs whose origin the session may read. Nothing where
+    /// there is no such link.
+    fn end_now(
+        &self,
+        alloc: Global,
+        session: u64,
+        id: &Tumbler,
+        end: End,
+    ) -> Result<List<Spec>, WorldError>
+        ensures value { (view : FlatView) → Self.stands self.now view → IfOk result (λ made. map plain_spec made.items ≡ follow_of view.world session (link_at view.world session id.now) (Some end)) }
         ensures valid { IfOk result (λ made. All NamesSpans (map plain_spec made.items)) };
 
-    /// One spec for each spec: which of the text that it picks is in that end of some link.
-    fn end_set(&self, alloc: Global, end: End, specs: &[Spec]) -> Result<List<Spec>, WorldError>
-        ensures value { (view : FlatView) → Self.stands self.now view → IfOk result (λ made. map plain_spec made.items ≡ end_set view.world end (map plain_spec specs.now)) }
+    /// One spec for each spec: which of the text that it picks is in that end of some link whose home the session may read.
+    fn end_set(
+        &self,
+        alloc: Global,
+        session: u64,
+        end: End,
+        specs: &[Spec],
+    ) -> Result<List<Spec>, WorldError>
+        ensures value { (view : FlatView) → Self.stands self.now view → IfOk result (λ made. map plain_spec made.items ≡ end_set view.world session end (map plain_spec specs.now)) }
         ensures valid { IfOk result (λ made. All NamesSpans (map plain_spec made.items)) };
 }
 

@@ -2,14 +2,18 @@
 ghost use Rattle.std.specs.Prelude.{◌≡◌, ◌+◌, ◌-◌, ◌^◌, ◌||◌, ◌++◌, ◌∷◌, [], not, map, min, length, is_none, Option, None, Some, IfOk};
 ghost use Rattle.febe_data.specs.Plain.{plain_spec, create, version, create_link};
 ghost use Rattle.world_rules.specs.World.{has_document, mode_of};
+ghost use Rattle.world_rules.specs.Readable.{is_readable};
 ghost use Rattle.world_rules.specs.FlatView.{FlatView};
-ghost use Rattle.world_rules.specs.Refusals.{wanted, runs_in_all, lacks_document, lacks_opening, has_bad_span};
+ghost use Rattle.world_rules.specs.Refusals.{wanted, runs_in_all, lacks_document, hides_document, lacks_opening, has_bad_span};
 ghost use Rattle.world_rules.specs.Served.{IsServedAs, IsValidServed};
 
 use crate::effects::{create_effect, link_effect, version_effect};
 use crate::errors::WorldError;
 use crate::lookups::{Find, LookUp};
-use crate::refusals::{has_bad_span, history_full, lacks_document, lacks_opening, reading_refusal};
+use crate::readable::is_readable_by;
+use crate::refusals::{
+    has_bad_span, hides_document, history_full, lacks_document, lacks_opening, reading_refusal,
+};
 use crate::requests::Served;
 use crate::three_sets::three_runs;
 use febe_data::{Limits, Mode, Refusal, Spec, Tumbler};
@@ -93,6 +97,31 @@ fn lacks_any_document<W: LookUp>(
     lacks_document(world, three)
 }
 
+/// Whether the session may not read the home, or a document that the specs name.
+#[tactic(auto, using(crate::proofs::Checks::three_sets))]
+fn hides_any_document<W: LookUp>(
+    world: &W,
+    session: u64,
+    home: &Tumbler,
+    from: &[Spec],
+    to: &[Spec],
+    three: &[Spec],
+) -> bool
+    ensures { (view : FlatView) → W.stands world.now view → result ≡ (not (is_readable view.world session home.now) || hides_document view.world session (map plain_spec from.now ++ map plain_spec to.now ++ map plain_spec three.now)) }
+{
+    let account = world.account_of_session(session);
+    if !is_readable_by(world, &account, home) {
+        return true;
+    }
+    if hides_document(world, &account, from) {
+        return true;
+    }
+    if hides_document(world, &account, to) {
+        return true;
+    }
+    hides_document(world, &account, three)
+}
+
 /// Whether the session has the home, or a document that the specs name, not open.
 #[tactic(auto, using(crate::proofs::Checks::three_sets))]
 fn lacks_any_opening<W: LookUp>(
@@ -147,6 +176,9 @@ fn link_refusal<W: Find>(
 {
     if lacks_any_document(world, home, from, to, three) {
         return Ok(Some(Refusal::NoSuchDocument));
+    }
+    if hides_any_document(world, session, home, from, to, three) {
+        return Ok(Some(Refusal::Private));
     }
     if lacks_any_opening(world, session, home, from, to, three) {
         return Ok(Some(Refusal::NotOpen));

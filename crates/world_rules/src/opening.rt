@@ -5,13 +5,14 @@ ghost use Rattle.febe_data.specs.declared.refusal.Refusal.TheVariants.{BadAddres
 ghost use Rattle.febe_data.specs.LimitsView.{LimitsView};
 ghost use Rattle.febe_data.specs.Plain.{opens, closes, set_account};
 ghost use Rattle.world_rules.specs.FlatView.{FlatView};
-ghost use Rattle.world_rules.specs.Refusals.{first_holding, wanted, owns, may_write, opens_version, wants_account, is_strict};
+ghost use Rattle.world_rules.specs.Refusals.{first_holding, wanted, may_write, opens_version, wants_account, is_strict};
 ghost use Rattle.world_rules.specs.Served.{IsServedAs, IsValidServed};
 
-use crate::effects::{account_effect, close_effect, is_of_account, open_effect};
+use crate::effects::{account_effect, close_effect, open_effect};
 use crate::errors::WorldError;
 use crate::lookups::LookUp;
-use crate::refusals::{history_full, reading_refusal};
+use crate::readable::{is_readable, owns};
+use crate::refusals::{history_full, holding_refusal};
 use crate::requests::Served;
 use febe_data::{Limits, Mode, Refusal, Rule, Tumbler};
 
@@ -49,16 +50,6 @@ fn is_strict(mode: Mode, rule: Rule) -> bool
             Rule::Copy | Rule::Always => false,
         },
     }
-}
-
-/// Whether the document is of the session's account.
-fn owns<W: LookUp>(world: &W, session: u64, document: &Tumbler) -> bool
-    ensures { (view : FlatView) → W.stands world.now view → result ≡ owns view.world session document.now }
-{
-    let Some(account) = world.account_of_session(session) else {
-        return false;
-    };
-    is_of_account(&account, document)
 }
 
 /// Whether the session may open the document for writing.
@@ -105,6 +96,9 @@ fn open_refusal<W: LookUp>(
     if !world.has_document(document) {
         return Some(Refusal::NoSuchDocument);
     }
+    if !is_readable(world, session, document) {
+        return Some(Refusal::Private);
+    }
     let strict = is_strict(mode, rule);
     if strict && !owns(world, session, document) {
         return Some(Refusal::NotOwner);
@@ -144,7 +138,7 @@ pub(crate) fn serve_close<W: LookUp>(world: &W, session: u64, document: &Tumbler
     ensures served { (view : FlatView) (limits : LimitsView) → W.stands world.now view → IsServedAs limits view session (closes document.now) result }
     ensures valid { IsValidServed result }
 {
-    if let Some(refusal) = reading_refusal(world, session, document) {
+    if let Some(refusal) = holding_refusal(world, session, document) {
         return Served::Refused(refusal);
     }
     Served::Changed(close_effect(document))

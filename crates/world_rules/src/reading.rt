@@ -1,17 +1,19 @@
 //! What queries of documents and content are answered.
-ghost use Rattle.std.specs.Prelude.{◌≡◌, ℕ, ◌∷◌, [], ◌≤◌, None, false, map, IfOk};
+ghost use Rattle.std.specs.Prelude.{◌≡◌, ◌∷◌, [], ◌≤◌, ◌||◌, not, None, false, map, IfOk};
 ghost use Rattle.std.specs.List.{list_any};
 ghost use Rattle.febe_data.specs.LimitsView.{LimitsView};
-ghost use Rattle.febe_data.specs.Plain.{plain_spec, plain_reply, span_set, whole_span, retrieve, relate, find_documents, follow, end_sets};
+ghost use Rattle.febe_data.specs.Plain.{plain_spec, plain_reply, span_set, whole_span, retrieve, relate, find_documents, follow, end_sets, gave_span_set, gave_whole_span};
 ghost use Rattle.febe_data.specs.Validity.{IsReply};
 ghost use Rattle.world_rules.specs.FlatView.{FlatView};
+ghost use Rattle.world_rules.specs.Readable.{is_readable};
 ghost use Rattle.world_rules.specs.Refusals.{first_holding, picking, is_bad_span};
-ghost use Rattle.world_rules.specs.Answers.{answer};
+ghost use Rattle.world_rules.specs.Answers.{span_set_of, whole_span_of};
 ghost use Rattle.world_rules.specs.Served.{IsServedAs, IsValidServed};
 
 use crate::ends::End;
 use crate::errors::WorldError;
 use crate::lookups::{Find, LookUp};
+use crate::readable::is_readable_by;
 use crate::refusals::{
     has_bad_end, has_too_many_spans, is_too_long, picking_refusal, reading_refusal,
 };
@@ -23,7 +25,7 @@ use std::alloc::Global;
 
 /// The spans of the document's parts.
 fn span_set<W: LookUp>(world: &W, alloc: Global, document: &Tumbler) -> Result<Reply, WorldError>
-    ensures answer { (view : FlatView) → W.stands world.now view → IfOk result (λ reply. plain_reply reply ≡ answer view.world (span_set document.now)) }
+    ensures answer { (view : FlatView) → W.stands world.now view → IfOk result (λ reply. plain_reply reply ≡ gave_span_set (span_set_of view.world document.now)) }
     ensures valid { IfOk result (λ reply. IsReply (plain_reply reply)) }
 {
     let mut spans = List::new(alloc);
@@ -34,7 +36,7 @@ fn span_set<W: LookUp>(world: &W, alloc: Global, document: &Tumbler) -> Result<R
 
 /// The one span over all of the document.
 fn whole_span<W: LookUp>(world: &W, alloc: Global, document: &Tumbler) -> Result<Reply, WorldError>
-    ensures answer { (view : FlatView) → W.stands world.now view → IfOk result (λ reply. plain_reply reply ≡ answer view.world (whole_span document.now)) }
+    ensures answer { (view : FlatView) → W.stands world.now view → IfOk result (λ reply. plain_reply reply ≡ gave_whole_span (whole_span_of view.world document.now)) }
     ensures valid { IfOk result (λ reply. IsReply (plain_reply reply)) }
 {
     let texts = world.text_length(document);
@@ -96,6 +98,14 @@ pub(crate) fn serve_retrieve<W: Find>(
     Ok(Served::Answered(Reply::Retrieved(items)))
 }
 
+/// Whether the session may not read both documents.
+fn hides_one_of<W: LookUp>(world: &W, session: u64, left: &Tumbler, right: &Tumbler) -> bool
+    ensures { (view : FlatView) → W.stands world.now view → result ≡ (not (is_readable view.world session left.now) || not (is_readable view.world session right.now)) }
+{
+    let account = world.account_of_session(session);
+    !is_readable_by(world, &account, left) || !is_readable_by(world, &account, right)
+}
+
 /// What the two specs are refused for. It takes no memory.
 fn relate_refusal<W: LookUp>(world: &W, session: u64, left: &Spec, right: &Spec) -> Option<Refusal>
     ensures refusal { (view : FlatView) → W.stands world.now view → result ≡ first_holding (picking view.world session (plain_spec left.now ∷ plain_spec right.now ∷ [])) }
@@ -104,6 +114,9 @@ fn relate_refusal<W: LookUp>(world: &W, session: u64, left: &Spec, right: &Spec)
 {
     if !world.has_document(&left.document) || !world.has_document(&right.document) {
         return Some(Refusal::NoSuchDocument);
+    }
+    if hides_one_of(world, session, &left.document, &right.document) {
+        return Some(Refusal::Private);
     }
     if world.mode_of(session, &left.document).is_none()
         || world.mode_of(session, &right.document).is_none()
@@ -154,7 +167,7 @@ pub(crate) fn serve_find_documents<W: Find>(
     let Some(_runs) = world.runs_up_to(alloc, specs, MOST_ITEMS as usize)? else {
         return Ok(Served::Refused(Refusal::TooLong));
     };
-    let documents = world.documents_found(alloc, specs)?;
+    let documents = world.documents_found(alloc, session, specs)?;
     if is_too_long(documents.len()) {
         return Ok(Served::Refused(Refusal::TooLong));
     }
@@ -165,19 +178,20 @@ pub(crate) fn serve_find_documents<W: Find>(
 pub(crate) fn serve_follow<W: Find>(
     world: &W,
     alloc: Global,
+    session: u64,
     link: &Tumbler,
     end: u32,
 ) -> Result<Served, WorldError>
-    ensures served { (view : FlatView) (limits : LimitsView) (session : ℕ) → W.stands world.now view → IfOk result (IsServedAs limits view session (follow link.now end)) }
+    ensures served { (view : FlatView) (limits : LimitsView) → W.stands world.now view → IfOk result (IsServedAs limits view session (follow link.now end)) }
     ensures valid { IfOk result IsValidServed }
 {
-    if !world.has_link(link) {
+    if !world.has_link(session, link) {
         return Ok(Served::Refused(Refusal::NoSuchLink));
     }
     let Some(end) = End::numbered(end) else {
         return Ok(Served::Refused(Refusal::NoSuchEnd));
     };
-    let specs = world.end_now(alloc, link, end)?;
+    let specs = world.end_now(alloc, session, link, end)?;
     if has_too_many_spans(specs.as_slice()) {
         return Ok(Served::Refused(Refusal::TooLong));
     }
@@ -200,15 +214,15 @@ pub(crate) fn serve_end_sets<W: Find>(
     if let Some(refusal) = picking_refusal(world, session, specs) {
         return Ok(Served::Refused(refusal));
     }
-    let from = world.end_set(alloc, End::From, specs)?;
+    let from = world.end_set(alloc, session, End::From, specs)?;
     if has_too_many_spans(from.as_slice()) {
         return Ok(Served::Refused(Refusal::TooLong));
     }
-    let to = world.end_set(alloc, End::To, specs)?;
+    let to = world.end_set(alloc, session, End::To, specs)?;
     if has_too_many_spans(to.as_slice()) {
         return Ok(Served::Refused(Refusal::TooLong));
     }
-    let three = world.end_set(alloc, End::Three, specs)?;
+    let three = world.end_set(alloc, session, End::Three, specs)?;
     if has_too_many_spans(three.as_slice()) {
         return Ok(Served::Refused(Refusal::TooLong));
     }

@@ -4,9 +4,10 @@ ghost use Rattle.std.specs.List.{list_any};
 ghost use Rattle.febe_data.specs.Plain.{plain_spec};
 ghost use Rattle.febe_data.specs.Validity.{spans_in_all};
 ghost use Rattle.world_rules.specs.FlatView.{FlatView};
-ghost use Rattle.world_rules.specs.Refusals.{is_place, is_bad_span, has_bad_span, has_bad_cut, history_full, is_too_long, lacks_document, lacks_opening, first_holding, reading, writing, picking};
+ghost use Rattle.world_rules.specs.Refusals.{is_place, is_bad_span, has_bad_span, has_bad_cut, history_full, is_too_long, lacks_document, hides_document_by, lacks_opening, first_holding, holding, reading, writing, picking};
 
 use crate::lookups::LookUp;
+use crate::readable::{is_readable, is_readable_by};
 use febe_data::bounds::MOST_ITEMS;
 use febe_data::{Limits, Mode, Refusal, Span, Spec, Tumbler};
 
@@ -96,6 +97,22 @@ pub(crate) fn lacks_document<W: LookUp>(world: &W, specs: &[Spec]) -> bool
     false
 }
 
+/// Whether a spec names a document that a session of the account may not read.
+pub(crate) fn hides_document<W: LookUp>(
+    world: &W,
+    account: &Option<Tumbler>,
+    specs: &[Spec],
+) -> bool
+    ensures { (view : FlatView) → W.stands world.now view → result ≡ hides_document_by view.world.published account.now (map plain_spec specs.now) }
+{
+    for spec in specs {
+        if !is_readable_by(world, account, &spec.document) {
+            return true;
+        }
+    }
+    false
+}
+
 /// Whether a spec names a document that the session has not open.
 pub(crate) fn lacks_opening<W: LookUp>(world: &W, session: u64, specs: &[Spec]) -> bool
     ensures { (view : FlatView) → W.stands world.now view → result ≡ lacks_opening view.world session (map plain_spec specs.now) }
@@ -108,6 +125,23 @@ pub(crate) fn lacks_opening<W: LookUp>(world: &W, session: u64, specs: &[Spec]) 
     false
 }
 
+/// What a document that the session would close is refused for.
+pub(crate) fn holding_refusal<W: LookUp>(
+    world: &W,
+    session: u64,
+    document: &Tumbler,
+) -> Option<Refusal>
+    ensures { (view : FlatView) → W.stands world.now view → result ≡ first_holding (holding view.world session document.now) }
+{
+    if !world.has_document(document) {
+        return Some(Refusal::NoSuchDocument);
+    }
+    if world.mode_of(session, document).is_none() {
+        return Some(Refusal::NotOpen);
+    }
+    None
+}
+
 /// What a document that is read is refused for.
 pub(crate) fn reading_refusal<W: LookUp>(
     world: &W,
@@ -118,6 +152,9 @@ pub(crate) fn reading_refusal<W: LookUp>(
 {
     if !world.has_document(document) {
         return Some(Refusal::NoSuchDocument);
+    }
+    if !is_readable(world, session, document) {
+        return Some(Refusal::Private);
     }
     if world.mode_of(session, document).is_none() {
         return Some(Refusal::NotOpen);
@@ -136,6 +173,9 @@ pub(crate) fn writing_refusal<W: LookUp>(
     if !world.has_document(document) {
         return Some(Refusal::NoSuchDocument);
     }
+    if !is_readable(world, session, document) {
+        return Some(Refusal::Private);
+    }
     let Some(mode) = world.mode_of(session, document) else {
         return Some(Refusal::NotOpen);
     };
@@ -152,6 +192,9 @@ pub(crate) fn picking_refusal<W: LookUp>(world: &W, session: u64, specs: &[Spec]
 {
     if lacks_document(world, specs) {
         return Some(Refusal::NoSuchDocument);
+    }
+    if hides_document(world, &world.account_of_session(session), specs) {
+        return Some(Refusal::Private);
     }
     if lacks_opening(world, session, specs) {
         return Some(Refusal::NotOpen);

@@ -8,11 +8,11 @@ ghost use Rattle.world_rules.specs.Effects.{effect};
 ghost use Rattle.world_rules.specs.FlatView.{FlatView, entry_for};
 ghost use Rattle.world_rules.specs.PlainEffect.{plain_effect};
 ghost use Rattle.world_rules.specs.Served.{IsServedAs, IsValidServed, reply_for};
-ghost use Rattle.world_rules.specs.inside.Queries.{is_query};
+ghost use Rattle.world_rules.specs.Queries.{is_query};
 
 use crate::effects::{
     Effect, account_effect, close_effect, copy_effect, create_effect, delete_effect, insert_effect,
-    link_effect, open_effect, rearrange_effect, version_effect,
+    link_effect, open_effect, publish_effect, rearrange_effect, version_effect,
 };
 use crate::errors::WorldError;
 use crate::finding::{serve_count_links, serve_find_links, serve_next_links};
@@ -23,7 +23,7 @@ use crate::reading::{
     serve_end_sets, serve_find_documents, serve_follow, serve_relate, serve_retrieve,
     serve_span_set, serve_whole_span,
 };
-use crate::writing::{serve_copy, serve_delete, serve_insert, serve_rearrange};
+use crate::writing::{serve_copy, serve_delete, serve_insert, serve_publish, serve_rearrange};
 use febe_data::{Change, Entry, Limits, Memory, Refusal, Reply, Request};
 use std::alloc::Global;
 
@@ -110,6 +110,7 @@ fn serve_request<W: Find>(
             rule,
         } => serve_open(world, session, document, *mode, *rule, limits),
         Request::Close { document } => Ok(serve_close(world, session, document)),
+        Request::Publish { document } => Ok(serve_publish(world, session, document, limits)),
         query => serve_query(world, alloc, session, query),
     }
 }
@@ -130,7 +131,7 @@ fn serve_query<W: Find>(
         Request::WholeSpan { document } => serve_whole_span(world, alloc, session, document),
         Request::Retrieve { specs } => serve_retrieve(world, alloc, session, specs.as_slice()),
         Request::Relate { left, right } => serve_relate(world, alloc, session, left, right),
-        Request::Follow { link, end } => serve_follow(world, alloc, link, *end),
+        Request::Follow { link, end } => serve_follow(world, alloc, session, link, *end),
         Request::FindDocuments { specs } => {
             serve_find_documents(world, alloc, session, specs.as_slice())
         }
@@ -209,6 +210,7 @@ fn request_effect<W: Find>(
             rule,
         } => open_effect(world, session, document, *mode, *rule)?,
         Request::Close { document } => close_effect(document),
+        Request::Publish { document } => publish_effect(document),
         _ => return Ok(None),
     }))
 }

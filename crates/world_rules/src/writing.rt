@@ -1,18 +1,22 @@
-//! What changes a document's text and its rows.
+//! What changes a document: its text, its rows, and who may read it.
 ghost use Rattle.std.specs.Prelude.{◌≡◌, ◌≤◌, ◌+◌, ◌||◌, ◌++◌, ◌∷◌, [], not, map, length, is_none, Option, None, Some, IfOk};
-ghost use Rattle.febe_data.specs.Plain.{plain_spec, insert, copy, rearrange, delete};
+ghost use Rattle.febe_data.specs.Plain.{plain_spec, insert, copy, rearrange, delete, publish};
 ghost use Rattle.world_rules.specs.World.{has_document, mode_of};
+ghost use Rattle.world_rules.specs.Readable.{is_readable};
 ghost use Rattle.world_rules.specs.FlatView.{FlatView};
-ghost use Rattle.world_rules.specs.Refusals.{wanted, first_holding, writing_from, lacks_document, lacks_opening};
+ghost use Rattle.world_rules.specs.Refusals.{wanted, first_holding, writing_from, lacks_document, hides_document, lacks_opening};
 ghost use Rattle.world_rules.specs.Served.{IsServedAs, IsValidServed};
 
 use crate::cuts::cuts_of;
-use crate::effects::{copy_effect, delete_effect, insert_effect, positions_of, rearrange_effect};
+use crate::effects::{
+    copy_effect, delete_effect, insert_effect, positions_of, publish_effect, rearrange_effect,
+};
 use crate::errors::WorldError;
 use crate::lookups::{Find, LookUp};
+use crate::readable::is_readable_by;
 use crate::refusals::{
-    has_bad_cut, has_bad_span, history_full, is_place, lacks_document, lacks_opening,
-    writing_refusal,
+    has_bad_cut, has_bad_span, hides_document, history_full, is_place, lacks_document,
+    lacks_opening, writing_refusal,
 };
 use crate::requests::Served;
 use febe_data::bounds::{MOST_ITEMS, MOST_POSITIONS};
@@ -118,6 +122,17 @@ fn lacks_document_or<W: LookUp>(world: &W, document: &Tumbler, specs: &[Spec]) -
     lacks_document(world, specs)
 }
 
+/// Whether the session may not read the document, or one that the specs name.
+fn hides_document_or<W: LookUp>(world: &W, session: u64, document: &Tumbler, specs: &[Spec]) -> bool
+    ensures { (view : FlatView) → W.stands world.now view → result ≡ (not (is_readable view.world session document.now) || hides_document view.world session (map plain_spec specs.now)) }
+{
+    let account = world.account_of_session(session);
+    if !is_readable_by(world, &account, document) {
+        return true;
+    }
+    hides_document(world, &account, specs)
+}
+
 /// Whether the session has the document, or one that the specs name, not open.
 fn lacks_opening_or<W: LookUp>(world: &W, session: u64, document: &Tumbler, specs: &[Spec]) -> bool
     ensures { (view : FlatView) → W.stands world.now view → result ≡ (is_none (mode_of view.world session document.now) || lacks_opening view.world session (map plain_spec specs.now)) }
@@ -139,6 +154,9 @@ fn writing_from_refusal<W: LookUp>(
 {
     if lacks_document_or(world, document, specs) {
         return Some(Refusal::NoSuchDocument);
+    }
+    if hides_document_or(world, session, document, specs) {
+        return Some(Refusal::Private);
     }
     if lacks_opening_or(world, session, document, specs) {
         return Some(Refusal::NotOpen);
@@ -250,4 +268,38 @@ pub(crate) fn serve_rearrange<W: LookUp>(
     }
     let made = rearrange_effect(alloc, document, cuts)?;
     Ok(Served::Changed(made))
+}
+
+/// What publishing is refused for.
+fn publish_refusal<W: LookUp>(
+    world: &W,
+    session: u64,
+    document: &Tumbler,
+    limits: &Limits,
+) -> Option<Refusal>
+    ensures { (view : FlatView) → W.stands world.now view → result ≡ wanted limits.now view.counted view.world session (publish document.now) }
+{
+    if let Some(refusal) = writing_refusal(world, session, document) {
+        return Some(refusal);
+    }
+    if history_full(limits, world.counted()) {
+        return Some(Refusal::Full);
+    }
+    None
+}
+
+/// Serves a publish.
+pub(crate) fn serve_publish<W: LookUp>(
+    world: &W,
+    session: u64,
+    document: &Tumbler,
+    limits: &Limits,
+) -> Served
+    ensures served { (view : FlatView) → W.stands world.now view → IsServedAs limits.now view session (publish document.now) result }
+    ensures valid { IsValidServed result }
+{
+    if let Some(refusal) = publish_refusal(world, session, document, limits) {
+        return Served::Refused(refusal);
+    }
+    Served::Changed(publish_effect(document))
 }

@@ -15,6 +15,7 @@ const REPLIES: &[(&str, &str)] = &[
     ("quit", "16~"),
     ("account set", "34~"),
     ("closed", "36~"),
+    ("published", "40~"),
     ("span set", "1~2~0.1.1~1.5~0.2.1~1.2~"),
     ("whole span", "14~0.1.1~1.9~"),
     ("retrieved", "5~0~"),
@@ -35,20 +36,25 @@ const REPLIES: &[(&str, &str)] = &[
     ("no account", "?1~"),
     ("no such end", "?10~"),
     ("memory", "?14~"),
+    ("private", "?15~"),
 ];
 
 /// Bytes in which no reply begins, and the first place that no reply has.
 const BAD: &[(&str, usize)] = &[
     ("~", 0),
-    ("4~", 0),
+    ("4~", 1),
+    ("6~", 0),
     ("00~", 1),
     ("15~", 1),
     ("37~", 1),
+    ("41~", 1),
     ("100~", 2),
+    ("400~", 2),
     ("?0~", 1),
-    ("?15~", 2),
+    ("?16~", 2),
     ("?20~", 2),
     ("?140~", 3),
+    ("?150~", 3),
     ("??", 1),
     ("5~65537~", 6),
     ("5~1~T", 4),
@@ -73,6 +79,7 @@ const MORE: &[&str] = &[
     "?",
     "?1",
     "1",
+    "4",
     "5~65536~",
     "5~1~t5:hel",
     "5~1~t16777216:",
@@ -85,6 +92,7 @@ fn name_of_refusal(refusal: &Refusal) -> &'static str {
         Refusal::NoAccount => "no account",
         Refusal::NoSuchEnd => "no such end",
         Refusal::Memory => "memory",
+        Refusal::Private => "private",
         _ => "another refusal",
     }
 }
@@ -113,6 +121,7 @@ fn name_of(reply: &Reply) -> &'static str {
         Reply::Links(_) => "links",
         Reply::NextLinks(_) => "next links",
         Reply::Refused(refusal) => name_of_refusal(refusal),
+        Reply::Published => "published",
     }
 }
 

@@ -11,7 +11,8 @@ pub(crate) const REQUESTS: &[(&str, &str, &[Change])] = &[
         "insert",
         "0~0.1.1.0.1.0.1~0.1.1~t5:he~lo",
         &[
-            (0, b'4', 0),
+            // a 4 begins the number 40 alone
+            (0, b'4', 1),
             (1, b'0', 1),
             (2, b't', 2),
             // no document, then the V-address 0.1.1.0.1.0.1, then no text
@@ -128,7 +129,7 @@ pub(crate) const REQUESTS: &[(&str, &str, &[Change])] = &[
         "version",
         "13~0.1.1.0.1.0.1.2~",
         &[
-            (0, b'4', 0),
+            (0, b'4', 1),
             (2, b':', 2),
             (3, b'~', 3),
             (5, b'0', 5),
@@ -299,6 +300,23 @@ pub(crate) const REQUESTS: &[(&str, &str, &[Change])] = &[
             (15, b'0', 16),
         ],
     ),
+    (
+        "publish",
+        "40~0.1.1.0.1.0.1~",
+        &[
+            // a search for links, whose count of homes goes on with a dot
+            (0, b'3', 4),
+            (0, b'5', 1),
+            (0, b'6', 0),
+            (1, b'~', 1),
+            (1, b'1', 1),
+            (1, b'4', 1),
+            (2, b'0', 2),
+            (2, b'.', 2),
+            (3, b'~', 3),
+            (15, b'0', 16),
+        ],
+    ),
 ];
 
 /// Further requests, most with the least or the greatest that their parts may be: the name and the bytes.
@@ -339,12 +357,16 @@ pub(crate) const FURTHER: &[(&str, &str)] = &[
     ("open", "35~0~2~2~"),
     ("open", "35~0~2~3~"),
     ("close", "36~0~"),
+    ("publish", "40~0~"),
+    ("publish", "40~23.4294967295~"),
 ];
 
 /// Bytes that begin no request and in which none begins, and the place of the first that can't stand.
 pub(crate) const BAD: &[(&str, usize)] = &[
     // numbers of requests
-    ("4~", 0),
+    ("4~", 1),
+    ("44~", 1),
+    ("6~", 0),
     ("007~", 1),
     ("15~", 1),
     ("17~", 1),
@@ -354,10 +376,12 @@ pub(crate) const BAD: &[(&str, usize)] = &[
     ("32~", 1),
     ("33~", 1),
     ("37~", 1),
-    ("40~", 0),
+    ("39~", 1),
+    ("41~", 1),
+    ("400~", 2),
     ("50~", 1),
     ("110~", 2),
-    ("4294967301~", 0),
+    ("4294967301~", 1),
     ("P0~", 0),
     (" 11~", 0),
     ("11 ~", 2),
@@ -434,6 +458,9 @@ pub(crate) const MORE: &[&str] = &[
     "1",
     "2",
     "3",
+    "4",
+    "40",
+    "40~",
     "34~2",
     "34~23",
     "34~0.4294967295",
@@ -506,6 +533,7 @@ pub(crate) const PARTS: &[(&str, &[usize])] = &[
     ("35~0.1~2~1~", &[1, 1, 2, 1]),
     ("35~0.1~1~2~", &[1, 1, 1, 2]),
     ("36~0.3~", &[1, 3]),
+    ("40~0.5~", &[1, 5]),
 ];
 
 /// Bytes that begin with a number, the most that it may be, the number, and how many bytes spell it.

@@ -3,7 +3,7 @@ use Rattle.std.specs.Prelude.{ℕ, List, [], ◌∷◌, Option, Some, None, ◌=
 use Rattle.febe_data.specs.declared.refusal.Refusal.{Refusal}
 use Rattle.febe_data.specs.declared.refusal.Refusal.TheVariants as refusals
 use Rattle.febe_data.specs.declared.run.Diagonal.{Diagonal}
-use Rattle.febe_data.specs.Plain.{PlainItem, bytes, link, PlainReply, inserted, copied, rearranged, deleted, has_quit, account_set, closed, gave_span_set, gave_whole_span, retrieved, related, created, versioned, linked, opened, followed, found_documents, gave_end_sets, counted_links, found_links, gave_next_links, refused}
+use Rattle.febe_data.specs.Plain.{PlainItem, bytes, link, PlainReply, inserted, copied, rearranged, deleted, has_quit, account_set, closed, gave_span_set, gave_whole_span, retrieved, related, created, versioned, linked, opened, followed, found_documents, gave_end_sets, counted_links, found_links, gave_next_links, refused, published}
 use Rattle.febe_fields.specs.Reading.{◌>>=◌, number_at, text_at, tumbler_at, tumblers_at, span_at, spans_at, specs_at, list_at}
 
 -- ---- refusals
@@ -25,7 +25,8 @@ refusal_of n =
     if n == 12 then Some refusals.Full else (
     if n == 13 then Some refusals.Disk else (
     if n == 14 then Some refusals.Memory else (
-    None))))))))))))))
+    if n == 15 then Some refusals.Private else (
+    None)))))))))))))))
 
 -- a refusal, from behind its question mark
 unfoldable pub refused_at : List ℕ → Option (PlainReply × List ℕ)
@@ -94,7 +95,8 @@ reply_with_nothing n =
     if n == 12 then Some deleted else (
     if n == 16 then Some has_quit else (
     if n == 34 then Some account_set else (
-    if n == 36 then Some closed else None))))))
+    if n == 36 then Some closed else (
+    if n == 40 then Some published else None)))))))
 
 unfoldable pub with_nothing_at : ℕ → List ℕ → Option (PlainReply × List ℕ)
 with_nothing_at n input = do

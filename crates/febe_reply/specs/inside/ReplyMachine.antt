@@ -55,13 +55,15 @@ payload_of n =
     else (if n == 34 then Some (these [])
     else (if n == 35 then Some (these (Tumbler ∷ []))
     else (if n == 36 then Some (these [])
-    else None))))))))))))))))))))
+    else (if n == 40 then Some (these [])
+    else None)))))))))))))))))))))
 
 -- what is waited for
 pub data ReplyState : Type 0 where
   at_start : ReplyState
-  -- a digit of the reply's number was read, or two of them
+  -- a digit of the reply's number was read, a 4, or two digits
   one_digit : (number : ℕ) (behind : Behind) → ReplyState
+  at_four : ReplyState
   two_digits : (behind : Behind) → ReplyState
   in_fields : State → ReplyState
   -- a number begins; a 0 was read; a number above 0 was read, and may go on
@@ -77,6 +79,7 @@ pub data ReplyState : Type 0 where
 abbrev pub state_of : ReplyScanner → ReplyState
 state_of scanners.Start = at_start
 state_of (scanners.OneDigit number payload) = one_digit number (behind_of payload)
+state_of scanners.Four = at_four
 state_of (scanners.TwoDigits payload) = two_digits (behind_of payload)
 state_of (scanners.Fields scanner) = in_fields (fields.state_of scanner)
 state_of (scanners.Number role) = at_number role
@@ -95,7 +98,7 @@ outcome_of progresses.Fails = fails
 
 -- the greatest number
 abbrev pub most_of : NumberRole → ℕ
-most_of Refusal = 14
+most_of Refusal = 15
 most_of Items = 65536
 most_of Diagonals = 65536
 most_of (Left more) = 4294967295
@@ -186,8 +189,11 @@ abbrev pub named : (Behind → ReplyState) → Option Behind → Outcome ReplySt
 named next (Some behind) = goes (next behind)
 named next None = fails
 
+-- a 4 begins the number of a reply, and is none
 abbrev pub first_digit : ℕ → Outcome ReplyState
-first_digit byte = if is_ascii_digit byte then named (λ behind. one_digit (byte - 48) behind) (payload_of (byte - 48)) else fails
+first_digit byte =
+    if byte == 52 then goes at_four
+    else (if is_ascii_digit byte then named (λ behind. one_digit (byte - 48) behind) (payload_of (byte - 48)) else fails)
 
 abbrev pub second_digit : ℕ → ℕ → Outcome ReplyState
 second_digit number byte =
@@ -198,6 +204,7 @@ second_digit number byte =
 abbrev pub reply_step : ReplyState → ℕ → Outcome ReplyState
 reply_step at_start byte = if byte == 63 then goes (at_number Refusal) else first_digit byte
 reply_step (one_digit number behind) byte = if byte == 126 then behind_next behind else second_digit number byte
+reply_step at_four byte = second_digit 4 byte
 reply_step (two_digits behind) byte = if byte == 126 then behind_next behind else fails
 reply_step (in_fields s) byte = begun (field_step s byte)
 reply_step (at_number role) byte = number_begins role byte

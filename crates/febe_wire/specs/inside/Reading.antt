@@ -1,6 +1,6 @@
 -- Reading a request from left to right: the request and the bytes after it, or nothing.
 use Rattle.std.specs.Prelude.{ℕ, List, Option, Some, None, ◌==◌, ◌||◌, if◌then◌else◌}
-use Rattle.febe_data.specs.Plain.{PlainSpec, PlainWant, PlainRequest, insert, span_set, copy, rearrange, retrieve, relate, create, delete, version, whole_span, quit, follow, find_documents, create_link, end_sets, count_links, find_links, next_links, set_account, opens, closes}
+use Rattle.febe_data.specs.Plain.{PlainSpec, PlainWant, PlainRequest, insert, span_set, copy, rearrange, retrieve, relate, create, delete, version, whole_span, quit, follow, find_documents, create_link, end_sets, count_links, find_links, next_links, set_account, opens, closes, publish}
 use Rattle.febe_fields.specs.Reading.{◌>>=◌, number_at, text_at, tumbler_at, tumblers_at, span_at, spans_at, spec_at, specs_at, mode_at, rule_at}
 
 -- ---- requests that edit a document
@@ -47,7 +47,8 @@ request_with_tumbler n places =
     if n == 13 then Some (version places) else (
     if n == 14 then Some (whole_span places) else (
     if n == 34 then Some (set_account places) else (
-    if n == 36 then Some (closes places) else None))))
+    if n == 36 then Some (closes places) else (
+    if n == 40 then Some (publish places) else None)))))
 
 unfoldable pub with_tumbler_at : ℕ → List ℕ → Option (PlainRequest × List ℕ)
 with_tumbler_at n bytes = do

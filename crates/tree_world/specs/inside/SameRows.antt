@@ -4,7 +4,7 @@ use Rattle.enfilade_core.specs.declared.tree.Node.{Node}
 use Rattle.granfilade.specs.Content.{tree_rows}
 use Rattle.poom.specs.Laid.{IsRoot}
 use Rattle.doc_table.specs.declared.rows.DocumentRow.{DocumentRow}
-use Rattle.doc_table.specs.DocumentRows.{documents_in, content_in}
+use Rattle.doc_table.specs.DocumentRows.{documents_in, content_in, published_in}
 use Rattle.spanfilade.specs.Index.{rows_in_index}
 use Rattle.tree_world.specs.Trees.{Trees, text_in, links_in}
 
@@ -15,6 +15,7 @@ pub record SameRows (before after : Trees) : Type 0 where
   pub content : after.content ≡ before.content
   pub documents : documents_in after.documents ≡ documents_in before.documents
   pub counts : (document : List ℕ) → content_in after.documents document ≡ content_in before.documents document
+  pub marks : (document : List ℕ) → published_in after.documents document ≡ published_in before.documents document
   pub texts : (document : List ℕ) → text_in after document ≡ text_in before document
   pub links : (document : List ℕ) → links_in after document ≡ links_in before document
   pub roots : All (λ (row : DocumentRow Node). IsRoot after.nodes row.root.0) after.documents

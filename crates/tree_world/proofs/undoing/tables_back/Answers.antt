@@ -1,6 +1,6 @@
 use Rattle.std.proofs.Common.{◌∙◌, ap}
 use Rattle.doc_table.specs.DocumentRows.{has_in, with_content}
-use Rattle.tree_world.proofs.Undone.{stays_there, as_row, row_back, as_home, home_back}
+use Rattle.tree_world.proofs.Undone.{stays_there, as_row, row_back, as_home, home_back, as_mark, mark_back}
 use Rattle.tree_world.proofs.undoing.tables_back.Goals as goal
 
 pub set_content-requires : goal.set_content-requires
@@ -15,3 +15,10 @@ returns-in-Row-clause-documents c = λ before were.
 pub returns-in-Link-clause-documents : goal.returns-in-Link-clause-documents
 returns-in-Link-clause-documents c = λ before were.
     c.set_root-in-Link.ensures ∙ home_back c.args.undo.now.session c.in-Link.home c.in-Link.root c.in-Link.id before _ were.once (as_home c.args.undo.now c.in-Link.home c.in-Link.root c.in-Link.id before _ c.in-Link.is were.back)
+
+pub set_published-requires : goal.set_published-requires
+set_published-requires c = (as_mark c.args.undo.now c.in-Mark.document c.in-Mark.mark _ _ c.in-Mark.is c.requires.were.back).1.there
+
+pub returns-in-Mark-clause-documents : goal.returns-in-Mark-clause-documents
+returns-in-Mark-clause-documents c = λ before were.
+    c.set_published.ensures ∙ mark_back c.args.undo.now.session c.in-Mark.document c.in-Mark.mark before _ were.once (as_mark c.args.undo.now c.in-Mark.document c.in-Mark.mark before _ c.in-Mark.is were.back)

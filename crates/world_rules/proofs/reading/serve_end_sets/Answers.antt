@@ -14,11 +14,11 @@ returns-clause-valid g c view stands =
     let from : is_too_long (spans_in_all (map plain_spec c.in_ok-from.from.items)) ≡ false = rw (← c.as_slice.ensures, ← c.has_too_many_spans.ensures) c.if-has_too_many_spans.false in
     let to : is_too_long (spans_in_all (map plain_spec c.in_ok-to.to.items)) ≡ false = rw (← c.as_slice-2.ensures, ← c.has_too_many_spans-2.ensures) c.if-has_too_many_spans-2.false in
     let three : is_too_long (spans_in_all (map plain_spec c.in_ok-three.three.items)) ≡ false = rw (← c.as_slice-3.ensures, ← c.has_too_many_spans-3.ensures) c.if-has_too_many_spans-3.false in (
-      end_set_valid world From specs c.in_ok-from.from.items (c.in_ok-from.ensures.value view stands) c.in_ok-from.ensures.valid few from,
+      end_set_valid world c.args.session From specs c.in_ok-from.from.items (c.in_ok-from.ensures.value view stands) c.in_ok-from.ensures.valid few from,
       (
-        end_set_valid world To specs c.in_ok-to.to.items (c.in_ok-to.ensures.value view stands) c.in_ok-to.ensures.valid few to,
+        end_set_valid world c.args.session To specs c.in_ok-to.to.items (c.in_ok-to.ensures.value view stands) c.in_ok-to.ensures.valid few to,
         (
-          end_set_valid world Three specs c.in_ok-three.three.items (c.in_ok-three.ensures.value view stands) c.in_ok-three.ensures.valid few three,
+          end_set_valid world c.args.session Three specs c.in_ok-three.three.items (c.in_ok-three.ensures.value view stands) c.in_ok-three.ensures.valid few three,
           tt,
         ),
       ),

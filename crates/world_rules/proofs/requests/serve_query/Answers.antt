@@ -14,7 +14,7 @@ pub returns-in-Relate-clause-served : goal.returns-in-Relate-clause-served
 returns-in-Relate-clause-served g c view limits stands = rw c.in-Relate.is (c.serve_relate.ensures.served view limits stands)
 
 pub returns-in-Follow-clause-served : goal.returns-in-Follow-clause-served
-returns-in-Follow-clause-served g c view limits stands = rw c.in-Follow.is (c.serve_follow.ensures.served view limits c.args.session stands)
+returns-in-Follow-clause-served g c view limits stands = rw c.in-Follow.is (c.serve_follow.ensures.served view limits stands)
 
 pub returns-in-FindDocuments-clause-served : goal.returns-in-FindDocuments-clause-served
 returns-in-FindDocuments-clause-served g c view limits stands = rw (c.in-FindDocuments.is, ← c.as_slice-in-FindDocuments.ensures) (c.serve_find_documents.ensures.served view limits stands)

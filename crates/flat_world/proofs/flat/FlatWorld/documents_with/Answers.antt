@@ -9,8 +9,9 @@ pub returns-clause-items : goal.returns-clause-items
 returns-clause-items c =
     let world = c.args.self.now.world in
     let specs = map plain_spec c.args.specs.now in
+    let session = c.args.session in
     let addresses = c.as_slice.result.now in
-    IfOk-weaker c.list_of.result (λ made. made.items ≡ c.in_ok-found.found.keys) (λ made. made.items ≡ documents_found world specs)
-    (λ made listed. found_are world specs addresses c.in_ok-addresses.addresses c.in_ok-shown.shown c.in_ok-found.found c.as_slice-2.result.now c.as_slice-3.result.now made.items
-    (search rules) (search rules) (search rules) c.in_ok-addresses.ensures c.in_ok-shown.ensures c.in_ok-found.ensures listed)
+    IfOk-weaker c.list_of.result (λ made. made.items ≡ c.in_ok-found.found.keys) (λ made. made.items ≡ documents_found world session specs)
+    (λ made listed. found_are world session specs addresses c.in_ok-addresses.addresses c.in_ok-shown.shown c.in_ok-found.found c.as_slice-2.result.now c.as_slice-documents.result.now c.as_slice-published.result.now made.items c.account_of-account.result
+    (search rules) (search rules) (search rules) (search rules) c.account_of-account.ensures c.in_ok-addresses.ensures c.in_ok-shown.ensures c.in_ok-found.ensures listed)
     c.list_of.ensures.items

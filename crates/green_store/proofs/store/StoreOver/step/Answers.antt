@@ -1,9 +1,11 @@
-use Rattle.std.proofs.Common.{true}
+use Rattle.std.proofs.Common.{true, sym, subst}
+use Rattle.green_store.specs.declared.step.Step.{Step}
 use Rattle.green_store.specs.declared.step.Step.TheVariants as steps
 use Rattle.green_store.specs.Durable.{has_risen, IsDurableEntryOf, IsRefusedForDisk}
 use Rattle.world_rules.specs.History.{durable_entries}
-use Rattle.green_store.specs.Paged.{HasPages, EachLoadsFor}
+use Rattle.green_store.specs.Isolated.{IsolatesStep}
 use Rattle.green_store.proofs.Edits.{stays_kept}
+use Rattle.green_store.proofs.Isolations.{steps_isolate}
 use Rattle.green_store.proofs.Paging.{not_tended, not_flushed, flushed_stays, stay_paged, kept_paged, log_leaves, background_base}
 use Rattle.green_store.proofs.Quiet.{begin_is_quiet, end_is_quiet}
 use Rattle.green_store.proofs.store.StoreOver.step.Goals as goal
@@ -27,6 +29,12 @@ pub returns-in-Begin-clause-flushed_stays : goal.returns-in-Begin-clause-flushed
 returns-in-Begin-clause-flushed_stays g c = flushed_stays c.args.self.now c.begin.new.self steps.Begin c.begin.result true (c.begin.ensures.step true)
 
 -- ---- a session asks
+
+pub returns-in-Ask-clause-isolated : goal.returns-in-Ask-clause-isolated
+returns-in-Ask-clause-isolated g c =
+    let rose = has_risen (g.D.Disk.fault_count c.args.disk.now) (g.D.Disk.fault_count c.ask.new.disk) in
+    subst (λ (step : Step). IsolatesStep c.args.self.now step c.ask.result) (sym c.in-Ask.is)
+    (steps_isolate c.args.self.now c.ask.new.self (steps.Ask c.in-Ask.session c.in-Ask.request) c.ask.result rose c.ask.ensures.step)
 
 pub returns-in-Ask-clause-pages : goal.returns-in-Ask-clause-pages
 returns-in-Ask-clause-pages g c has =

@@ -4,7 +4,7 @@ use Rattle.febe_data.specs.Plain.{plain_change, plain_specs, text_inserted, spec
 use Rattle.world_rules.specs.World.{link_address}
 use Rattle.tree_world.specs.Standing.{Stands}
 use Rattle.tree_world.specs.Changed.{after_change}
-use Rattle.tree_world.specs.Undone.{DocumentCame, DocumentEdited, LinkCame}
+use Rattle.tree_world.specs.Undone.{DocumentCame, DocumentEdited, LinkCame, DocumentMarked}
 use Rattle.tree_world.proofs.Grown.{entry_grown, still_grown}
 use Rattle.tree_world.proofs.world.TreeWorld.change.Goals as goal
 
@@ -26,6 +26,9 @@ returns-in-Copy-clause-ok c view stands =
 
 pub returns-in-Link-clause-ok : goal.returns-in-Link-clause-ok
 returns-in-Link-clause-ok c view stands = subst (λ x. OnOk c.make_link.result (Stands c.make_link.new.self (after_change view c.args.session (plain_change x)))) (sym c.in-Link.is) (c.make_link.ensures.ok view c.args.session stands)
+
+pub returns-in-Publish-clause-ok : goal.returns-in-Publish-clause-ok
+returns-in-Publish-clause-ok c view stands = subst (λ x. OnOk c.publish.result (Stands c.publish.new.self (after_change view c.args.session (plain_change x)))) (sym c.in-Publish.is) (c.publish.ensures.ok view c.args.session stands)
 
 pub returns-in-Create-clause-grown : goal.returns-in-Create-clause-grown
 returns-in-Create-clause-grown c = entry_grown c.create.result (DocumentCame c.args.session c.in-Create.document) _ _ c.create.ensures.came
@@ -50,6 +53,9 @@ returns-in-Copy-clause-grown c = entry_grown c.copy.result (DocumentEdited c.in-
 
 pub returns-in-Link-clause-grown : goal.returns-in-Link-clause-grown
 returns-in-Link-clause-grown c = entry_grown c.make_link.result (LinkCame c.in-Link.home (link_address c.in-Link.home c.in-Link.number)) _ _ c.make_link.ensures.came
+
+pub returns-in-Publish-clause-grown : goal.returns-in-Publish-clause-grown
+returns-in-Publish-clause-grown c = entry_grown c.publish.result (DocumentMarked c.in-Publish.document) _ _ c.publish.ensures.came
 
 pub returns-in_default-clause-grown : goal.returns-in_default-clause-grown
 returns-in_default-clause-grown c = still_grown c.change_beside.result _ _ c.change_beside.ensures.nodes

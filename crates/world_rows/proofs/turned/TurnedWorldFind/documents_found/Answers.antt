@@ -7,5 +7,5 @@ use Rattle.world_rows.proofs.turned.TurnedWorldFind.documents_found.Goals as goa
 
 pub returns-clause-items : goal.returns-clause-items
 returns-clause-items g c view of =
-    subst (λ (found : List (List ℕ)). IfOk c.documents_found.result (λ made. made.items ≡ found)) (found_moved of.base view (map plain_spec c.args.specs.now) of.turned)
+    subst (λ (found : List (List ℕ)). IfOk c.documents_found.result (λ made. made.items ≡ found)) (found_moved of.base view c.args.session (map plain_spec c.args.specs.now) of.turned)
     (c.documents_found.ensures.items of.base of.stood)

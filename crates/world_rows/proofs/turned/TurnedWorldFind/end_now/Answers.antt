@@ -7,5 +7,5 @@ use Rattle.world_rows.proofs.turned.TurnedWorldFind.end_now.Goals as goal
 
 pub returns-clause-value : goal.returns-clause-value
 returns-clause-value g c view of =
-    subst (λ (now : List PlainSpec). IfOk c.end_now.result (λ made. map plain_spec made.items ≡ now)) (follow_moved of.base view c.args.id.now (Some c.args.end) of.turned)
+    subst (λ (now : List PlainSpec). IfOk c.end_now.result (λ made. map plain_spec made.items ≡ now)) (follow_moved of.base view c.args.session c.args.id.now (Some c.args.end) of.turned)
     (c.end_now.ensures.value of.base of.stood)

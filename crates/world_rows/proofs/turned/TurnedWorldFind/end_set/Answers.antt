@@ -7,5 +7,5 @@ use Rattle.world_rows.proofs.turned.TurnedWorldFind.end_set.Goals as goal
 
 pub returns-clause-value : goal.returns-clause-value
 returns-clause-value g c view of =
-    subst (λ (now : List PlainSpec). IfOk c.end_set.result (λ made. map plain_spec made.items ≡ now)) (set_moved of.base view c.args.end (map plain_spec c.args.specs.now) of.turned)
+    subst (λ (now : List PlainSpec). IfOk c.end_set.result (λ made. map plain_spec made.items ≡ now)) (set_moved of.base view c.args.session c.args.end (map plain_spec c.args.specs.now) of.turned)
     (c.end_set.ensures.value of.base of.stood)

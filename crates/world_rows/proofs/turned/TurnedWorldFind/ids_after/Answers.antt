@@ -13,5 +13,5 @@ ids_after-requires g c view stood = c.requires view (of_itself _ view stood)
 
 pub returns-clause-items : goal.returns-clause-items
 returns-clause-items g c view of =
-    subst (λ (found : List (List ℕ)). IfOk c.ids_after.result (λ made. made.items ≡ take c.args.limit (filter (λ id. is_lt (slice_cmp nat_cmp c.args.after.now id)) found))) (ids_moved of.base view (plain_want c.args.want.now) of.turned)
+    subst (λ (found : List (List ℕ)). IfOk c.ids_after.result (λ made. made.items ≡ take c.args.limit (filter (λ id. is_lt (slice_cmp nat_cmp c.args.after.now id)) found))) (ids_moved of.base view c.args.session (plain_want c.args.want.now) of.turned)
     (c.ids_after.ensures.items of.base of.stood)

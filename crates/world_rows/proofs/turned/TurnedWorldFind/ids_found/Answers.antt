@@ -10,5 +10,5 @@ ids_found-requires g c view stood = c.requires view (of_itself _ view stood)
 
 pub returns-clause-items : goal.returns-clause-items
 returns-clause-items g c view of =
-    subst (λ (found : List (List ℕ)). IfOk c.ids_found.result (λ made. made.items ≡ found)) (ids_moved of.base view (plain_want c.args.want.now) of.turned)
+    subst (λ (found : List (List ℕ)). IfOk c.ids_found.result (λ made. made.items ≡ found)) (ids_moved of.base view c.args.session (plain_want c.args.want.now) of.turned)
     (c.ids_found.ensures.items of.base of.stood)

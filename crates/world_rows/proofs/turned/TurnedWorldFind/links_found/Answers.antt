@@ -10,5 +10,5 @@ links_found-requires g c view stood = c.requires view (of_itself _ view stood)
 
 pub returns : goal.returns
 returns g c view of =
-    subst (λ (found : ℕ). IfOk c.links_found.result (λ count. count ≡ found)) (count_moved of.base view (plain_want c.args.want.now) of.turned)
+    subst (λ (found : ℕ). IfOk c.links_found.result (λ count. count ≡ found)) (count_moved of.base view c.args.session (plain_want c.args.want.now) of.turned)
     (c.links_found.ensures of.base of.stood)

@@ -1,0 +1,4 @@
+pub mod Seen
+pub mod Isolation
+pub mod Isolated
+pub mod AskedInOrder
