@@ -36,6 +36,13 @@ _ACCOUNT = Tumbler.parse("1.1.0.1")
 _OTHER = Tumbler.parse("1.1.0.2")
 _FIRST = Tumbler.parse("1.1.0.1.0.1")
 
+# The first document with the text "hello", as a log had it before changes had moments.
+_BEFORE = bytes.fromhex(
+    "01 0000002b 01 0000000000000001 0000000000000003 01 06 00000001 00000001 00000000 00000001 00000000 00000001"
+    "01 0000003c 01 0000000000000001 0000000000000004 04 06 00000001 00000001 00000000 00000001 00000000 00000001"
+    "00000001 00000001 00000005 68656c6c6f 00"
+)
+
 
 class _Sessions(unittest.TestCase):
     """A new, empty store for each test."""
@@ -239,6 +246,17 @@ class OverAPipe(_Sessions):
             Session(PipeTransport(program(), self.folder, ["--limits"]))
         self.assertEqual(caught.exception.status, 2)
         self.assertTrue(str(caught.exception).startswith("green_batch: usage:"))
+
+    def test_a_folder_of_before(self) -> None:
+        with open(f"{self.folder}/log", "wb") as log:
+            log.write(_BEFORE)
+        for _ in range(2):
+            with self.session() as session:
+                session.account(_ACCOUNT)
+                session.open(_FIRST)
+                self.assertEqual(session.retrieve((Spec.of(_FIRST, ALL_TEXT),)).text, b"hello")
+        with open(f"{self.folder}/log", "rb") as log, open(f"{self.folder}/log2", "rb") as log2:
+            self.assertEqual((len(log.read()), len(log2.read())), (0, 143))
 
     def test_a_damaged_log(self) -> None:
         with open(f"{self.folder}/log", "wb") as log:

@@ -10,7 +10,7 @@ use std::test::Fail;
 
 const FOLDER: &str = "edit_log_test";
 
-const LOG: &str = "edit_log_test/log";
+const LOG: &str = "edit_log_test/log2";
 
 // Opens a log, and appends that entry.
 fn append_entry<D: Disk>(alloc: Global, disk: &mut D) -> Result<Appended, LogFault> {
@@ -32,15 +32,18 @@ fn an_entry_is_appended_and_read_again(rt: HostRuntime) -> Result<(), Fail> {
     drop(disk);
     // What stands behind a gate 1 that is no body is damage, and one gate at the end is none.
     for (log, wanted) in [
-        (b"\x01\x00".as_slice(), Err(LogFault::Damaged { at: 0 })),
-        (b"\x01".as_slice(), Ok(0)),
-        (b"\x07\x00\x00".as_slice(), Ok(0)),
+        (b"\x01\x01\x00".as_slice(), Err(LogFault::Damaged { at: 1 })),
+        (b"\x01\x01".as_slice(), Ok(0)),
+        (b"\x01\x07\x00\x00".as_slice(), Ok(0)),
     ] {
         fs::write(&rt, LOG, log)?;
         let mut disk = FolderDisk::new(rt, FOLDER)?;
         assert_eq!(rt; count_entries(rt.alloc(), &mut disk), wanted);
     }
-    assert_eq!(rt; fs::read(&rt, LOG)?.as_slice(), b"\x00\x00\x00".as_slice());
+    assert_eq!(rt;
+        fs::read(&rt, LOG)?.as_slice(),
+        b"\x01\x00\x00\x00".as_slice()
+    );
     fs::remove_dir_all(&rt, FOLDER)?;
     Ok(())
 }

@@ -1,9 +1,11 @@
-//! Sources, sinks and disks, in memory and in a folder, and logs on these disks, with what a crash leaves of them at each
-//! moment.
+//! Sources, sinks, clocks and disks, in memory and in a folder, and logs on these disks, with what a crash leaves of them
+//! at each moment.
 #![tactic(auto)]
 
 #[cfg(test)]
 mod adapters;
+#[cfg(test)]
+mod clocks;
 #[cfg(test)]
 mod crashes;
 #[cfg(test)]
@@ -13,4 +15,8 @@ mod folder_logs;
 #[cfg(test)]
 mod logs;
 #[cfg(test)]
+mod moves;
+#[cfg(test)]
 mod rows;
+#[cfg(test)]
+mod second_area;

@@ -6,7 +6,7 @@ use Rattle.green_io.specs.declared.disk.Area.TheVariants as area
 use Rattle.green_io.specs.Areas.{Areas}
 use Rattle.green_io.specs.Disk.{Written, Torn, Changes}
 use Rattle.edit_log.specs.Images.{IsShut}
-use Rattle.edit_log.specs.inside.Ends.{IsLog, HasTornGate, ClosesEnd, begins_shut}
+use Rattle.edit_log.specs.inside.Ends.{IsThat, HasTornGate, ClosesEnd, begins_shut}
 use Rattle.edit_log.proofs.Parts.{torn_behind, written_behind, written_last, torn_gate, written_at}
 
 short : (bytes : List ℕ) → length bytes ≤ 1 → (bytes ≡ []) ⊎ ((byte : ℕ) × (bytes ≡ byte ∷ []))
@@ -28,13 +28,13 @@ not_zero : (gate : ℕ) (rest : List ℕ) → begins_shut (gate ∷ rest) ≡ fa
 not_zero gate rest other = grind (arith, nat_tests)
 
 -- the gate is torn, where it was not 0
-pub torn_at_end : (front end old new : List ℕ) → begins_shut end ≡ false → IsLog (front ++ end) old → Torn (length front) 1 old new → HasTornGate front end new
+pub torn_at_end : (front end old new : List ℕ) → begins_shut end ≡ false → IsThat (front ++ end) old → Torn (length front) 1 old new → HasTornGate front end new
 torn_at_end front [] old new open_gate is torn = torn_end front old new (is ∙ append-nil front) torn
 torn_at_end front (gate ∷ rest) old new open_gate is torn =
     (not_zero gate rest open_gate, torn_gate front gate rest old new is torn)
 
 -- the gate is 0 afterwards
-pub written_at_end : (front end old new : List ℕ) → IsLog (front ++ end) old → Written (length front) (0 ∷ []) old new → IsShut front new
+pub written_at_end : (front end old new : List ℕ) → IsThat (front ++ end) old → Written (length front) (0 ∷ []) old new → IsShut front new
 written_at_end front [] old new is written =
     written_behind front [] old new (0 ∷ []) (length front) is refl written
 written_at_end front (gate ∷ rest) old new is written =
@@ -44,7 +44,7 @@ gate_zero : (gate : ℕ) (rest : List ℕ) → begins_shut (gate ∷ rest) ≡ t
 gate_zero gate rest closed = grind (arith, nat_tests)
 
 -- a gate that is 0 was 0
-pub shut_at_end : (front end log : List ℕ) → begins_shut end ≡ true → IsLog (front ++ end) log → IsShut front log
+pub shut_at_end : (front end log : List ℕ) → begins_shut end ≡ true → IsThat (front ++ end) log → IsShut front log
 shut_at_end front [] log closed is = absurd (cc closed)
 shut_at_end front (gate ∷ rest) log closed is = (rest, is ∙ ap (λ (k : ℕ). front ++ (k ∷ rest)) (gate_zero gate rest closed))
 
@@ -54,14 +54,14 @@ written_end front [] old new written is = written_last front old new (0 ∷ []) 
 written_end front (gate ∷ rest) old new written is =
     written_at front (gate ∷ []) rest old new (0 ∷ []) (length front) is refl refl written
 
-written_to : (front end : List ℕ) (at : ℕ) (old new : Option Areas) → at ≡ length front → Changes area.Log (Written at (0 ∷ [])) old new → Changes area.Log (ClosesEnd front end) old new
+written_to : (front end : List ℕ) (at : ℕ) (old new : Option Areas) → at ≡ length front → Changes area.Second (Written at (0 ∷ [])) old new → Changes area.Second (ClosesEnd front end) old new
 written_to front end at None None is changes = tt
 written_to front end at None (Some y) is changes = absurd changes
 written_to front end at (Some x) None is changes = absurd changes
 written_to front end at (Some x) (Some y) is changes =
-    (written_end front end x.log y.log (subst (λ (k : ℕ). Written k (0 ∷ []) x.log y.log) is changes.0), changes.1)
+    (written_end front end x.second y.second (subst (λ (k : ℕ). Written k (0 ∷ []) x.second y.second) is changes.0), changes.1)
 
-pub written_reads : {T E : Type 0} (r : Result T E) (front end : List ℕ) (at : ℕ) (old new : Option Areas) → at ≡ length front → OnOk r (Changes area.Log (Written at (0 ∷ [])) old new) → OnOk r (Changes area.Log (ClosesEnd front end) old new)
+pub written_reads : {T E : Type 0} (r : Result T E) (front end : List ℕ) (at : ℕ) (old new : Option Areas) → at ≡ length front → OnOk r (Changes area.Second (Written at (0 ∷ [])) old new) → OnOk r (Changes area.Second (ClosesEnd front end) old new)
 written_reads (Ok x) front end at old new is changes = written_to front end at old new is changes
 written_reads (Err e) front end at old new is changes = tt
 
@@ -70,6 +70,6 @@ shut_stays : (front end log : List ℕ) → begins_shut end ≡ true → ClosesE
 shut_stays front [] log closed is = absurd (cc closed)
 shut_stays front (gate ∷ rest) log closed is = is ∙ ap (λ (k : ℕ). front ++ (k ∷ rest)) (gate_zero gate rest closed)
 
-pub shut_reads : (front end : List ℕ) (reads : Option Areas) → begins_shut end ≡ true → Changes area.Log (ClosesEnd front end) reads reads
+pub shut_reads : (front end : List ℕ) (reads : Option Areas) → begins_shut end ≡ true → Changes area.Second (ClosesEnd front end) reads reads
 shut_reads front end None closed = tt
-shut_reads front end (Some areas) closed = (shut_stays front end areas.log closed, λ other apart. refl)
+shut_reads front end (Some areas) closed = (shut_stays front end areas.second closed, λ other apart. refl)

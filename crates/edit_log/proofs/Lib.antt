@@ -2,10 +2,14 @@ pub mod Answering
 pub mod Appending
 pub mod Durable
 pub mod Ends
+pub mod Formats
+pub mod Fronts
 pub mod Opens
 pub mod Parts
 pub mod Readings
+pub mod Rows
 pub mod Scans
+pub mod SecondSteps
 pub mod Steps
 pub mod Unique
 pub mod Wholes

@@ -29,9 +29,9 @@ OnDiskFault (Err (Damaged at)) fact = Unit {0}
 OnDiskFault (Err Disk) fact = fact
 OnDiskFault (Err Memory) fact = Unit {0}
 
--- this holds if the log is damaged, or there was no memory
-abbrev pub OnOtherFault : {T : Type 0} → Result T LogFault → Type 0 → Type 0
-OnOtherFault (Ok opened) fact = Unit {0}
-OnOtherFault (Err (Damaged at)) fact = fact
-OnOtherFault (Err Disk) fact = Unit {0}
-OnOtherFault (Err Memory) fact = fact
+-- this holds if there was no memory while opening
+abbrev pub OnNoMemory : {T : Type 0} → Result T LogFault → Type 0 → Type 0
+OnNoMemory (Ok opened) fact = Unit {0}
+OnNoMemory (Err (Damaged at)) fact = Unit {0}
+OnNoMemory (Err Disk) fact = Unit {0}
+OnNoMemory (Err Memory) fact = fact

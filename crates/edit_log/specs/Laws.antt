@@ -1,13 +1,15 @@
 -- A log is read in one way.
 use Rattle.std.specs.Prelude.{◌≡◌, ℕ, List}
-use Rattle.febe_data.specs.Plain.{PlainEntry}
-use Rattle.edit_log.specs.Log.{ReadsAs, IsDamagedAt}
+use Rattle.entry_codec.specs.Logged.{PlainLogged}
+use Rattle.entry_codec.specs.declared.format.LogFormat.{LogFormat}
+use Rattle.green_io.specs.Areas.{Areas}
+use Rattle.edit_log.specs.Second.{ReadsIn, IsDamagedIn}
 
--- one list of entries is read, or there is one place where the log is damaged, and never both
-pub record OneReading (log : List ℕ) : Type 0 where
-  pub entries : (a b : List PlainEntry) → ReadsAs a log → ReadsAs b log → a ≡ b
-  pub offset : (a b : ℕ) → IsDamagedAt a log → IsDamagedAt b log → a ≡ b
-  pub apart : (entries : List PlainEntry) (offset : ℕ) → ReadsAs entries log → ¬ IsDamagedAt offset log
+-- one list of entries is read, in one format, or there is one place where the logged area is damaged, and never both
+pub record OneReading (areas : Areas) : Type 0 where
+  pub rows : (f g : LogFormat) (a b : List PlainLogged) → ReadsIn f a areas → ReadsIn g b areas → (f ≡ g) × (a ≡ b)
+  pub place : (f g : LogFormat) (a b : ℕ) → IsDamagedIn f a areas → IsDamagedIn g b areas → (f ≡ g) × (a ≡ b)
+  pub apart : (f g : LogFormat) (rows : List PlainLogged) (place : ℕ) → ReadsIn f rows areas → ¬ IsDamagedIn g place areas
 
 abbrev pub EachHasOneReading : Type 0
-EachHasOneReading = (log : List ℕ) → OneReading log
+EachHasOneReading = (areas : Areas) → OneReading areas

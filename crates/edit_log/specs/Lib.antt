@@ -10,4 +10,5 @@ pub mod Images
 pub mod inside
 pub mod Laws
 pub mod Log
+pub mod Second
 pub mod LogView

@@ -1,9 +1,10 @@
--- The bytes of a log: gates and bodies.
+-- The bytes of a log: gates and bodies, of either format.
 use Rattle.std.specs.Prelude.{◌≡◌, ◌≢◌, ◌⊎◌, ℕ, ◌<◌, ◌≤◌, List, [], ◌∷◌, ◌++◌, length, drop}
 use Rattle.std.specs.List.{AllByRecursion}
-use Rattle.febe_data.specs.Plain.{PlainEntry}
 use Rattle.entry_codec.specs.Bodies.{HasBody, BeginsWithBody}
 use Rattle.entry_codec.specs.Format.{body_of}
+use Rattle.entry_codec.specs.Logged.{PlainLogged, entries_of}
+use Rattle.entry_codec.specs.declared.format.LogFormat.{LogFormat}
 use Rattle.entry_fits.specs.Fits.{Fits, AllFit}
 
 -- how many entries a log has at most
@@ -11,9 +12,9 @@ abbrev pub most_entries : ℕ
 most_entries = 4194304
 
 -- the body of each entry behind an open gate, a byte 1
-abbrev pub gated : List PlainEntry → List ℕ
-gated [] = []
-gated (entry ∷ entries) = 1 ∷ body_of entry ++ gated entries
+abbrev pub gated : LogFormat → List PlainLogged → List ℕ
+gated format [] = []
+gated format (row ∷ rows) = 1 ∷ body_of format row ++ gated format rows
 
 -- Behind its entries a log ends where nothing is, at a gate that is not 1, and at a last byte.
 abbrev pub IsEnd : List ℕ → Type 0
@@ -21,57 +22,57 @@ IsEnd [] = Unit {0}
 IsEnd (gate ∷ rest) = (gate ≢ 1) ⊎ (rest ≡ [])
 
 -- the log has these entries, each with a body, and no more of them than a log may have; this is behind them
-pub record HasEntries (entries : List PlainEntry) (end log : List ℕ) : Type 0 where
-  pub parts : log ≡ gated entries ++ end
-  pub spelled : AllByRecursion HasBody entries
-  pub few : length entries ≤ most_entries
+pub record HasEntries (format : LogFormat) (rows : List PlainLogged) (end log : List ℕ) : Type 0 where
+  pub parts : log ≡ gated format rows ++ end
+  pub spelled : AllByRecursion (HasBody format) rows
+  pub few : length rows ≤ most_entries
 
 -- these are the entries of the log as it is read: it ends behind them
-pub record ReadsAs (entries : List PlainEntry) (log : List ℕ) : Type 0 where
+pub record ReadsAs (format : LogFormat) (rows : List PlainLogged) (log : List ℕ) : Type 0 where
   pub end : List ℕ
-  pub has : HasEntries entries end log
+  pub has : HasEntries format rows end log
   pub ends : IsEnd end
 
 -- These are the entries of the old log as it is read. The new log has the same bytes but for a gate 0 at its end, in place
 -- of the gate that stood there, or behind them where none did.
-pub record HasEndClosed (entries : List PlainEntry) (old new : List ℕ) : Type 0 where
+pub record HasEndClosed (format : LogFormat) (rows : List PlainLogged) (old new : List ℕ) : Type 0 where
   pub end : List ℕ
-  pub has : HasEntries entries end old
+  pub has : HasEntries format rows end old
   pub ends : IsEnd end
-  pub closed : new ≡ gated entries ++ (0 ∷ drop 1 end)
+  pub closed : new ≡ gated format rows ++ (0 ∷ drop 1 end)
 
 -- The log cannot be read past the gate at this place, behind its first entries: the gate is 1, more bytes come
 -- behind it, and they begin with no body, or the log has as many entries as it may have.
-pub record IsDamagedAt (offset : ℕ) (log : List ℕ) : Type 0 where
-  pub entries : List PlainEntry
+pub record IsDamagedAt (format : LogFormat) (offset : ℕ) (log : List ℕ) : Type 0 where
+  pub rows : List PlainLogged
   pub rest : List ℕ
-  pub has : HasEntries entries (1 ∷ rest) log
-  pub at : offset ≡ length (gated entries)
+  pub has : HasEntries format rows (1 ∷ rest) log
+  pub at : offset ≡ length (gated format rows)
   pub more : rest ≢ []
-  pub wrong : (¬ BeginsWithBody rest) ⊎ (length entries ≡ most_entries)
+  pub wrong : (¬ BeginsWithBody format rest) ⊎ (length rows ≡ most_entries)
 
 -- one more entry may come behind these
-pub record IsNext (entries : List PlainEntry) (entry : PlainEntry) : Type 0 where
-  pub spelled : HasBody entry
-  pub fits : Fits entries entry
-  pub room : length entries < most_entries
+pub record IsNext (format : LogFormat) (rows : List PlainLogged) (row : PlainLogged) : Type 0 where
+  pub spelled : HasBody format row
+  pub fits : Fits (entries_of rows) row.entry
+  pub room : length rows < most_entries
 
 -- the body of an entry that may come next, and then a byte 0
-pub record HasNext (entries : List PlainEntry) (rest : List ℕ) : Type 0 where
-  pub entry : PlainEntry
+pub record HasNext (format : LogFormat) (rows : List PlainLogged) (rest : List ℕ) : Type 0 where
+  pub row : PlainLogged
   pub behind : List ℕ
-  pub next : IsNext entries entry
-  pub parts : rest ≡ body_of entry ++ (0 ∷ behind)
+  pub next : IsNext format rows row
+  pub parts : rest ≡ body_of format row ++ (0 ∷ behind)
 
 -- The end of a whole log: no gate, a gate 0, a last byte, or a gate that hides the body of one more entry.
-abbrev pub IsWholeEnd : List PlainEntry → List ℕ → Type 0
-IsWholeEnd entries [] = Unit {0}
-IsWholeEnd entries (gate ∷ rest) = (gate ≡ 0) ⊎ (rest ≡ []) ⊎ HasNext entries rest
+abbrev pub IsWholeEnd : LogFormat → List PlainLogged → List ℕ → Type 0
+IsWholeEnd format rows [] = Unit {0}
+IsWholeEnd format rows (gate ∷ rest) = (gate ≡ 0) ⊎ (rest ≡ []) ⊎ HasNext format rows rest
 
 -- a whole log with these entries: they fit one after another, and it ends behind them as a whole log does
-pub record IsWhole (entries : List PlainEntry) (log : List ℕ) : Type 0 where
+pub record IsWhole (format : LogFormat) (rows : List PlainLogged) (log : List ℕ) : Type 0 where
   pub end : List ℕ
-  pub has : HasEntries entries end log
-  pub fit : AllFit [] entries
+  pub has : HasEntries format rows end log
+  pub fit : AllFit [] (entries_of rows)
   pub ends : IsEnd end
-  pub whole : IsWholeEnd entries end
+  pub whole : IsWholeEnd format rows end

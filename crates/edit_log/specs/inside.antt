@@ -1,3 +1,4 @@
 pub mod Ends
+pub mod Migration
 pub mod Pieces
 pub mod Scan

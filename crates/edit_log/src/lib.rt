@@ -3,6 +3,7 @@
 
 pub mod laws;
 mod log;
+mod migrating;
 mod opening;
 mod pending;
 mod phases;

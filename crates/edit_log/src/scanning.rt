@@ -1,9 +1,9 @@
-//! Reading the entries in a log's bytes.
-ghost use Rattle.std.specs.Prelude.{◌≡◌, ◌≤◌, length, IfOk};
-ghost use Rattle.edit_log.specs.inside.Scan.{StepsOver, HasScanned};
+//! Reading the entries in a log's bytes, of either format.
+ghost use Rattle.std.specs.Prelude.{IfOk};
+ghost use Rattle.edit_log.specs.inside.Scan.{IsDecodedAs, StepsOver, HasScanned};
 
-use entry_codec::{decode, split_body};
-use febe_data::{Entry, List, Memory};
+use entry_codec::{LogFormat, Logged, decode, decode_old, split_body};
+use febe_data::{List, Memory};
 use std::alloc::Global;
 
 /// How many entries a log has at most.
@@ -16,13 +16,29 @@ pub(crate) enum AtGate {
     End,
     /// The gate is open, and what stands behind it is no entry.
     Damaged,
-    /// An entry, and how many bytes its gate and its body have.
-    Entry { entry: Entry, length: usize },
+    /// An entry and its moment, and how many bytes its gate and its body have.
+    Row { row: Logged, length: usize },
+}
+
+/// The entry and the moment whose body of this format the bytes are, if they are one. The old format has no moments: 0
+/// stands for them.
+fn decode_as(alloc: Global, format: LogFormat, bytes: &[u8]) -> Result<Option<Logged>, Memory>
+    ensures { IfOk result (λ row. IsDecodedAs format bytes.now row) }
+{
+    match format {
+        LogFormat::Old => {
+            let Some(entry) = decode_old(alloc, bytes)? else {
+                return Ok(None);
+            };
+            Ok(Some(Logged { entry, moment: 0 }))
+        }
+        LogFormat::New => decode(alloc, bytes),
+    }
 }
 
 /// Reads the gate in front of these bytes and the body behind it, where there are so many entries before it.
-fn read_gate(alloc: Global, rest: &[u8], count: usize) -> Result<AtGate, Memory>
-    ensures { IfOk result (λ found. StepsOver count rest.now found) }
+fn read_gate(alloc: Global, format: LogFormat, rest: &[u8], count: usize) -> Result<AtGate, Memory>
+    ensures { IfOk result (λ found. StepsOver format count rest.now found) }
 {
     let Some((gate, behind)) = rest.split_first() else {
         return Ok(AtGate::End);
@@ -33,14 +49,14 @@ fn read_gate(alloc: Global, rest: &[u8], count: usize) -> Result<AtGate, Memory>
     if count >= MOST_ENTRIES {
         return Ok(AtGate::Damaged);
     }
-    let Some((body, _)) = split_body(behind) else {
+    let Some((body, _)) = split_body(format, behind) else {
         return Ok(AtGate::Damaged);
     };
-    let Some(entry) = decode(alloc, body)? else {
+    let Some(row) = decode_as(alloc, format, body)? else {
         return Ok(AtGate::Damaged);
     };
-    Ok(AtGate::Entry {
-        entry,
+    Ok(AtGate::Row {
+        row,
         length: 1 + body.len(),
     })
 }
@@ -48,25 +64,25 @@ fn read_gate(alloc: Global, rest: &[u8], count: usize) -> Result<AtGate, Memory>
 /// What a log's bytes have.
 #[derive(Debug, Drop)]
 pub(crate) enum Scanned {
-    /// These entries, and behind them the end, at this place.
-    Ends { at: usize, entries: List<Entry> },
+    /// These entries with their moments, and behind them the end, at this place.
+    Ends { at: usize, rows: List<Logged> },
     /// What stands behind the gate at this place is no entry.
     Damaged { at: usize },
 }
 
-/// Reads the entries in a log's bytes.
-pub(crate) fn scan(alloc: Global, bytes: &[u8]) -> Result<Scanned, Memory>
-    ensures { IfOk result (λ scanned. HasScanned bytes.now scanned) }
+/// Reads the entries in the bytes of a log of this format.
+pub(crate) fn scan(alloc: Global, format: LogFormat, bytes: &[u8]) -> Result<Scanned, Memory>
+    ensures { IfOk result (λ scanned. HasScanned format bytes.now scanned) }
 {
-    let mut entries = List::new(alloc);
+    let mut rows = List::new(alloc);
     let mut at = 0;
     loop {
         let (_, rest) = bytes.split_at(at);
-        match read_gate(alloc, rest, entries.len())? {
-            AtGate::End => return Ok(Scanned::Ends { at, entries }),
+        match read_gate(alloc, format, rest, rows.len())? {
+            AtGate::End => return Ok(Scanned::Ends { at, rows }),
             AtGate::Damaged => return Ok(Scanned::Damaged { at }),
-            AtGate::Entry { entry, length } => {
-                entries.push(entry)?;
+            AtGate::Row { row, length } => {
+                rows.push(row)?;
                 at += length;
             }
         }

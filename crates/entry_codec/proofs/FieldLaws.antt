@@ -15,9 +15,11 @@ use Rattle.febe_data.specs.Validity.{IsText, IsList}
 use Rattle.febe_fields.specs.Reading.{◌>>=◌, ends_well, many_at}
 use Rattle.febe_fields.proofs.FieldLaws.{bind_some, cond_none, ends_well_from}
 use Rattle.febe_fields.proofs.ListLaws.{ReadsAgain, many_again}
-use Rattle.entry_codec.specs.Format.{u32_bytes, u64_bytes, tumbler_bytes, list_bytes, text_bytes}
+use Rattle.entry_codec.specs.Format.{u32_bytes, u64_bytes, tumbler_bytes, list_bytes, length_bytes, text_bytes}
 use Rattle.entry_codec.specs.Bodies.{IsU32, IsU64}
-use Rattle.entry_codec.specs.Reading.{u8_at, u32_at, u64_at, places_at, tumbler_at, text_at, list_at}
+use Rattle.entry_codec.specs.Reading.{u8_at, u32_at, u64_at, places_at, tumbler_at, length_at, text_at, list_at}
+use Rattle.entry_codec.specs.declared.format.LogFormat.{LogFormat}
+use Rattle.entry_codec.specs.declared.format.LogFormat.TheVariants.{Old, New}
 
 -- ---- bytes
 
@@ -202,12 +204,32 @@ unfolding tumbler_at places_at
 tumbler_again places rest h =
     rw (u8_again (length places) (flat_map u32_bytes places ++ rest), le-ltb _ _ h.few, many_again IsU32 u32_at u32_bytes u32_again places rest h.small, ends_well_from places h.ends) refl
 
--- ---- texts
+-- ---- lengths and texts
 
-pub text_right : ReadsRight IsText text_at text_bytes
+-- a number that the bytes of a length have room for
+abbrev pub IsLength : LogFormat → ℕ → Type 0
+IsLength Old n = IsU32 n
+IsLength New n = IsU64 n
+
+-- what four bytes have room for
+pub is_length : (format : LogFormat) (n : ℕ) → IsU32 n → IsLength format n
+is_length Old n small = small
+is_length New n small = omega (arith, small)
+
+pub length_right : (format : LogFormat) → ReadsRight (IsLength format) (length_at format) (length_bytes format)
+unfolding length_at
+length_right Old bytes rest n are e = u32_right bytes rest n are e
+length_right New bytes rest n are e = u64_right bytes rest n are e
+
+pub length_again : (format : LogFormat) → ReadsAgain (IsLength format) (length_at format) (length_bytes format)
+unfolding length_at
+length_again Old n rest small = u32_again n rest small
+length_again New n rest small = u64_again n rest small
+
+pub text_right : (format : LogFormat) → ReadsRight IsText (text_at format) (text_bytes format)
 unfolding text_at
-text_right bytes rest text are e =
-    let len = field IsU32 u32_at u32_bytes u32_right bytes are (λ len. cond (nat_lt 16777216 len.0) None (cond (nat_lt (length len.1) len.0) None (Some (take len.0 len.1, drop len.0 len.1)))) (text, rest) e in
+text_right format bytes rest text are e =
+    let len = field (IsLength format) (length_at format) (length_bytes format) (length_right format) bytes are (λ len. cond (nat_lt 16777216 len.0) None (cond (nat_lt (length len.1) len.0) None (Some (take len.0 len.1, drop len.0 len.1)))) (text, rest) e in
     let g = not_none (nat_lt 16777216 len.value) (cond (nat_lt (length len.rest) len.value) None (Some (take len.value len.rest, drop len.value len.rest))) (text, rest) len.goes in
     let h = cond_none (nat_lt (length len.rest) len.value) (take len.value len.rest, drop len.value len.rest) (text, rest) g.1 in
     let text_is : take len.value len.rest ≡ text = ap (λ (p : List ℕ × List ℕ). p.0) h.1 in
@@ -216,13 +238,13 @@ text_right bytes rest text are e =
     let long : len.value ≤ length len.rest = ltb-false _ _ h.0 in
     let counted : length text ≡ len.value = ap length (sym text_is) ∙ grind (arith, common_steps, long) in
     let parts : len.rest ≡ text ++ rest = sym (take-append-drop len.value len.rest) ∙ ap (λ (ds : List ℕ). ds ++ drop len.value len.rest) text_is ∙ ap (λ (ds : List ℕ). text ++ ds) rest_is in (
-      len.split ∙ ap (λ (n : ℕ). u32_bytes n ++ len.rest) (sym counted) ∙ ap (λ (ds : List ℕ). u32_bytes (length text) ++ ds) parts ∙ sym (append_assoc (u32_bytes (length text)) text rest),
+      len.split ∙ ap (λ (n : ℕ). length_bytes format n ++ len.rest) (sym counted) ∙ ap (λ (ds : List ℕ). length_bytes format (length text) ++ ds) parts ∙ sym (append_assoc (length_bytes format (length text)) text rest),
       record { short = omega (arith, counted, short); bytes = subst AreBytes text_is (All-take (λ b. b < 256) len.value len.rest len.are) },
     )
 
-pub text_again : ReadsAgain IsText text_at text_bytes
+pub text_again : (format : LogFormat) → ReadsAgain IsText (text_at format) (text_bytes format)
 unfolding text_at
-text_again text rest h =
+text_again format text rest h =
     let long : nat_lt (length (text ++ rest)) (length text) ≡ false = le-ltb _ _ (omega (arith, length-append text rest)) in
-    ap text_at (append_assoc (u32_bytes (length text)) text rest)
-    ∙ rw (u32_again (length text) (text ++ rest) (omega (arith, h.short)), le-ltb _ _ h.short, long, take_at text rest (length text) refl, drop_at text rest (length text) refl) refl
+    ap (text_at format) (append_assoc (length_bytes format (length text)) text rest)
+    ∙ rw (length_again format (length text) (text ++ rest) (is_length format (length text) (omega (arith, h.short))), le-ltb _ _ h.short, long, take_at text rest (length text) refl, drop_at text rest (length text) refl) refl

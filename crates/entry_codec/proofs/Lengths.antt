@@ -1,5 +1,5 @@
--- How long what is written can be: four bytes have room for the length of each body.
-use Rattle.std.proofs.Common.{◌≡◌, ℕ, ◌+◌, ◌*◌, ◌<◌, ◌≤◌, List, [], ◌∷◌, ◌++◌, length, All, arith}
+-- How long what is written is, and how long it can be: four bytes have room for the length of each body.
+use Rattle.std.proofs.Common.{◌≡◌, ℕ, ◌+◌, ◌*◌, ◌≤◌, List, [], ◌∷◌, ◌++◌, length, All, refl, ap, ◌∙◌, arith}
 use Rattle.std.specs.List.{flat_map}
 use Rattle.std.proofs.lemmas.List.{length-append}
 use Rattle.std.proofs.lemmas.List.Elements.{All-head, All-tail}
@@ -8,12 +8,46 @@ use Rattle.tumbler.specs.declared.span.Span.{Span}
 use Rattle.tumbler.specs.Places.{IsTumbler}
 use Rattle.febe_data.specs.Plain.{PlainSpec, PlainChange, PlainEntry, restarted, began, ended, account_changed, document_opened, document_closed, document_created, version_made, copy_opened, text_inserted, span_deleted, blocks_swapped, specs_copied, link_made, document_published}
 use Rattle.febe_data.specs.Validity.{IsSpan, IsSpec, IsSpecSet, spans_in_all}
-use Rattle.entry_codec.specs.Format.{u32_bytes, u64_bytes, tumbler_bytes, span_bytes, list_bytes, spec_bytes, specs_bytes, text_bytes, kind_of, change_bytes, entry_bytes}
+use Rattle.entry_codec.specs.Logged.{PlainLogged, made_at_moment, untimed}
+use Rattle.entry_codec.specs.Format.{u32_bytes, u64_bytes, tumbler_bytes, span_bytes, list_bytes, spec_bytes, specs_bytes, length_bytes, length_size, text_bytes, kind_of, change_bytes, head_bytes, logged_bytes, body_of}
 use Rattle.entry_codec.specs.Bodies.{IsEncodable, HasBody}
+use Rattle.entry_codec.specs.Laws.{MomentsAreAsLong}
+use Rattle.entry_codec.specs.declared.format.LogFormat.{LogFormat}
+use Rattle.entry_codec.specs.declared.format.LogFormat.TheVariants.{Old, New}
 
 numbers_length : (numbers : List ℕ) → length (flat_map u32_bytes numbers) ≡ 4 * length numbers
 numbers_length [] = omega arith
 numbers_length (n ∷ numbers) = omega (arith, length-append (u32_bytes n) (flat_map u32_bytes numbers), numbers_length numbers)
+
+-- a length, and the head of a body, have as many bytes whatever they say
+pub length_length : (format : LogFormat) (n : ℕ) → length (length_bytes format n) ≡ length_size format
+length_length Old n = refl
+length_length New n = refl
+
+size_short : (format : LogFormat) → length_size format ≤ 8
+size_short Old = omega arith
+size_short New = omega arith
+
+pub head_as_long : (format : LogFormat) (moment : ℕ) → length (head_bytes format moment) ≡ length (head_bytes format 0)
+head_as_long Old moment = refl
+head_as_long New moment = refl
+
+head_short : (format : LogFormat) (moment : ℕ) → length (head_bytes format moment) ≤ 9
+head_short Old moment = omega arith
+head_short New moment = omega arith
+
+pub text_is : (format : LogFormat) (text : List ℕ) → length (text_bytes format text) ≡ length_size format + length text
+text_is format text = length-append (length_bytes format (length text)) text ∙ ap (λ (k : ℕ). k + length text) (length_length format (length text))
+
+text_length : (format : LogFormat) (text : List ℕ) → length text ≤ 16777216 → length (text_bytes format text) ≤ 16777224
+text_length format text short = omega (arith, text_is format text, size_short format, short)
+
+pub tumbler_counted : (places : List ℕ) → 1 + 4 * length places ≡ length (tumbler_bytes places)
+tumbler_counted places = omega (arith, numbers_length places)
+
+pub cuts_counted : (document cuts : List ℕ) (size count : ℕ) → size ≡ length (tumbler_bytes document) → count ≡ length cuts → size + 4 + 4 * count ≡ length (tumbler_bytes document ++ list_bytes u32_bytes cuts)
+cuts_counted document cuts size count e f =
+    omega (arith, e, f, length-append (tumbler_bytes document) (list_bytes u32_bytes cuts), length-append (u32_bytes (length cuts)) (flat_map u32_bytes cuts), numbers_length cuts)
 
 tumbler_length : (places : List ℕ) → IsTumbler places → length (tumbler_bytes places) ≤ 97
 tumbler_length places h = omega (arith, numbers_length places, h.few)
@@ -41,19 +75,22 @@ specs_length : (specs : List PlainSpec) → IsSpecSet specs → length (specs_by
 specs_length specs h =
     omega (arith, length-append (u32_bytes (length specs)) (flat_map spec_bytes specs), each_length specs h.list.each, h.list.few, h.few_spans)
 
+pub specs_counted : (specs : List PlainSpec) (size : ℕ) → size ≡ length (flat_map spec_bytes specs) → IsSpecSet specs → 4 + size ≤ 19333124
+specs_counted specs size e h = omega (arith, e, specs_length specs h, length-append (u32_bytes (length specs)) (flat_map spec_bytes specs))
+
 -- room for three lists of specs, or a text
-change_length : (change : PlainChange) → IsEncodable change → length (change_bytes change) ≤ 60000000
-change_length (document_created document) h = omega (arith, tumbler_length document h)
-change_length (version_made source document) h = omega (arith, length-append (tumbler_bytes source) (tumbler_bytes document), tumbler_length source h.0, tumbler_length document h.1)
-change_length (copy_opened source document) h = omega (arith, length-append (tumbler_bytes source) (tumbler_bytes document), tumbler_length source h.0, tumbler_length document h.1)
-change_length (text_inserted document at first text) h =
-    omega (arith, length-append (tumbler_bytes document) (u32_bytes at ++ (u32_bytes first ++ text_bytes text)), length-append (u32_bytes at) (u32_bytes first ++ text_bytes text), length-append (u32_bytes first) (text_bytes text), length-append (u32_bytes (length text)) text, tumbler_length document h.0, h.3.short)
-change_length (span_deleted document span) h = omega (arith, length-append (tumbler_bytes document) (span_bytes span), tumbler_length document h.0, span_length span h.1)
-change_length (blocks_swapped document cuts) h =
+change_length : (format : LogFormat) (change : PlainChange) → IsEncodable change → length (change_bytes format change) ≤ 60000000
+change_length format (document_created document) h = omega (arith, tumbler_length document h)
+change_length format (version_made source document) h = omega (arith, length-append (tumbler_bytes source) (tumbler_bytes document), tumbler_length source h.0, tumbler_length document h.1)
+change_length format (copy_opened source document) h = omega (arith, length-append (tumbler_bytes source) (tumbler_bytes document), tumbler_length source h.0, tumbler_length document h.1)
+change_length format (text_inserted document at first text) h =
+    omega (arith, length-append (tumbler_bytes document) (u32_bytes at ++ (u32_bytes first ++ text_bytes format text)), length-append (u32_bytes at) (u32_bytes first ++ text_bytes format text), length-append (u32_bytes first) (text_bytes format text), text_length format text h.3.short, tumbler_length document h.0)
+change_length format (span_deleted document span) h = omega (arith, length-append (tumbler_bytes document) (span_bytes span), tumbler_length document h.0, span_length span h.1)
+change_length format (blocks_swapped document cuts) h =
     omega (arith, length-append (tumbler_bytes document) (list_bytes u32_bytes cuts), length-append (u32_bytes (length cuts)) (flat_map u32_bytes cuts), numbers_length cuts, tumbler_length document h.0, h.1.few)
-change_length (specs_copied document at specs) h =
+change_length format (specs_copied document at specs) h =
     omega (arith, length-append (tumbler_bytes document) (u32_bytes at ++ specs_bytes specs), length-append (u32_bytes at) (specs_bytes specs), specs_length specs h.2, tumbler_length document h.0)
-change_length (link_made home number place from to three) h =
+change_length format (link_made home number place from to three) h =
     let ends : List ℕ = specs_bytes from ++ (specs_bytes to ++ specs_bytes three) in
     omega (
       arith,
@@ -67,15 +104,38 @@ change_length (link_made home number place from to three) h =
       specs_length three h.5,
       tumbler_length home h.0,
     )
-change_length (document_published document) h = omega (arith, tumbler_length document h)
-change_length restarted h = absurd h
-change_length began h = absurd h
-change_length ended h = absurd h
-change_length (account_changed account) h = absurd h
-change_length (document_opened document mode) h = absurd h
-change_length (document_closed document) h = absurd h
+change_length format (document_published document) h = omega (arith, tumbler_length document h)
+change_length format restarted h = absurd h
+change_length format began h = absurd h
+change_length format ended h = absurd h
+change_length format (account_changed account) h = absurd h
+change_length format (document_opened document mode) h = absurd h
+change_length format (document_closed document) h = absurd h
 
-pub entry_short : (entry : PlainEntry) → HasBody entry → length (entry_bytes entry) < 4294967296
-entry_short entry h =
-    let fields : List ℕ = kind_of entry.change ∷ change_bytes entry.change in
-    omega (arith, length-append (u64_bytes entry.session) (u64_bytes entry.serial ++ fields), length-append (u64_bytes entry.serial) fields, change_length entry.change h.change)
+pub logged_short : (format : LogFormat) (row : PlainLogged) → HasBody format row → length (logged_bytes format row) ≤ 60000026
+logged_short format row h =
+    let fields : List ℕ = kind_of row.entry.change ∷ change_bytes format row.entry.change in
+    omega (
+      arith,
+      length-append (head_bytes format row.moment) (u64_bytes row.entry.session ++ (u64_bytes row.entry.serial ++ fields)),
+      length-append (u64_bytes row.entry.session) (u64_bytes row.entry.serial ++ fields),
+      length-append (u64_bytes row.entry.serial) fields,
+      head_short format row.moment,
+      change_length format row.entry.change h.change,
+    )
+
+-- ---- whatever the moment is
+
+pub logged_as_long : (format : LogFormat) (entry : PlainEntry) (moment : ℕ) → length (logged_bytes format (made_at_moment entry moment)) ≡ length (logged_bytes format (untimed entry))
+logged_as_long format entry moment =
+    let made : List ℕ = u64_bytes entry.session ++ (u64_bytes entry.serial ++ (kind_of entry.change ∷ change_bytes format entry.change)) in
+    omega (arith, length-append (head_bytes format moment) made, length-append (head_bytes format 0) made, head_as_long format moment)
+
+pub body_is : (format : LogFormat) (row : PlainLogged) → length (body_of format row) ≡ length_size format + length (logged_bytes format row)
+body_is format row =
+    length-append (length_bytes format (length (logged_bytes format row))) (logged_bytes format row)
+    ∙ ap (λ (k : ℕ). k + length (logged_bytes format row)) (length_length format (length (logged_bytes format row)))
+
+pub moments_are_as_long : MomentsAreAsLong
+moments_are_as_long format entry moment =
+    omega (arith, body_is format (made_at_moment entry moment), body_is format (untimed entry), logged_as_long format entry moment)

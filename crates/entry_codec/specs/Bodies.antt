@@ -2,9 +2,13 @@
 use Rattle.std.specs.Prelude.{◌≡◌, ℕ, ◌<◌, List, ◌++◌, Option, Some, None}
 use Rattle.tumbler.specs.Places.{IsTumbler}
 use Rattle.febe_data.specs.declared.entry.Entry.{Entry}
-use Rattle.febe_data.specs.Plain.{PlainChange, PlainEntry, document_created, version_made, copy_opened, text_inserted, span_deleted, blocks_swapped, specs_copied, link_made, document_published, plain_entry}
+use Rattle.febe_data.specs.Plain.{PlainChange, document_created, version_made, copy_opened, text_inserted, span_deleted, blocks_swapped, specs_copied, link_made, document_published, plain_entry}
 use Rattle.febe_data.specs.Validity.{IsText, IsSpan, IsList, IsSpecSet}
 use Rattle.entry_codec.specs.Format.{body_of}
+use Rattle.entry_codec.specs.Logged.{PlainLogged, plain_logged, untimed}
+use Rattle.entry_codec.specs.declared.format.LogFormat.{LogFormat}
+use Rattle.entry_codec.specs.declared.format.LogFormat.TheVariants.{Old, New}
+use Rattle.entry_codec.specs.declared.logged.Logged.{Logged}
 
 -- a number that four bytes have room for
 abbrev pub IsU32 : ℕ → Type 0
@@ -28,35 +32,46 @@ IsEncodable (link_made home number place from to three) = IsTumbler home × IsU3
 IsEncodable (document_published document) = IsTumbler document
 IsEncodable other = ⊥
 
--- such a change, by a session and with a serial that eight bytes have room for
-pub record HasBody (entry : PlainEntry) : Type 0 where
-  pub session : IsU64 entry.session
-  pub serial : IsU64 entry.serial
-  pub change : IsEncodable entry.change
+-- a moment that the format has room for: the old one has none, which stands for 0
+abbrev pub IsMoment : LogFormat → ℕ → Type 0
+IsMoment Old moment = moment ≡ 0
+IsMoment New moment = IsU64 moment
 
--- these bytes are the body of this entry
-pub record IsBodyOf (entry : PlainEntry) (bytes : List ℕ) : Type 0 where
-  pub valid : HasBody entry
-  pub spelled : bytes ≡ body_of entry
+-- such a change, by a session and with a serial that eight bytes have room for, and its moment
+pub record HasBody (format : LogFormat) (row : PlainLogged) : Type 0 where
+  pub session : IsU64 row.entry.session
+  pub serial : IsU64 row.entry.serial
+  pub change : IsEncodable row.entry.change
+  pub moment : IsMoment format row.moment
+
+-- these bytes are the body of this entry with its moment
+pub record IsBodyOf (format : LogFormat) (row : PlainLogged) (bytes : List ℕ) : Type 0 where
+  pub valid : HasBody format row
+  pub spelled : bytes ≡ body_of format row
 
 -- these bytes are a body
-pub record IsBody (bytes : List ℕ) : Type 0 where
-  pub entry : PlainEntry
-  pub body : IsBodyOf entry bytes
+pub record IsBody (format : LogFormat) (bytes : List ℕ) : Type 0 where
+  pub row : PlainLogged
+  pub body : IsBodyOf format row bytes
 
--- what decoding gave is so: the entry whose body the bytes are, or none where they are no body
-abbrev pub IsDecoded : List ℕ → Option Entry → Type 0
-IsDecoded bytes (Some entry) = IsBodyOf (plain_entry entry) bytes
-IsDecoded bytes None = ¬ IsBody bytes
+-- what decoding gave is so: the entry and the moment whose body the bytes are, or none where they are no body
+abbrev pub IsDecoded : List ℕ → Option Logged → Type 0
+IsDecoded bytes (Some logged) = IsBodyOf New (plain_logged logged) bytes
+IsDecoded bytes None = ¬ IsBody New bytes
+
+-- so it is of the format of before, which has no moments
+abbrev pub IsOldDecoded : List ℕ → Option Entry → Type 0
+IsOldDecoded bytes (Some entry) = IsBodyOf Old (untimed (plain_entry entry)) bytes
+IsOldDecoded bytes None = ¬ IsBody Old bytes
 
 -- the bytes begin with a body, and these stand behind it
-pub record BeginsWithBody (bytes : List ℕ) : Type 0 where
+pub record BeginsWithBody (format : LogFormat) (bytes : List ℕ) : Type 0 where
   pub body : List ℕ
   pub rest : List ℕ
-  pub is_body : IsBody body
+  pub is_body : IsBody format body
   pub split : bytes ≡ body ++ rest
 
 -- the bytes are this front and these behind it, and no body but the front can begin them
-pub record IsOnlyFront (bytes front rest : List ℕ) : Type 0 where
+pub record IsOnlyFront (format : LogFormat) (bytes front rest : List ℕ) : Type 0 where
   pub split : bytes ≡ front ++ rest
-  pub only : (body more : List ℕ) → IsBody body → bytes ≡ body ++ more → body ≡ front
+  pub only : (body more : List ℕ) → IsBody format body → bytes ≡ body ++ more → body ≡ front

@@ -5,6 +5,9 @@ use Rattle.tumbler.specs.declared.span.Span.{Span}
 use Rattle.febe_data.specs.Plain.{PlainSpec, PlainChange, PlainEntry, document_created, version_made, copy_opened, text_inserted, span_deleted, blocks_swapped, specs_copied, link_made, document_published}
 use Rattle.febe_data.specs.Validity.{spans_in_all}
 use Rattle.febe_fields.specs.Reading.{◌>>=◌, ends_well, many_at}
+use Rattle.entry_codec.specs.Logged.{PlainLogged, made_at_moment}
+use Rattle.entry_codec.specs.declared.format.LogFormat.{LogFormat}
+use Rattle.entry_codec.specs.declared.format.LogFormat.TheVariants.{Old, New}
 
 -- ---- numbers, tumblers and texts
 
@@ -30,10 +33,15 @@ tumbler_at bytes = do
   places ← places_at bytes
   if ends_well places.0 then Some (places.0, places.1) else None
 
+-- the length of a text or of a body
+unfoldable pub length_at : LogFormat → List ℕ → Option (ℕ × List ℕ)
+length_at Old bytes = u32_at bytes
+length_at New bytes = u64_at bytes
+
 -- a text: its length is at most 16777216, and that many bytes stand there
-unfoldable pub text_at : List ℕ → Option (List ℕ × List ℕ)
-text_at bytes = do
-  len ← u32_at bytes
+unfoldable pub text_at : LogFormat → List ℕ → Option (List ℕ × List ℕ)
+text_at format bytes = do
+  len ← length_at format bytes
   if nat_lt 16777216 len.0 then None else (if nat_lt (length len.1) len.0 then None else Some (take len.0 len.1, drop len.0 len.1))
 
 -- ---- lists
@@ -87,12 +95,12 @@ open_copy_at bytes = do
   document ← tumbler_at source.1
   Some (copy_opened source.0 document.0, document.1)
 
-unfoldable pub insert_at : List ℕ → Option (PlainChange × List ℕ)
-insert_at bytes = do
+unfoldable pub insert_at : LogFormat → List ℕ → Option (PlainChange × List ℕ)
+insert_at format bytes = do
   document ← tumbler_at bytes
   at ← u32_at document.1
   first ← u32_at at.1
-  text ← text_at first.1
+  text ← text_at format first.1
   Some (text_inserted document.0 at.0 first.0 text.0, text.1)
 
 unfoldable pub delete_at : List ℕ → Option (PlainChange × List ℕ)
@@ -130,12 +138,12 @@ publish_at bytes = do
   Some (document_published document.0, document.1)
 
 -- the change of this kind
-unfoldable pub change_at : ℕ → List ℕ → Option (PlainChange × List ℕ)
-change_at kind bytes =
+unfoldable pub change_at : LogFormat → ℕ → List ℕ → Option (PlainChange × List ℕ)
+change_at format kind bytes =
     if kind == 1 then create_at bytes else (
     if kind == 2 then version_at bytes else (
     if kind == 3 then open_copy_at bytes else (
-    if kind == 4 then insert_at bytes else (
+    if kind == 4 then insert_at format bytes else (
     if kind == 5 then delete_at bytes else (
     if kind == 6 then rearrange_at bytes else (
     if kind == 7 then copy_at bytes else (
@@ -144,23 +152,40 @@ change_at kind bytes =
 
 -- ---- entries
 
--- what stands behind the number of the format, up to the end
-unfoldable pub made_at : List ℕ → Option PlainEntry
-made_at bytes = do
+-- what stands behind the head, up to the end
+unfoldable pub made_at : LogFormat → List ℕ → Option PlainEntry
+made_at format bytes = do
   session ← u64_at bytes
   serial ← u64_at session.1
   kind ← u8_at serial.1
-  change ← change_at kind.0 kind.1
+  change ← change_at format kind.0 kind.1
   if length change.1 == 0 then Some (record { session = session.0; serial = serial.0; change = change.0 }) else None
 
--- what stands behind the length of a body, up to its end
-unfoldable pub entry_at : List ℕ → Option PlainEntry
-entry_at bytes = do
-  format ← u8_at bytes
-  if format.0 == 1 then made_at format.1 else None
+-- the number of a format
+abbrev pub number_of : LogFormat → ℕ
+number_of Old = 1
+number_of New = 2
 
--- the entry whose body this is: it is as long as its first bytes say
-unfoldable pub body_entry : List ℕ → Option PlainEntry
-body_entry bytes = do
-  len ← u32_at bytes
-  if len.0 == length len.1 then entry_at len.1 else None
+-- a moment; the old format has none, and 0 stands for it
+unfoldable pub moment_at : LogFormat → List ℕ → Option (ℕ × List ℕ)
+moment_at Old bytes = Some (0, bytes)
+moment_at New bytes = u64_at bytes
+
+-- the head: the number of the format, and the moment
+unfoldable pub head_at : LogFormat → List ℕ → Option (ℕ × List ℕ)
+head_at format bytes = do
+  number ← u8_at bytes
+  if number.0 == number_of format then moment_at format number.1 else None
+
+-- what stands behind the length of a body, up to its end
+unfoldable pub row_at : LogFormat → List ℕ → Option PlainLogged
+row_at format bytes = do
+  head ← head_at format bytes
+  entry ← made_at format head.1
+  Some (made_at_moment entry head.0)
+
+-- the entry and the moment whose body this is: it is as long as its first bytes say
+unfoldable pub body_row : LogFormat → List ℕ → Option PlainLogged
+body_row format bytes = do
+  len ← length_at format bytes
+  if len.0 == length len.1 then row_at format len.1 else None

@@ -4,6 +4,7 @@ ghost use Rattle.febe_fields.specs.Reading.{Reads, ReadsIfOk};
 ghost use Rattle.entry_codec.specs.Reading.{create_at, version_at, open_copy_at, insert_at, delete_at, rearrange_at, copy_at, link_at, publish_at, change_at};
 
 use crate::fields::{text_at, tumbler_at, u32_at};
+use crate::format::LogFormat;
 use crate::lists::{numbers_at, span_at, specs_at};
 use febe_data::{Change, List, Memory};
 use std::alloc::Global;
@@ -45,8 +46,12 @@ fn open_copy_at(alloc: Global, bytes: &[u8]) -> Option<(Change, &[u8])>
 }
 
 #[tactic(auto, unfolding(crate::specs::Reading::insert_at))]
-fn insert_at(alloc: Global, bytes: &[u8]) -> Result<Option<(Change, &[u8])>, Memory>
-    ensures { ReadsIfOk (λ x. (plain_change x.0, x.1.now)) result (insert_at bytes.now) }
+fn insert_at(
+    alloc: Global,
+    format: LogFormat,
+    bytes: &[u8],
+) -> Result<Option<(Change, &[u8])>, Memory>
+    ensures { ReadsIfOk (λ x. (plain_change x.0, x.1.now)) result (insert_at format bytes.now) }
 {
     let Some((document, rest)) = tumbler_at(alloc, bytes) else {
         return Ok(None);
@@ -57,7 +62,7 @@ fn insert_at(alloc: Global, bytes: &[u8]) -> Result<Option<(Change, &[u8])>, Mem
     let Some((first, rest)) = u32_at(rest) else {
         return Ok(None);
     };
-    let Some((text, rest)) = text_at(rest) else {
+    let Some((text, rest)) = text_at(format, rest) else {
         return Ok(None);
     };
     let text = List::from_slice(alloc, text)?;
@@ -170,16 +175,17 @@ fn publish_at(alloc: Global, bytes: &[u8]) -> Option<(Change, &[u8])>
 #[tactic(auto, unfolding(crate::specs::Reading::change_at))]
 pub(crate) fn change_at(
     alloc: Global,
+    format: LogFormat,
     kind: u8,
     bytes: &[u8],
 ) -> Result<Option<(Change, &[u8])>, Memory>
-    ensures { ReadsIfOk (λ x. (plain_change x.0, x.1.now)) result (change_at kind bytes.now) }
+    ensures { ReadsIfOk (λ x. (plain_change x.0, x.1.now)) result (change_at format kind bytes.now) }
 {
     match kind {
         1 => Ok(create_at(alloc, bytes)),
         2 => Ok(version_at(alloc, bytes)),
         3 => Ok(open_copy_at(alloc, bytes)),
-        4 => insert_at(alloc, bytes),
+        4 => insert_at(alloc, format, bytes),
         5 => Ok(delete_at(alloc, bytes)),
         6 => rearrange_at(alloc, bytes),
         7 => copy_at(alloc, bytes),

@@ -1,8 +1,10 @@
 //! The fields of entries, each read from the start of the bytes: the value and the bytes after it.
 ghost use Rattle.std.specs.Prelude.{◌≡◌, ◌≤◌, length, IfSome};
 ghost use Rattle.febe_fields.specs.Reading.{Reads, many_at};
-ghost use Rattle.entry_codec.specs.Reading.{u8_at, u32_at, u64_at, places_at, tumbler_at, text_at};
+ghost use Rattle.entry_codec.specs.Format.{length_size};
+ghost use Rattle.entry_codec.specs.Reading.{u8_at, u32_at, u64_at, places_at, tumbler_at, length_at, text_at};
 
+use crate::format::LogFormat;
 use febe_data::Tumbler;
 use febe_data::bounds::{MOST_PLACES, MOST_TEXT_BYTES};
 use smallvec::SmallVec;
@@ -78,17 +80,42 @@ pub(crate) fn tumbler_at(alloc: Global, bytes: &[u8]) -> Option<(Tumbler, &[u8])
     }
 }
 
+/// How many bytes a length is written in.
+pub(crate) fn length_size(format: LogFormat) -> usize
+    ensures { result ≡ length_size format }
+{
+    match format {
+        LogFormat::Old => 4,
+        LogFormat::New => 8,
+    }
+}
+
+/// The length of a text or of a body.
+#[tactic(auto, unfolding(crate::specs::Reading::length_at))]
+pub(crate) fn length_at(format: LogFormat, bytes: &[u8]) -> Option<(u64, &[u8])>
+    ensures { Reads (λ x. (x.0, x.1.now)) result (length_at format bytes.now) }
+{
+    match format {
+        LogFormat::Old => {
+            let (len, rest) = u32_at(bytes)?;
+            Some((u64::from(len), rest))
+        }
+        LogFormat::New => u64_at(bytes),
+    }
+}
+
 /// The length of a text and its bytes.
 #[tactic(auto, unfolding(crate::specs::Reading::text_at))]
-pub(crate) fn text_at(bytes: &[u8]) -> Option<(&[u8], &[u8])>
-    ensures { Reads (λ x. (x.0.now, x.1.now)) result (text_at bytes.now) }
+pub(crate) fn text_at(format: LogFormat, bytes: &[u8]) -> Option<(&[u8], &[u8])>
+    ensures { Reads (λ x. (x.0.now, x.1.now)) result (text_at format bytes.now) }
 {
-    let (len, rest) = u32_at(bytes)?;
-    if len > MOST_TEXT_BYTES {
+    let (len, rest) = length_at(format, bytes)?;
+    if len > u64::from(MOST_TEXT_BYTES) {
         return None;
     }
-    if rest.len() < len as usize {
+    let len = len as usize;
+    if rest.len() < len {
         return None;
     }
-    Some(rest.split_at(len as usize))
+    Some(rest.split_at(len))
 }

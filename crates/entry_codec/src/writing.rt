@@ -1,9 +1,10 @@
-//! How the fields of entries are written, at the end of a text.
+//! How the fields of entries are written in the new format, at the end of a text.
 ghost use Rattle.std.specs.Prelude.{◌≡◌, ◌≤◌, ◌++◌, ◌∷◌, [], length, map, All, OnOk};
 ghost use Rattle.std.specs.List.{flat_map};
 ghost use Rattle.febe_data.specs.Plain.{plain_spec, plain_specs, plain_change};
 ghost use Rattle.febe_data.specs.Validity.{IsSpec, IsList, IsSpecSet};
 ghost use Rattle.entry_codec.specs.Format.{u32_bytes, u64_bytes, tumbler_bytes, span_bytes, list_bytes, spec_bytes, specs_bytes, text_bytes, kind_of, change_bytes};
+ghost use Rattle.entry_codec.specs.declared.format.LogFormat.TheVariants.{New};
 ghost use Rattle.entry_codec.specs.Bodies.{IsEncodable};
 
 use febe_data::{Change, Memory, Span, Spec, Text, Tumbler};
@@ -60,9 +61,9 @@ fn append_two(out: &mut Text, one: &Tumbler, other: &Tumbler) -> Result<(), Memo
 
 fn append_text(out: &mut Text, text: &[u8]) -> Result<(), Memory>
     requires { length text.now ≤ 16777216 }
-    ensures { OnOk result (out.new.items ≡ out.old.items ++ text_bytes text.now) }
+    ensures { OnOk result (out.new.items ≡ out.old.items ++ text_bytes New text.now) }
 {
-    append_u32(out, text.len() as u32)?;
+    append_u64(out, text.len() as u64)?;
     out.extend_from_slice(text)
 }
 
@@ -157,7 +158,7 @@ pub(crate) fn kind_of(change: &Change) -> u8
 
 fn append_content(out: &mut Text, first: u32, text: &[u8]) -> Result<(), Memory>
     requires { length text.now ≤ 16777216 }
-    ensures { OnOk result (out.new.items ≡ out.old.items ++ (u32_bytes first ++ text_bytes text.now)) }
+    ensures { OnOk result (out.new.items ≡ out.old.items ++ (u32_bytes first ++ text_bytes New text.now)) }
 {
     append_u32(out, first)?;
     append_text(out, text)
@@ -171,7 +172,7 @@ fn append_insert(
     text: &[u8],
 ) -> Result<(), Memory>
     requires { length text.now ≤ 16777216 }
-    ensures { OnOk result (out.new.items ≡ out.old.items ++ (tumbler_bytes document.now ++ (u32_bytes at ++ (u32_bytes first ++ text_bytes text.now)))) }
+    ensures { OnOk result (out.new.items ≡ out.old.items ++ (tumbler_bytes document.now ++ (u32_bytes at ++ (u32_bytes first ++ text_bytes New text.now)))) }
 {
     append_tumbler(out, document)?;
     append_u32(out, at)?;
@@ -219,7 +220,7 @@ fn append_link(
 /// Adds the fields of a change that is logged.
 pub(crate) fn append_change(out: &mut Text, change: &Change) -> Result<(), Memory>
     requires { IsEncodable (plain_change change.now) }
-    ensures { OnOk result (out.new.items ≡ out.old.items ++ change_bytes (plain_change change.now)) }
+    ensures { OnOk result (out.new.items ≡ out.old.items ++ change_bytes New (plain_change change.now)) }
 {
     match change {
         Change::Create { document } => append_tumbler(out, document),

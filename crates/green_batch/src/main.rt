@@ -1,7 +1,7 @@
 //! Runs one session of requests, from standard input to standard output, over the files of a folder.
 #![tactic(auto)]
 
-use green_io::{FolderDisk, StdSink, StdSource};
+use green_io::{FolderDisk, StdSink, StdSource, SystemClock};
 use green_top::{Report, run_batch};
 use std::process::ExitCode;
 use std::rt::Env;
@@ -45,14 +45,23 @@ fn folder_in(words: &[String]) -> &str {
     }
 }
 
-/// Runs the session that comes from standard input.
+/// Runs the session that comes from standard input, at the times of the system's clock.
 fn run(rt: HostRuntime, words: &[String], report: &mut Report) -> u8 {
     let Ok(mut disk) = FolderDisk::new(rt, folder_in(words)) else {
         return NO_MEMORY;
     };
+    let mut clock = SystemClock::new(rt);
     let mut source = StdSource::new(rt.stdin());
     let mut sink = StdSink::new(rt.stdout());
-    run_batch(rt.alloc(), words, &mut source, &mut sink, &mut disk, report)
+    run_batch(
+        rt.alloc(),
+        words,
+        &mut clock,
+        &mut source,
+        &mut sink,
+        &mut disk,
+        report,
+    )
 }
 
 fn main(rt: HostRuntime) -> ExitCode {

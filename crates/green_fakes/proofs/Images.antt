@@ -1,7 +1,7 @@
 -- What a call leaves of the images of a disk in memory.
 use Rattle.std.proofs.Common.{◌≡◌, inl, inr, ⊎_elim, ℕ, ◌≤◌, Bool, true, false, List, ◌∷◌, length, Result, Ok, Err, Some, OnErr, refl, sym, ap, subst, arith}
 use Rattle.green_io.specs.declared.disk.Area.{Area}
-use Rattle.green_io.specs.declared.disk.Area.TheVariants.{Log, Home, Journal}
+use Rattle.green_io.specs.declared.disk.Area.TheVariants.{Log, Home, Journal, Second}
 use Rattle.green_io.specs.declared.disk.DiskFailed.{DiskFailed}
 use Rattle.green_io.specs.Areas.{Areas, area_of, is_same, IsSameBeside, InArea}
 use Rattle.green_io.specs.Disk.{images_now, Torn, PartlyCut, Changes, LeftBy, Nothing, LeavesOnly}
@@ -24,43 +24,64 @@ step_was false step reads left image plain is = is
 pub image_by : (first : Areas) (changes : List Change) (before : ℕ) (area : Area) (step : Step) (R : List ℕ → List ℕ → Type 0) → is_sync step ≡ false → ((old new : List ℕ) → IsTornBy step old new → R old new) → (image : Areas) → IsImage first (record { before = before; area = area; step = step } ∷ changes) image → (was : Areas) × IsImage first changes was × InArea area R was image
 image_by first changes before Log step R plain follows image is =
     let left = step_was (is_sync step) step (bytes_after Log first.log changes) (IsLeft Log first.log changes) image.log plain (is Log) in
-    (record { log = left.0; home = image.home; journal = image.journal }, images left.0 left.1, (follows left.0 image.log left.2, beside left.0))
+    (record { log = left.0; home = image.home; journal = image.journal; second = image.second }, images left.0 left.1, (follows left.0 image.log left.2, beside left.0))
   where
-    images : (log : List ℕ) → IsLeft Log first.log changes log → (a : Area) → IsLeft a (area_of a first) changes (area_of a (record { log = log; home = image.home; journal = image.journal }))
+    images : (log : List ℕ) → IsLeft Log first.log changes log → (a : Area) → IsLeft a (area_of a first) changes (area_of a (record { log = log; home = image.home; journal = image.journal; second = image.second }))
     images log had Log = had
     images log had Home = is Home
     images log had Journal = is Journal
+    images log had Second = is Second
 
-    beside : (log : List ℕ) → IsSameBeside Log (record { log = log; home = image.home; journal = image.journal }) image
+    beside : (log : List ℕ) → IsSameBeside Log (record { log = log; home = image.home; journal = image.journal; second = image.second }) image
     beside log Log other = absurd (cc other)
     beside log Home other = refl
     beside log Journal other = refl
+    beside log Second other = refl
 image_by first changes before Home step R plain follows image is =
     let left = step_was (is_sync step) step (bytes_after Home first.home changes) (IsLeft Home first.home changes) image.home plain (is Home) in
-    (record { log = image.log; home = left.0; journal = image.journal }, images left.0 left.1, (follows left.0 image.home left.2, beside left.0))
+    (record { log = image.log; home = left.0; journal = image.journal; second = image.second }, images left.0 left.1, (follows left.0 image.home left.2, beside left.0))
   where
-    images : (home : List ℕ) → IsLeft Home first.home changes home → (a : Area) → IsLeft a (area_of a first) changes (area_of a (record { log = image.log; home = home; journal = image.journal }))
+    images : (home : List ℕ) → IsLeft Home first.home changes home → (a : Area) → IsLeft a (area_of a first) changes (area_of a (record { log = image.log; home = home; journal = image.journal; second = image.second }))
     images home had Log = is Log
     images home had Home = had
     images home had Journal = is Journal
+    images home had Second = is Second
 
-    beside : (home : List ℕ) → IsSameBeside Home (record { log = image.log; home = home; journal = image.journal }) image
+    beside : (home : List ℕ) → IsSameBeside Home (record { log = image.log; home = home; journal = image.journal; second = image.second }) image
     beside home Log other = refl
     beside home Home other = absurd (cc other)
     beside home Journal other = refl
+    beside home Second other = refl
 image_by first changes before Journal step R plain follows image is =
     let left = step_was (is_sync step) step (bytes_after Journal first.journal changes) (IsLeft Journal first.journal changes) image.journal plain (is Journal) in
-    (record { log = image.log; home = image.home; journal = left.0 }, images left.0 left.1, (follows left.0 image.journal left.2, beside left.0))
+    (record { log = image.log; home = image.home; journal = left.0; second = image.second }, images left.0 left.1, (follows left.0 image.journal left.2, beside left.0))
   where
-    images : (journal : List ℕ) → IsLeft Journal first.journal changes journal → (a : Area) → IsLeft a (area_of a first) changes (area_of a (record { log = image.log; home = image.home; journal = journal }))
+    images : (journal : List ℕ) → IsLeft Journal first.journal changes journal → (a : Area) → IsLeft a (area_of a first) changes (area_of a (record { log = image.log; home = image.home; journal = journal; second = image.second }))
     images journal had Log = is Log
     images journal had Home = is Home
     images journal had Journal = had
+    images journal had Second = is Second
 
-    beside : (journal : List ℕ) → IsSameBeside Journal (record { log = image.log; home = image.home; journal = journal }) image
+    beside : (journal : List ℕ) → IsSameBeside Journal (record { log = image.log; home = image.home; journal = journal; second = image.second }) image
     beside journal Log other = refl
     beside journal Home other = refl
     beside journal Journal other = absurd (cc other)
+    beside journal Second other = refl
+image_by first changes before Second step R plain follows image is =
+    let left = step_was (is_sync step) step (bytes_after Second first.second changes) (IsLeft Second first.second changes) image.second plain (is Second) in
+    (record { log = image.log; home = image.home; journal = image.journal; second = left.0 }, images left.0 left.1, (follows left.0 image.second left.2, beside left.0))
+  where
+    images : (second : List ℕ) → IsLeft Second first.second changes second → (a : Area) → IsLeft a (area_of a first) changes (area_of a (record { log = image.log; home = image.home; journal = image.journal; second = second }))
+    images second had Log = is Log
+    images second had Home = is Home
+    images second had Journal = is Journal
+    images second had Second = had
+
+    beside : (second : List ℕ) → IsSameBeside Second (record { log = image.log; home = image.home; journal = image.journal; second = second }) image
+    beside second Log other = refl
+    beside second Home other = refl
+    beside second Journal other = refl
+    beside second Second other = absurd (cc other)
 
 -- a disk after one more change
 abbrev changed : DiskView → Area → Step → ℕ → ℕ → DiskView
@@ -161,18 +182,28 @@ step_in_area first changes before Log step = (refl, beside)
     beside Log other = absurd (cc other)
     beside Home other = refl
     beside Journal other = refl
+    beside Second other = refl
 step_in_area first changes before Home step = (refl, beside)
   where
     beside : IsSameBeside Home (areas_after first changes) (areas_after first (record { before = before; area = Home; step = step } ∷ changes))
     beside Log other = refl
     beside Home other = absurd (cc other)
     beside Journal other = refl
+    beside Second other = refl
 step_in_area first changes before Journal step = (refl, beside)
   where
     beside : IsSameBeside Journal (areas_after first changes) (areas_after first (record { before = before; area = Journal; step = step } ∷ changes))
     beside Log other = refl
     beside Home other = refl
     beside Journal other = absurd (cc other)
+    beside Second other = refl
+step_in_area first changes before Second step = (refl, beside)
+  where
+    beside : IsSameBeside Second (areas_after first changes) (areas_after first (record { before = before; area = Second; step = step } ∷ changes))
+    beside Log other = refl
+    beside Home other = refl
+    beside Journal other = refl
+    beside Second other = absurd (cc other)
 
 -- a write that fails leaves what is read, which is a part of it
 quiet_part : (old new : DiskView) (area : Area) (at n : ℕ) (calls faults shortages : ℕ) → new ≡ record old { calls = calls; faults = faults; shortages = shortages } → InArea area (Torn at n) (areas_of old) (areas_of new)

@@ -1,7 +1,7 @@
 -- What a crash may leave of a disk in memory.
 use Rattle.std.specs.Prelude.{◌≡◌, ◌⊎◌, ℕ, ◌≤◌, ltb, Bool, true, false, if◌then◌else◌, List, [], ◌∷◌, length, Some}
 use Rattle.green_io.specs.declared.disk.Area.{Area}
-use Rattle.green_io.specs.declared.disk.Area.TheVariants.{Log, Home, Journal}
+use Rattle.green_io.specs.declared.disk.Area.TheVariants.{Log, Home, Journal, Second}
 use Rattle.green_io.specs.Areas.{Areas, area_of, is_same}
 use Rattle.green_io.specs.Disk.{DiskState, Torn, PartlyCut}
 use Rattle.green_fakes.specs.DiskView.{DiskView, bytes_after, areas_of}
@@ -85,4 +85,5 @@ synced_areas first changes = record {
   log = synced_after Log first.log changes;
   home = synced_after Home first.home changes;
   journal = synced_after Journal first.journal changes;
+  second = synced_after Second first.second changes;
 }

@@ -2,7 +2,7 @@
 use Rattle.std.proofs.Common.{◌≡◌, inl, inr, ℕ, ◌+◌, ◌-◌, ◌≤◌, min, Bool, true, false, List, [], ◌∷◌, ◌++◌, length, take, drop, replicate, refl, sym, ap, ◌∙◌, if◌then◌else◌, arith, append_assoc, length-append, length-take, length-drop}
 use Rattle.std.proofs.lemmas.List.{take-append-drop, take_all, take_min, drop-drop, length-replicate}
 use Rattle.green_io.specs.declared.disk.Area.{Area}
-use Rattle.green_io.specs.declared.disk.Area.TheVariants.{Log, Home, Journal}
+use Rattle.green_io.specs.declared.disk.Area.TheVariants.{Log, Home, Journal, Second}
 use Rattle.green_io.specs.Areas.{Areas, is_same}
 use Rattle.green_io.specs.Disk.{IsDisk, Torn, PartlyCut}
 use Rattle.green_fakes.specs.DiskView.{DiskView, written_at, after_step, bytes_after, areas_after, areas_of}
@@ -105,6 +105,7 @@ pub reads_left : (first : Areas) (changes : List Change) → IsImage first chang
 reads_left first changes Log = bytes_left Log first.log changes
 reads_left first changes Home = bytes_left Home first.home changes
 reads_left first changes Journal = bytes_left Journal first.journal changes
+reads_left first changes Second = bytes_left Second first.second changes
 
 -- an image after all changes is one from the last moment on
 pub image_now : (first : Areas) (changes : List Change) (t : ℕ) (image : Areas) → IsImage first changes image → IsImageFrom first changes t image

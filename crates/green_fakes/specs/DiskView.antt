@@ -2,7 +2,7 @@
 use Rattle.std.specs.Prelude.{◌≡◌, ◌⊎◌, ℕ, ◌+◌, ◌-◌, ◌^◌, ◌==◌, min, if◌then◌else◌, List, [], ◌∷◌, ◌++◌, length, take, drop, replicate, Result, Ok, Err, IsOk, IsErr}
 use Rattle.tumbler.specs.ListView.{ListView}
 use Rattle.green_io.specs.declared.disk.Area.{Area}
-use Rattle.green_io.specs.declared.disk.Area.TheVariants.{Log, Home, Journal}
+use Rattle.green_io.specs.declared.disk.Area.TheVariants.{Log, Home, Journal, Second}
 use Rattle.green_io.specs.declared.disk.DiskFailed.{DiskFailed}
 use Rattle.green_io.specs.Areas.{Areas, is_same}
 use Rattle.green_io.specs.declared.source.ReadAnswer.{ReadAnswer}
@@ -29,6 +29,7 @@ abbrev pub put : Area → List ℕ → Areas → Areas
 put Log bytes areas = record areas { log = bytes }
 put Home bytes areas = record areas { home = bytes }
 put Journal bytes areas = record areas { journal = bytes }
+put Second bytes areas = record areas { second = bytes }
 
 -- the bytes with these at this place, and zeros between the old end and the place
 abbrev pub written_at : ℕ → List ℕ → List ℕ → List ℕ
@@ -54,6 +55,7 @@ areas_after first changes = record {
   log = bytes_after Log first.log changes;
   home = bytes_after Home first.home changes;
   journal = bytes_after Journal first.journal changes;
+  second = bytes_after Second first.second changes;
 }
 
 -- what the areas of a disk read

@@ -1,6 +1,8 @@
 pub use Rattle.green_io.specs.Outside
 pub use Rattle.green_io.specs.Areas
+pub use Rattle.green_io.specs.Clock
 pub use Rattle.green_io.specs.Disk
+pub mod ClockView
 pub mod DiskImages
 pub mod DiskLaws
 pub mod DiskModel

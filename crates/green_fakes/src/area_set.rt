@@ -15,6 +15,7 @@ pub(crate) struct AreaSet {
     pub(crate) log: AreaBytes,
     pub(crate) home: AreaBytes,
     pub(crate) journal: AreaBytes,
+    pub(crate) second: AreaBytes,
 }
 
 impl Model for AreaSet {
@@ -22,17 +23,18 @@ impl Model for AreaSet {
 
     ghost Value = { Areas };
 
-    ghost view = { λ areas. record { log = areas.log; home = areas.home; journal = areas.journal } };
+    ghost view = { λ areas. record { log = areas.log; home = areas.home; journal = areas.journal; second = areas.second } };
 }
 
 impl AreaSet {
     pub(crate) fn new(alloc: Global) -> AreaSet
-        ensures { result ≡ record { log = []; home = []; journal = [] } }
+        ensures { result ≡ record { log = []; home = []; journal = []; second = [] } }
     {
         AreaSet {
             log: AreaBytes::new(alloc),
             home: AreaBytes::new(alloc),
             journal: AreaBytes::new(alloc),
+            second: AreaBytes::new(alloc),
         }
     }
 
@@ -43,6 +45,7 @@ impl AreaSet {
             log: self.log.copy(alloc)?,
             home: self.home.copy(alloc)?,
             journal: self.journal.copy(alloc)?,
+            second: self.second.copy(alloc)?,
         })
     }
 
@@ -53,6 +56,7 @@ impl AreaSet {
             Area::Log => self.log.as_slice(),
             Area::Home => self.home.as_slice(),
             Area::Journal => self.journal.as_slice(),
+            Area::Second => self.second.as_slice(),
         }
     }
 
@@ -64,6 +68,7 @@ impl AreaSet {
             Area::Log => self.log.write(at, bytes),
             Area::Home => self.home.write(at, bytes),
             Area::Journal => self.journal.write(at, bytes),
+            Area::Second => self.second.write(at, bytes),
         }
     }
 
@@ -74,6 +79,7 @@ impl AreaSet {
             Area::Log => self.log.cut(length),
             Area::Home => self.home.cut(length),
             Area::Journal => self.journal.cut(length),
+            Area::Second => self.second.cut(length),
         }
     }
 }

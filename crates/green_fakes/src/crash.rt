@@ -1,7 +1,8 @@
 //! What a crash leaves of a disk in memory.
 ghost use Rattle.std.specs.Prelude.{◌≡◌, ◌≤◌, [], None, length, min, take, reverse, IfOk};
-ghost use Rattle.green_fakes.specs.DiskView.{areas_after};
-ghost use Rattle.green_fakes.specs.DiskImages.{IsImage, synced_areas, changes_until, state_of};
+ghost use Rattle.green_io.specs.Areas.{area_of};
+ghost use Rattle.green_fakes.specs.DiskView.{bytes_after, areas_after};
+ghost use Rattle.green_fakes.specs.DiskImages.{IsLeft, IsImage, synced_after, synced_areas, changes_until, state_of};
 
 use crate::area_set::AreaSet;
 use crate::change::Change;
@@ -65,24 +66,36 @@ fn crash_areas(
     areas_left(alloc, first, changes, Some(Generator::new(pick)))
 }
 
+// The changes of one area.
+fn replay(
+    alloc: Global,
+    first: &AreaSet,
+    changes: &[Change],
+    area: Area,
+    generator: &mut Option<Generator>,
+) -> Result<Replay, Memory>
+    ensures reads { IfOk result (λ replay. replay.reads ≡ bytes_after area (area_of area first.now) (reverse changes.now)) }
+    ensures left { IfOk result (λ replay. IsLeft area (area_of area first.now) (reverse changes.now) replay.left) }
+    ensures synced { generator.old ≡ None → IfOk result (λ replay. replay.left ≡ synced_after area (area_of area first.now) (reverse changes.now)) }
+    ensures none { generator.old ≡ None → generator.new ≡ None }
+{
+    Replay::of(alloc, first.of(area), changes, area, generator)
+}
+
 fn areas_as_read(alloc: Global, first: &AreaSet, changes: &[Change]) -> Result<AreaSet, Memory>
     ensures image { IfOk result (λ areas. IsImage first.now (reverse changes.now) areas) }
     ensures reads { IfOk result (λ areas. areas ≡ areas_after first.now (reverse changes.now)) }
 {
     let mut none = None;
-    let log = Replay::of(alloc, first.of(Area::Log), changes, Area::Log, &mut none)?;
-    let home = Replay::of(alloc, first.of(Area::Home), changes, Area::Home, &mut none)?;
-    let journal = Replay::of(
-        alloc,
-        first.of(Area::Journal),
-        changes,
-        Area::Journal,
-        &mut none,
-    )?;
+    let log = replay(alloc, first, changes, Area::Log, &mut none)?;
+    let home = replay(alloc, first, changes, Area::Home, &mut none)?;
+    let journal = replay(alloc, first, changes, Area::Journal, &mut none)?;
+    let second = replay(alloc, first, changes, Area::Second, &mut none)?;
     Ok(AreaSet {
         log: log.reads,
         home: home.reads,
         journal: journal.reads,
+        second: second.reads,
     })
 }
 
@@ -96,30 +109,14 @@ fn areas_left(
     ensures synced { generator ≡ None → IfOk result (λ areas. areas ≡ synced_areas first.now (reverse changes.now)) }
 {
     let mut generator = generator;
-    let log = Replay::of(
-        alloc,
-        first.of(Area::Log),
-        changes,
-        Area::Log,
-        &mut generator,
-    )?;
-    let home = Replay::of(
-        alloc,
-        first.of(Area::Home),
-        changes,
-        Area::Home,
-        &mut generator,
-    )?;
-    let journal = Replay::of(
-        alloc,
-        first.of(Area::Journal),
-        changes,
-        Area::Journal,
-        &mut generator,
-    )?;
+    let log = replay(alloc, first, changes, Area::Log, &mut generator)?;
+    let home = replay(alloc, first, changes, Area::Home, &mut generator)?;
+    let journal = replay(alloc, first, changes, Area::Journal, &mut generator)?;
+    let second = replay(alloc, first, changes, Area::Second, &mut generator)?;
     Ok(AreaSet {
         log: log.left,
         home: home.left,
         journal: journal.left,
+        second: second.left,
     })
 }

@@ -47,7 +47,7 @@ impl MemoryDisk {
     /// A disk with empty areas, whose calls fail by `failing`, a list of numbers of calls. The first call has the
     /// number 1.
     pub fn new(alloc: Global, failing: List<u64>) -> MemoryDisk
-        ensures { result ≡ record { first = record { log = []; home = []; journal = [] }; changes = []; calls = 0; failing = failing.items; faults = 0; shortages = 0 } }
+        ensures { result ≡ record { first = record { log = []; home = []; journal = []; second = [] }; changes = []; calls = 0; failing = failing.items; faults = 0; shortages = 0 } }
     {
         MemoryDisk {
             alloc,

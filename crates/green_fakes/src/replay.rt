@@ -26,6 +26,7 @@ fn is_same(one: Area, other: Area) -> bool
         Area::Log => other == Area::Log,
         Area::Home => other == Area::Home,
         Area::Journal => other == Area::Journal,
+        Area::Second => other == Area::Second,
     }
 }
 

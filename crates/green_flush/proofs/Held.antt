@@ -1,7 +1,7 @@
 -- What loading gives of what the pages may hold while a save is made.
 use Rattle.std.proofs.Common.{◌≡◌, ◌⊎◌, ℕ, Bool, true, false, List, Option, Some, None, is_some, refl, sym, ap, ◌∙◌, subst, inl, inr, take, length}
 use Rattle.std.specs.Prelude.{Result, Ok, Err, OnErr}
-use Rattle.green_io.specs.Areas.{Areas, is_log}
+use Rattle.green_io.specs.Areas.{Areas, is_logged}
 use Rattle.green_io.specs.Disk.{DiskState, IsDisk, LeavesOnly, LeavesBut, images_now}
 use Rattle.page_journal.specs.JournalBytes.{opened}
 use Rattle.page_journal.specs.Pages.{Bytes, Pages}
@@ -180,7 +180,7 @@ resting-loads disk flush was now stands image is = elim (resting-gives disk flus
   | inr after ↦ inr (loads stands.to now stands.is (opened image) after)
 ]
 
-pub log-stays : (old new : DiskState) (flush : FlushView) (was now : Option TreesAt) → IsDisk new → LeavesBut is_log old new → StandsOn old flush was now → StandsOn new flush was now
+pub log-stays : (old new : DiskState) (flush : FlushView) (was now : Option TreesAt) → IsDisk new → LeavesBut is_logged old new → StandsOn old flush was now → StandsOn new flush was now
 log-stays old new flush was now disk leaves stands = record {
   from = stands.from;
   to = stands.to;

@@ -8,7 +8,7 @@ use Rattle.page_trees.specs.declared.trees.PageTrees.{PageTrees}
 use Rattle.page_trees.proofs.Held.{one_streams}
 use Rattle.green_flush.specs.declared.owned.Owned.{Owned}
 use Rattle.green_flush.specs.inside.Owning.{plain_owned, AreOwned}
-use Rattle.green_io.specs.Areas.{Areas, is_log}
+use Rattle.green_io.specs.Areas.{Areas, is_logged}
 use Rattle.green_io.specs.Disk.{DiskState, IsDisk, LeavesOnly, LeavesBut, Nothing, WhereTold, images_now}
 use Rattle.green_io.proofs.Beside.{looked_others}
 use Rattle.green_io.proofs.Crash.{then_nothing}
@@ -95,10 +95,10 @@ over-loaded chains position journal flush (Some loaded) over = (over.plain, reco
 
 -- ---- the disk
 
-reading-leaves : (old new : DiskState) → new.reads ≡ old.reads → LeavesOnly old new Nothing → LeavesBut is_log old new
-reading-leaves old new same leaves = looked_others is_log old new same leaves
+reading-leaves : (old new : DiskState) → new.reads ≡ old.reads → LeavesOnly old new Nothing → LeavesBut is_logged old new
+reading-leaves old new same leaves = looked_others is_logged old new same leaves
 
-moved : (found : Pages) (old new : DiskState) (flush : FlushView) (loaded : Option (Trees × ℕ)) → IsDisk new → LeavesBut is_log old new → IsOpened found old flush loaded → IsOpened found new flush loaded
+moved : (found : Pages) (old new : DiskState) (flush : FlushView) (loaded : Option (Trees × ℕ)) → IsDisk new → LeavesBut is_logged old new → IsOpened found old flush loaded → IsOpened found new flush loaded
 moved found old new flush loaded disk leaves opened_there = record {
   now = opened_there.now;
   are = opened_there.are;

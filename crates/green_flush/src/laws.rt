@@ -1,6 +1,6 @@
 //! Laws of how a flush stands to the disk. Each is a function that does nothing, whose contract says the law.
 ghost use Rattle.std.specs.Prelude.{◌⊎◌, Option as OptionOf};
-ghost use Rattle.green_io.specs.Areas.{Areas, is_log};
+ghost use Rattle.green_io.specs.Areas.{Areas, is_logged};
 ghost use Rattle.green_io.specs.Disk.{LeavesBut, images_now};
 ghost use Rattle.page_journal.specs.JournalBytes.{opened};
 ghost use Rattle.green_flush.specs.Loads.{TreesAt, Loads};
@@ -16,7 +16,7 @@ pub fn each_image_loads<D: Disk>(disk: &D, flush: &Flush)
 
 /// Calls on the log alone leave a flush standing as it does.
 pub fn log_calls_stay<D: Disk>(old: &D, new: &D, flush: &Flush)
-    ensures { (was now : OptionOf TreesAt) → LeavesBut is_log (D.state old.now) (D.state new.now) → StandsOn (D.state old.now) flush.now was now → StandsOn (D.state new.now) flush.now was now }
+    ensures { (was now : OptionOf TreesAt) → LeavesBut is_logged (D.state old.now) (D.state new.now) → StandsOn (D.state old.now) flush.now was now → StandsOn (D.state new.now) flush.now was now }
 {}
 
 /// So does renewing it.

@@ -1,7 +1,7 @@
 -- What calls on some areas leave of the others.
 use Rattle.std.proofs.Common.{◌≡◌, inr, ⊎_elim, ℕ, Bool, true, false, List, Option, None, Some, refl, sym, ◌∙◌, ap, subst, arith}
 use Rattle.green_io.specs.declared.disk.Area.{Area}
-use Rattle.green_io.specs.declared.disk.Area.TheVariants.{Log, Home, Journal}
+use Rattle.green_io.specs.declared.disk.Area.TheVariants.{Log, Home, Journal, Second}
 use Rattle.green_io.specs.Areas.{Areas, is_same, IsSameBut}
 use Rattle.green_io.specs.Disk.{DiskState, IsDisk, Changes, LeftBy, Nothing, LeavesOnly, ReadsAsBut, IsAsBut, LeavesBut, images_now}
 use Rattle.green_io.proofs.Crash.{weaker, then_nothing, nothing_new, none_called, now_has}
@@ -110,12 +110,19 @@ same_area : (area other : Area) → is_same area other ≡ true → area ≡ oth
 same_area Log Log same = refl
 same_area Log Home same = absurd (cc same)
 same_area Log Journal same = absurd (cc same)
+same_area Log Second same = absurd (cc same)
 same_area Home Log same = absurd (cc same)
 same_area Home Home same = refl
 same_area Home Journal same = absurd (cc same)
+same_area Home Second same = absurd (cc same)
 same_area Journal Log same = absurd (cc same)
 same_area Journal Home same = absurd (cc same)
 same_area Journal Journal same = refl
+same_area Journal Second same = absurd (cc same)
+same_area Second Log same = absurd (cc same)
+same_area Second Home same = absurd (cc same)
+same_area Second Journal same = absurd (cc same)
+same_area Second Second same = refl
 
 -- calls on one area, where that one and more may be touched
 pub area_others : (area : Area) (more : Area → Bool) (a b : DiskState) → more area ≡ true → LeavesBut (is_same area) a b → LeavesBut more a b

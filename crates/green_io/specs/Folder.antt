@@ -13,3 +13,4 @@ pub record LieIn (folder : List ℕ) (paths : Paths) : Type 0 where
   pub log : paths.log.bytes.items ≡ folder ++ codes "/log"
   pub home : paths.home.bytes.items ≡ folder ++ codes "/home"
   pub journal : paths.journal.bytes.items ≡ folder ++ codes "/journal"
+  pub second : paths.second.bytes.items ≡ folder ++ codes "/log2"

@@ -1,4 +1,5 @@
 pub mod Areas
+pub mod Clock
 pub mod Disk
 pub mod Folder
 pub mod Outside

@@ -9,12 +9,14 @@ use crate::source::ReadAnswer;
 /// A part of a disk with bytes and a length of its own.
 #[derive(Clone, Copy, Debug, PartialEq, Eq)]
 pub enum Area {
-    /// The log of edits.
+    /// The log of edits as it was kept before each had its moment.
     Log,
     /// The pages.
     Home,
     /// Pages on their way to [`Area::Home`].
     Journal,
+    /// The log of edits, each with its moment.
+    Second,
 }
 
 /// A call of a disk failed. The disk has counted a fault.

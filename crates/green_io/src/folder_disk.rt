@@ -13,7 +13,7 @@ use std::marker::Model;
 use std::os::unix::fs::FileExt;
 use tumbler::Memory;
 
-/// A disk whose areas are the files `log`, `home` and `journal` of a folder. It tells nothing of what they hold.
+/// A disk whose areas are the files `log`, `home`, `journal` and `log2` of a folder. It tells nothing of what they hold.
 ///
 /// The folder has to exist. Its files are opened at the first call, and those that are missing are made empty.
 ///

@@ -15,6 +15,7 @@ pub struct Paths {
     pub log: String,
     pub home: String,
     pub journal: String,
+    pub second: String,
 }
 
 impl Paths {
@@ -26,6 +27,7 @@ impl Paths {
             log: joined(alloc, folder, "/log")?,
             home: joined(alloc, folder, "/home")?,
             journal: joined(alloc, folder, "/journal")?,
+            second: joined(alloc, folder, "/log2")?,
         })
     }
 }
@@ -44,6 +46,7 @@ struct AreaFiles {
     log: File,
     home: File,
     journal: File,
+    second: File,
 }
 
 impl AreaFiles {
@@ -58,6 +61,7 @@ impl AreaFiles {
             log,
             home: open_or_make(rt, paths.home.as_str())?,
             journal: open_or_make(rt, paths.journal.as_str())?,
+            second: open_or_make(rt, paths.second.as_str())?,
         };
         File::open(rt, paths.folder.as_str())?.sync_all()?;
         Ok(files)
@@ -68,6 +72,7 @@ impl AreaFiles {
             Area::Log => &self.log,
             Area::Home => &self.home,
             Area::Journal => &self.journal,
+            Area::Second => &self.second,
         }
     }
 }

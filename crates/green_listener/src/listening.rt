@@ -5,6 +5,7 @@ ghost use Rattle.history_lock.specs.Histories.{StartsWith};
 ghost use Rattle.history_lock.specs.Passes.{known, IsPassOf};
 ghost use Rattle.green_listener.specs.Listened.{HasListened};
 
+use crate::clocks::MakeClock;
 use crate::connections::Connections;
 use crate::rounds::{ENDED, SERVING, start_rounds};
 use crate::sessions::Sessions;
@@ -31,7 +32,11 @@ struct Service {
 }
 
 // Serves the connections, with a round behind each session where no thread makes them.
-fn serve_connections<R: Threads + Wait + Log + Sync, D: Disk + Send + Sync, G: Gate + Sync>(
+fn serve_connections<
+    R: Threads + Wait + MakeClock + Log + Sync,
+    D: Disk + Send + Sync,
+    G: Gate + Sync,
+>(
     rt: &R,
     alloc: Global,
     service: Service,
@@ -49,10 +54,7 @@ fn serve_connections<R: Threads + Wait + Log + Sync, D: Disk + Send + Sync, G: G
         workers,
     } = service;
     let mut connections = Connections::new(listener, sessions);
-    let worker = Sessions {
-        log: rt,
-        makes_rounds,
-    };
+    let worker = Sessions { rt, makes_rounds };
     let tally = run_pool(
         rt,
         alloc,
@@ -69,10 +71,14 @@ fn serve_connections<R: Threads + Wait + Log + Sync, D: Disk + Send + Sync, G: G
 /// Accepts connections and serves a session on each, in as many threads as could be started of those that are asked for. It
 /// returns after the stated number of sessions, or where a thousand connections in a row could not be accepted, once every
 /// session that was begun is over, and answers how many connections it served. Each session's end is logged in a line, as
-/// `session 3 ended`; where no session began the number is 0.
+/// `session 3 ended`; where no session began the number is 0. Each session has a clock of its own.
 ///
 /// It makes no background rounds.
-pub fn serve_listener<R: Threads + Wait + Log + Sync, D: Disk + Send + Sync, G: Gate + Sync>(
+pub fn serve_listener<
+    R: Threads + Wait + MakeClock + Log + Sync,
+    D: Disk + Send + Sync,
+    G: Gate + Sync,
+>(
     rt: &R,
     alloc: Global,
     listener: TcpListener,
@@ -103,7 +109,7 @@ struct Served<P> {
 // Serves the connections in a scope, beside a thread that makes rounds with the other pass.
 fn serve_beside_rounds<
     'a,
-    R: Threads + Wait + Clock + Log + Sync,
+    R: Threads + Wait + Clock + MakeClock + Log + Sync,
     D: Disk + Send + Sync,
     G: Gate + Sync,
 >(
@@ -141,7 +147,7 @@ fn serve_beside_rounds<
 /// Serves a listener as [`serve_listener`] does, beside a thread that makes background rounds until the sessions have ended.
 /// Where that thread could not be started, a round follows each session.
 pub fn serve_with_rounds<
-    R: Threads + Wait + Clock + Log + Sync,
+    R: Threads + Wait + Clock + MakeClock + Log + Sync,
     D: Disk + Send + Sync,
     G: Gate + Sync,
 >(

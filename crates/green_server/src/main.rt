@@ -8,7 +8,7 @@ mod refusal;
 
 use febe_data::Limits;
 use green_io::FolderDisk;
-use green_listener::serve_with_rounds;
+use green_listener::{MakeClock, serve_with_rounds};
 use green_store::{Housed, OpenFault, Store};
 use history_lock::HistoryLock;
 use lines::ErrorLines;
@@ -74,7 +74,7 @@ fn are_all(served: u64, sessions: Option<u32>) -> bool
 }
 
 /// Opens the store, listens, and serves until the server is done.
-fn serve<R: Threads + Wait + Clock + Log + Sync>(
+fn serve<R: Threads + Wait + Clock + MakeClock + Log + Sync>(
     rt: HostRuntime,
     runtime: &R,
     words: &ServerWords,
@@ -107,7 +107,7 @@ fn serve<R: Threads + Wait + Clock + Log + Sync>(
 }
 
 /// Reads the words and serves as they ask.
-fn run<R: Threads + Wait + Clock + Log + Sync>(
+fn run<R: Threads + Wait + Clock + MakeClock + Log + Sync>(
     rt: HostRuntime,
     runtime: &R,
 ) -> Result<(), Refusal> {

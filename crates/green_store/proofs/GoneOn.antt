@@ -13,7 +13,6 @@ use Rattle.world_rules.proofs.Folded.{folds_to_world}
 use Rattle.entry_fits.specs.Fits.{Fits, AllFit}
 use Rattle.entry_fits.specs.Greatest.{AreSerialsOf}
 use Rattle.entry_fits.specs.Laws.{OneMoreFits, FittingAreKept, FittingBegin, IsRegular}
-use Rattle.edit_log.specs.Images.{AreEntries}
 use Rattle.world_rules.specs.History.{durable_entries, restart_entry}
 use Rattle.tree_world.specs.Condition.{Condition}
 use Rattle.tree_world.specs.Nodes.{WorldNodes, AllGrown}
@@ -26,12 +25,13 @@ use Rattle.green_store.specs.declared.opening.Retold.{Retold}
 use Rattle.green_store.specs.declared.opening.Retold.TheVariants as retold
 use Rattle.green_store.specs.declared.opening.Rebuilt.{Rebuilt}
 use Rattle.green_store.specs.declared.opening.Rebuilt.TheVariants as rebuilt
-use Rattle.green_store.specs.Opening.{StandAt, IsFlushedAt}
-use Rattle.green_store.specs.Replayed.{IsUnfitFrom, AreTold, IsRetold, IsRebuilt, AreTreesAt, GoesOn, IsAfresh, MayHaveGoneOn, came_to, IsSameOrRenewed}
+use Rattle.green_store.specs.Opening.{IsUnfitFrom, StandAt, IsFlushedAt}
+use Rattle.green_store.specs.Replayed.{AreTold, IsRetold, IsRebuilt, AreTreesAt, GoesOn, IsAfresh, MayHaveGoneOn, came_to, IsSameOrRenewed}
 use Rattle.green_store.specs.StoreView.{StoreView}
 use Rattle.green_store.specs.IsStore.{IsStore}
 use Rattle.green_store.specs.Sessions.{greatest_session}
 use Rattle.green_store.proofs.Histories.{view_of-push, is_live-push, greatest-push, plain_history-push}
+use Rattle.green_store.proofs.Moments.{AreTimed}
 use Rattle.green_store.proofs.Regulars.{kept_other}
 
 pub if_ok : {A E : Type 0} (r : Result A E) (P Q : A → Type 0) → ((a : A) → P a → Q a) → IfOk r P → IfOk r Q
@@ -218,17 +218,18 @@ same_or_renewed goes_on flush after last same renewed is = subst (IsSameOrRenewe
     by true stays anew = inl (stays refl)
 
 -- no session is live in it
-pub first_is_store : FittingAreKept → FittingBegin → (items more : List Entry) (restart : Entry) (room : ℕ) (stands : FlatView → Type 0) (live : List ℕ) (greatest flushed : ℕ) → more ≡ items ++ restart ∷ [] → plain_entry restart ≡ restart_entry
-    → stands (after_entry (view_of (plain_history items)) restart_entry) → AreEntries (plain_history items) → live ≡ [] → greatest ≡ greatest_session (plain_history items) → flushed ≤ length (plain_history items)
-    → IsStore (plain_history more) room stands live greatest flushed
-first_is_store kept begin items more restart room stands live greatest flushed grows is stood are none counted within =
-    subst (λ (es : List PlainEntry). IsStore es room stands live greatest flushed) (sym history) (subst (λ (l : List ℕ). IsStore (plain_history items ++ restart_entry ∷ []) room stands l greatest flushed) (sym none) record {
-      world_stands = subst stands (sym (view_of-push (plain_history items) restart_entry)) stood;
+pub first_is_store : FittingAreKept → FittingBegin → (items more : List Entry) (moments : List ℕ) (restart : Entry) (room : ℕ) (stands : FlatView → Type 0) (live : List ℕ) (greatest flushed : ℕ) → more ≡ items ++ restart ∷ [] → plain_entry restart ≡ restart_entry
+    → stands (after_entry (view_of (plain_history items)) (plain_entry restart)) → AllFit [] (plain_history items) → AreTimed (plain_history items) moments → live ≡ [] → greatest ≡ greatest_session (plain_history items) → flushed ≤ length (plain_history items)
+    → IsStore (plain_history more) moments room stands live greatest flushed
+first_is_store kept begin items more moments restart room stands live greatest flushed grows is stood fit are none counted within =
+    subst (λ (es : List PlainEntry). IsStore es moments room stands live greatest flushed) (sym history) (subst (λ (l : List ℕ). IsStore (plain_history items ++ restart_entry ∷ []) moments room stands l greatest flushed) (sym none) record {
+      world_stands = subst stands (sym (view_of-push (plain_history items) restart_entry)) (subst (λ (e : PlainEntry). stands (after_entry (view_of (plain_history items)) e)) is stood);
       live_are = λ session. sym (is_live-push (plain_history items) restart_entry session);
       greatest_is = omega (arith, counted, greatest-push (plain_history items) restart_entry);
       room_kept = omega arith;
-      regular = subst (λ (es : List PlainEntry). IsRegular (es ++ restart_entry ∷ [])) (kept (plain_history items) are.fit) (begin (plain_history items) are.fit);
-      entries = subst AreEntries (sym durable) are;
+      regular = subst (λ (es : List PlainEntry). IsRegular (es ++ restart_entry ∷ [])) (kept (plain_history items) fit) (begin (plain_history items) fit);
+      timed_all = timed.0;
+      entries = timed.1;
       saved = subst (λ (es : List PlainEntry). flushed ≤ length es) (sym durable) within;
     })
   where
@@ -236,4 +237,7 @@ first_is_store kept begin items more restart room stands live greatest flushed g
     history = ap plain_history grows ∙ plain_history-push items restart ∙ ap (λ (e : PlainEntry). plain_history items ++ e ∷ []) is
 
     durable : durable_entries (plain_history items ++ restart_entry ∷ []) ≡ plain_history items
-    durable = kept_other (plain_history items) restart_entry refl ∙ kept (plain_history items) are.fit
+    durable = kept_other (plain_history items) restart_entry refl ∙ kept (plain_history items) fit
+
+    timed : AreTimed (durable_entries (plain_history items ++ restart_entry ∷ [])) moments
+    timed = subst (λ (es : List PlainEntry). AreTimed es moments) (sym durable) are

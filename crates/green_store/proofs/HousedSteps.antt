@@ -14,10 +14,10 @@ use Rattle.green_store.specs.declared.step.Step.TheVariants as steps
 use Rattle.green_store.specs.declared.step.StepAnswer.{StepAnswer}
 use Rattle.green_store.specs.declared.step.StepAnswer.TheVariants as answers
 use Rattle.green_store.specs.Durable.{has_risen}
-use Rattle.green_store.specs.HousePlays.{step_for, number_after, HousePlays, PlaysReply}
+use Rattle.green_store.specs.HousePlays.{step_for, number_after, ComesTo, PlaysReply}
 use Rattle.green_store.specs.IsStep.{IsStep, IsBegun, IsReplied, MayBalance, MayFlush, MaySweep, IsFlushed, unsaved, UnlessTended, OnTended}
 use Rattle.green_store.specs.Laws.{AddsOwn}
-use Rattle.green_store.specs.Marks.{owner_of, numbers_of, marks_of, due_in}
+use Rattle.green_store.specs.Marks.{owner_of, numbers_of, marks_of, due_in, but_last}
 use Rattle.green_store.specs.Sessions.{begin_entry, end_entry}
 use Rattle.green_store.specs.StoreView.{StoreView}
 use Rattle.green_store.proofs.Owners.{legal_steps_add_own, next_has_none}
@@ -55,25 +55,25 @@ is_within m n le = grind (arith, nat_tests)
 is_beyond : (m n : ℕ) → n < m → nat_le m n ≡ false
 is_beyond m n lt = grind (arith, nat_tests)
 
-module _ (store : StoreView) (faults : ℕ) where
-  may_balance : MayBalance store → due_in (marks_of faults store) ≡ 1
+module _ (store : StoreView) (faults last : ℕ) where
+  may_balance : MayBalance store → due_in (marks_of faults store last) ≡ 1
   unfolding due_number
   may_balance may = due_where store.trees.allows (nat_le store.limits.flush (unsaved store)) (nat_lt (2 * store.base + 1024) store.trees.nodes) (inl may)
 
-  may_flush : MayFlush store → due_in (marks_of faults store) ≡ 1
+  may_flush : MayFlush store → due_in (marks_of faults store last) ≡ 1
   unfolding due_number
   may_flush may = due_where store.trees.allows (nat_le store.limits.flush (unsaved store)) (nat_lt (2 * store.base + 1024) store.trees.nodes) (inr (inl (is_within _ _ may.many)))
 
-  may_sweep : MaySweep store → due_in (marks_of faults store) ≡ 1
+  may_sweep : MaySweep store → due_in (marks_of faults store last) ≡ 1
   unfolding due_number
   may_sweep may = due_where store.trees.allows (nat_le store.limits.flush (unsaved store)) (nat_lt (2 * store.base + 1024) store.trees.nodes) (inr (inr (is_more _ _ may.many)))
 
-  may_either : MayBalance store ⊎ MayFlush store ⊎ MaySweep store → due_in (marks_of faults store) ≡ 1
+  may_either : MayBalance store ⊎ MayFlush store ⊎ MaySweep store → due_in (marks_of faults store last) ≡ 1
   may_either (inl may) = may_balance may
   may_either (inr (inl may)) = may_flush may
   may_either (inr (inr may)) = may_sweep may
 
-  nothing_due : store.trees.allows ≡ false → unsaved store < store.limits.flush → store.trees.nodes ≤ 2 * store.base + 1024 → due_in (marks_of faults store) ≡ 0
+  nothing_due : store.trees.allows ≡ false → unsaved store < store.limits.flush → store.trees.nodes ≤ 2 * store.base + 1024 → due_in (marks_of faults store last) ≡ 0
   unfolding due_number
   nothing_due allows saved few = none_where store.trees.allows (nat_le store.limits.flush (unsaved store)) (nat_lt (2 * store.base + 1024) store.trees.nodes) allows (is_beyond _ _ saved) (is_no_more _ _ few)
 
@@ -104,26 +104,27 @@ replied before after number request reply point rose r = record {
 same : (before after : StoreView) → after ≡ before → after.history ≡ before.history
 same before after stays = ap (λ (v : StoreView). v.history) stays
 
-as_they_were : (before after : StoreView) (old new : ℕ) → new ≡ old → after ≡ before → marks_of new after ≡ marks_of old before
-as_they_were before after old new faults stays = ap (λ (v : StoreView). marks_of new v) stays ∙ ap (λ (n : ℕ). marks_of n before) faults
+-- the marks of the store are as they were, whatever the last is
+as_they_were : (before after : StoreView) (old new was last : ℕ) → new ≡ old → after ≡ before → but_last (marks_of new after last) ≡ but_last (marks_of old before was)
+as_they_were before after old new was last faults stays = ap (λ (v : StoreView). but_last (marks_of new v last)) stays ∙ ap (λ (n : ℕ). but_last (marks_of n before last)) faults
 
-pub step_plays : (before after : StoreView) (old new : ℕ) (number : ℕ) (job : HouseJob) (answer : StepAnswer) → (job ≡ jobs.Begin → number ≡ 0) → OnTended (step_for number job) (unsaved before < before.limits.flush → new ≡ old)
+pub step_plays : (before after : StoreView) (old new was last : ℕ) (number : ℕ) (job : HouseJob) (answer : StepAnswer) → (job ≡ jobs.Begin → number ≡ 0) → OnTended (step_for number job) (unsaved before < before.limits.flush → new ≡ old)
     → IsStep before (step_for number job) after answer (has_risen old new)
-    → HousePlays (numbers_of before.limits) before.history number job answer (number_after number answer) after.history (marks_of old before) (marks_of new after)
-step_plays before after old new number jobs.Begin (answers.Begun session) none alone step = record { was_none = none refl; session_is = step.number_is; has_number = omega (arith, step.has_number, step.number_is); number_is = refl; grows = ap (λ (v : StoreView). v.history) step.grows }
-step_plays before after old new number jobs.Begin answers.NoNumber none alone step = record { was_none = none refl; last_taken = step.last_taken; stays = record { number_stays = refl; history_stays = same before after step.stays } }
-step_plays before after old new number jobs.Begin answers.Memory none alone step = record { was_none = none refl; has_number = step.has_number; stays = record { number_stays = refl; history_stays = same before after step.stays } }
-step_plays before after old new number (jobs.Ask request) (answers.Reply reply point) none alone step = replied before after number (plain_request request) (plain_reply reply) point (has_risen old new) step
-step_plays before after old new number (jobs.Ask request) answers.NoSession none alone step = record { not_live = step.not_live; stays = record { number_stays = refl; history_stays = same before after step.stays } }
-step_plays before after old new number jobs.End answers.Ended none alone step = record { live = step.live; number_stays = refl; grows = ap (λ (v : StoreView). v.history) step.grows }
-step_plays before after old new number jobs.End answers.NoSession none alone step = record { not_live = step.not_live; stays = record { number_stays = refl; history_stays = same before after step.stays } }
-step_plays before after old new number jobs.Background answers.Balanced none alone step = (record { number_stays = refl; history_stays = step.still.history }, record { due = may_balance before old step.may; lowers = step.lowers })
-step_plays before after old new number jobs.Background answers.Flushed none alone step = (record { number_stays = refl; history_stays = ap (λ (v : StoreView). v.history) step.still }, record { due = may_flush before old step.may; saved = none_unsaved before after step })
-step_plays before after old new number jobs.Background answers.Disk none alone step = (record { number_stays = refl; history_stays = ap (λ (v : StoreView). v.history) step.still }, record { due = may_flush before old step.may; failed = step.failed; stays = ap (λ (v : StoreView). drop 1 (marks_of new v)) step.still })
-step_plays before after old new number jobs.Background answers.Swept none alone step = (record { number_stays = refl; history_stays = step.still.history }, record { due = may_sweep before old step.may; reached = step.none_left })
-step_plays before after old new number jobs.Background answers.Idle none alone step = (record { number_stays = refl; history_stays = same before after step.stays }, record { none_due = nothing_due before old step.balanced step.saved step.few; stays = as_they_were before after old new (alone step.saved) step.stays })
-step_plays before after old new number jobs.Background answers.Memory none alone step = (record { number_stays = refl; history_stays = ap (λ (v : StoreView). v.history) step.still }, record { due = may_either before old step.may; stays = ap (λ (v : StoreView). drop 1 (marks_of new v)) step.still; no_fault = λ few. as_they_were before after old new (alone few) (step.stays few) })
-step_plays before after old new number job answer none alone step = absurd step
+    → ComesTo (numbers_of before.limits) before.history number job answer (number_after number answer) after.history (marks_of old before was) (marks_of new after last)
+step_plays before after old new was last number jobs.Begin (answers.Begun session) none alone step = record { was_none = none refl; session_is = step.number_is; has_number = omega (arith, step.has_number, step.number_is); number_is = refl; grows = ap (λ (v : StoreView). v.history) step.grows }
+step_plays before after old new was last number jobs.Begin answers.NoNumber none alone step = record { was_none = none refl; last_taken = step.last_taken; stays = record { number_stays = refl; history_stays = same before after step.stays } }
+step_plays before after old new was last number jobs.Begin answers.Memory none alone step = record { was_none = none refl; has_number = step.has_number; stays = record { number_stays = refl; history_stays = same before after step.stays } }
+step_plays before after old new was last number (jobs.Ask request) (answers.Reply reply point) none alone step = replied before after number (plain_request request) (plain_reply reply) point (has_risen old new) step
+step_plays before after old new was last number (jobs.Ask request) answers.NoSession none alone step = record { not_live = step.not_live; stays = record { number_stays = refl; history_stays = same before after step.stays } }
+step_plays before after old new was last number jobs.End answers.Ended none alone step = record { live = step.live; number_stays = refl; grows = ap (λ (v : StoreView). v.history) step.grows }
+step_plays before after old new was last number jobs.End answers.NoSession none alone step = record { not_live = step.not_live; stays = record { number_stays = refl; history_stays = same before after step.stays } }
+step_plays before after old new was last number jobs.Background answers.Balanced none alone step = (record { number_stays = refl; history_stays = step.still.history }, record { due = may_balance before old was step.may; lowers = step.lowers })
+step_plays before after old new was last number jobs.Background answers.Flushed none alone step = (record { number_stays = refl; history_stays = ap (λ (v : StoreView). v.history) step.still }, record { due = may_flush before old was step.may; saved = none_unsaved before after step })
+step_plays before after old new was last number jobs.Background answers.Disk none alone step = (record { number_stays = refl; history_stays = ap (λ (v : StoreView). v.history) step.still }, record { due = may_flush before old was step.may; failed = step.failed; stays = ap (λ (v : StoreView). drop 1 (but_last (marks_of new v last))) step.still })
+step_plays before after old new was last number jobs.Background answers.Swept none alone step = (record { number_stays = refl; history_stays = step.still.history }, record { due = may_sweep before old was step.may; reached = step.none_left })
+step_plays before after old new was last number jobs.Background answers.Idle none alone step = (record { number_stays = refl; history_stays = same before after step.stays }, record { none_due = nothing_due before old was step.balanced step.saved step.few; stays = as_they_were before after old new was last (alone step.saved) step.stays })
+step_plays before after old new was last number jobs.Background answers.Memory none alone step = (record { number_stays = refl; history_stays = ap (λ (v : StoreView). v.history) step.still }, record { due = may_either before old was step.may; stays = ap (λ (v : StoreView). drop 1 (but_last (marks_of new v last))) step.still; no_fault = λ few. as_they_were before after old new was last (alone few) (step.stays few) })
+step_plays before after old new was last number job answer none alone step = absurd step
 
 -- what holds of a background step follows from what does
 pub on_tended : {P Q : Type 0} → (step : Step) → (P → Q) → OnTended step P → OnTended step Q

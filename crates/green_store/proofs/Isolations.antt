@@ -1,6 +1,5 @@
 -- A step's reply to a query rests on what the session may read alone.
 use Rattle.std.proofs.Common.{ℕ, Bool, inl, inr}
-use Rattle.febe_data.specs.declared.reply.Reply.{Reply}
 use Rattle.febe_data.specs.Plain.{PlainRequest, PlainReply, plain_request, plain_reply}
 use Rattle.world_rules.specs.Isolated.{IsIsolated}
 use Rattle.world_laws.proofs.Isolated.{legal_steps_isolate}

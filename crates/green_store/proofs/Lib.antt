@@ -1,5 +1,6 @@
 pub mod Mended
 pub mod Histories
+pub mod Rows
 pub mod Openings
 pub mod Reopened
 pub mod GoneOn
@@ -10,6 +11,7 @@ pub mod Legals
 pub mod Isolations
 pub mod Places
 pub mod Regulars
+pub mod Moments
 pub mod Accepting
 pub mod Edits
 pub mod Quiet

@@ -1,6 +1,6 @@
 -- What stands in the log after a mend and an append, whether an edit was pending before them or not.
 use Rattle.std.proofs.Common.{◌≡◌, ◌≢◌, ◌⊎◌, inl, inr, ℕ, List, Option, None, Some, refl, subst, sym}
-use Rattle.febe_data.specs.Plain.{PlainEntry}
+use Rattle.entry_codec.specs.Logged.{PlainLogged}
 use Rattle.green_io.specs.Areas.{Areas}
 use Rattle.green_io.specs.Disk.{DiskState, LeavesOnly}
 use Rattle.green_io.proofs.Crash.{weaker, same, none_called}
@@ -15,44 +15,44 @@ use Rattle.green_store.specs.Durable.{LogHas, HoldsWith, IsThat}
 use Rattle.green_store.specs.inside.{PendsOneOf}
 
 -- the pending edit, or this one
-abbrev ThatOr : Option PlainEntry → PlainEntry → PlainEntry → Type 0
-ThatOr pending entry other = IsThat pending other ⊎ (other ≡ entry)
+abbrev ThatOr : Option PlainLogged → PlainLogged → PlainLogged → Type 0
+ThatOr pending row other = IsThat pending other ⊎ (other ≡ row)
 
-abbrev Holds : List PlainEntry → Option PlainEntry → PlainEntry → Areas → Type 0
-Holds entries pending entry image = HoldsWith entries (λ other. IsThat pending other ⊎ (other ≡ entry)) image
+abbrev Holds : List PlainLogged → Option PlainLogged → PlainLogged → Areas → Type 0
+Holds rows pending row image = HoldsWith rows (λ other. IsThat pending other ⊎ (other ≡ row)) image
 
-either_of_two : (entries : List PlainEntry) (pending : Option PlainEntry) (entry other : PlainEntry) → ThatOr pending entry other → (image : Areas) → HoldsEither entries other image → Holds entries pending entry image
-either_of_two entries pending entry other which image (inl without) = inl without
-either_of_two entries pending entry other which image (inr with) = inr (other, which, with)
+either_of_two : (rows : List PlainLogged) (pending : Option PlainLogged) (row other : PlainLogged) → ThatOr pending row other → (image : Areas) → HoldsEither rows other image → Holds rows pending row image
+either_of_two rows pending row other which image (inl without) = inl without
+either_of_two rows pending row other which image (inr with) = inr (other, which, with)
 
 -- a disk and a log before and after a mend
-module _ (a b : DiskState) (l m : LogView) (r : Appended) (entries : List PlainEntry) (entry : PlainEntry) (untouched : l.pending ≡ Nothing → b ≡ a) (idle : l.pending ≡ Nothing → (r ≡ Done) × (m ≡ l)) where
-  pub mend_leaves : (pending : Option PlainEntry) → LogHas a l entries pending
-      → ((e : PlainEntry) → IsMendable entries e → IsPending a l entries e → LeavesOnly a b (HoldsEither entries e)) → LeavesOnly a b (Holds entries pending entry)
-  mend_leaves None has moment = subst (λ (d : DiskState). LeavesOnly a d (Holds entries None entry)) (sym (untouched has.idle)) (none_called a (Holds entries None entry))
-  mend_leaves (Some p) has moment = weaker a b (HoldsEither entries p) (Holds entries (Some p) entry) (moment p has.0 has.1) (either_of_two entries (Some p) entry p (inl refl))
+module _ (a b : DiskState) (l m : LogView) (r : Appended) (rows : List PlainLogged) (row : PlainLogged) (untouched : l.pending ≡ Nothing → b ≡ a) (idle : l.pending ≡ Nothing → (r ≡ Done) × (m ≡ l)) where
+  pub mend_leaves : (pending : Option PlainLogged) → LogHas a l rows pending
+      → ((e : PlainLogged) → IsMendable rows e → IsPending a l rows e → LeavesOnly a b (HoldsEither rows e)) → LeavesOnly a b (Holds rows pending row)
+  mend_leaves None has moment = subst (λ (d : DiskState). LeavesOnly a d (Holds rows None row)) (sym (untouched has.idle)) (none_called a (Holds rows None row))
+  mend_leaves (Some p) has moment = weaker a b (HoldsEither rows p) (Holds rows (Some p) row) (moment p has.0 has.1) (either_of_two rows (Some p) row p (inl refl))
 
-  pub mend_opens : (pending : Option PlainEntry) → LogHas a l entries pending → ((e : PlainEntry) → IsMendable entries e → IsPending a l entries e → IsOpen b m entries) → IsOpen b m entries
+  pub mend_opens : (pending : Option PlainLogged) → LogHas a l rows pending → ((e : PlainLogged) → IsMendable rows e → IsPending a l rows e → IsOpen b m rows) → IsOpen b m rows
   mend_opens None has opened =
-      subst (λ (d : DiskState). IsOpen d m entries) (sym (untouched has.idle)) (subst (λ (v : LogView). IsOpen a v entries) (sym (idle has.idle).1) has)
+      subst (λ (d : DiskState). IsOpen d m rows) (sym (untouched has.idle)) (subst (λ (v : LogView). IsOpen a v rows) (sym (idle has.idle).1) has)
   mend_opens (Some p) has opened = opened p has.0 has.1
 
-  pub mend_pends : (pending : Option PlainEntry) → LogHas a l entries pending → r ≡ Failed → ((e : PlainEntry) → IsMendable entries e → IsPending a l entries e → IsPending b m entries e)
-      → PendsOneOf b m entries (λ other. IsThat pending other ⊎ (other ≡ entry))
+  pub mend_pends : (pending : Option PlainLogged) → LogHas a l rows pending → r ≡ Failed → ((e : PlainLogged) → IsMendable rows e → IsPending a l rows e → IsPending b m rows e)
+      → PendsOneOf b m rows (λ other. IsThat pending other ⊎ (other ≡ row))
   mend_pends None has failed pends = absurd (neither (idle has.idle).0 failed)
     where
       neither : r ≡ Done → r ≡ Failed → ⊥
       neither x y = cc
-  mend_pends (Some p) has failed pends = record { entry = p; which = inl refl; has = (has.0, pends p has.0 has.1) }
+  mend_pends (Some p) has failed pends = record { row = p; which = inl refl; has = (has.0, pends p has.0 has.1) }
 
 -- and then an append
-module _ (b c : DiskState) (m n : LogView) (entries : List PlainEntry) (pending : Option PlainEntry) (entry : PlainEntry) (bytes : List ℕ) (may : IsAppendable entries entry bytes) where
-  pub append_leaves : (a : DiskState) → LeavesOnly a b (Holds entries pending entry) → LeavesOnly b c (HoldsEither entries entry) → LeavesOnly a c (Holds entries pending entry)
+module _ (b c : DiskState) (m n : LogView) (rows : List PlainLogged) (pending : Option PlainLogged) (row : PlainLogged) (bytes : List ℕ) (may : IsAppendable rows row bytes) where
+  pub append_leaves : (a : DiskState) → LeavesOnly a b (Holds rows pending row) → LeavesOnly b c (HoldsEither rows row) → LeavesOnly a c (Holds rows pending row)
   append_leaves a first then =
-      same a b c (Holds entries pending entry) first (weaker b c (HoldsEither entries entry) (Holds entries pending entry) then (either_of_two entries pending entry entry (inr refl)))
+      same a b c (Holds rows pending row) first (weaker b c (HoldsEither rows row) (Holds rows pending row) then (either_of_two rows pending row row (inr refl)))
 
-  pub append_pends : IsPending c n entries entry → PendsOneOf c n entries (λ other. IsThat pending other ⊎ (other ≡ entry))
-  append_pends is = record { entry = entry; which = inr refl; has = (record { before = may.before; next = may.next }, is) }
+  pub append_pends : IsPending c n rows row → PendsOneOf c n rows (λ other. IsThat pending other ⊎ (other ≡ row))
+  append_pends is = record { row = row; which = inr refl; has = (record { before = may.before; next = may.next }, is) }
 
 pub not_gated : (p : Pending) → p ≡ Nothing → p ≢ Gated
 not_gated p e f = cc

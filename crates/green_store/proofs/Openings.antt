@@ -1,5 +1,5 @@
 -- The entries of a log, of which some were passed.
-use Rattle.std.proofs.Common.{◌≡◌, ℕ, zero, suc, ◌+◌, ◌^◌, ◌<◌, ◌≤◌, Bool, false, List, [], ◌∷◌, ◌++◌, length, take, drop, get_or, sym, ◌∙◌, ap, subst, arith, length-append}
+use Rattle.std.proofs.Common.{◌≡◌, ℕ, zero, suc, ◌+◌, ◌^◌, ◌<◌, ◌≤◌, Bool, false, List, [], ◌∷◌, ◌++◌, length, take, drop, get_or, refl, sym, ◌∙◌, ap, subst, arith, length-append}
 use Rattle.std.specs.Prelude.{◌↔◌, IsTrue}
 use Rattle.std.specs.List.{AllByRecursion}
 use Rattle.std.proofs.lemmas.List.{take-append-drop, take-map, drop_more, length-take, map_more, map-append, length-map}
@@ -8,10 +8,14 @@ use Rattle.febe_data.specs.Plain.{PlainEntry, plain_entry, plain_history}
 use Rattle.entry_codec.specs.Bodies.{HasBody}
 use Rattle.entry_codec.specs.Format.{body_of}
 use Rattle.entry_codec.specs.Laws.{BodySaysLength}
+use Rattle.entry_codec.specs.Logged.{PlainLogged, untimed}
+use Rattle.entry_codec.specs.declared.format.LogFormat.{LogFormat}
+use Rattle.entry_codec.specs.declared.format.LogFormat.TheVariants.{Old, New}
 use Rattle.entry_fits.specs.Fits.{Fits, AllFit}
 use Rattle.edit_log.specs.Log.{gated, most_entries}
+use Rattle.edit_log.specs.Second.{begins_at}
 use Rattle.edit_log.proofs.Wholes.{gated-push, end_is_small}
-use Rattle.green_store.specs.Opening.{IsUnfitBehind}
+use Rattle.green_store.specs.Opening.{IsUnfitBehind, gate_place, untimed_all}
 
 -- ---- the entries that were passed
 
@@ -27,28 +31,45 @@ parted entries i e within is =
     ∙ map-append plain_entry (take i entries) (get_or entries i e ∷ drop (i + 1) entries)
     ∙ ap (λ (x : Entry). plain_history (take i entries) ++ plain_entry x ∷ plain_history (drop (i + 1) entries)) (sym is)
 
-spelled_front : (entries : List Entry) (i : ℕ) → AllByRecursion HasBody (plain_history entries) → AllByRecursion HasBody (plain_history (take i entries))
-spelled_front entries zero spelled = tt
-spelled_front [] (suc i) spelled = tt
-spelled_front (first ∷ entries) (suc i) spelled = (spelled.0, spelled_front entries i spelled.1)
+-- the same with no moments
+untimed_more : (entries : List Entry) (i : ℕ) (e : Entry) → i < length entries → e ≡ get_or entries i e
+    → untimed_all (plain_history (take (i + 1) entries)) ≡ untimed_all (plain_history (take i entries)) ++ untimed (plain_entry e) ∷ []
+untimed_more entries i e within is = ap untimed_all (passed entries i e within is) ∙ map-append untimed (plain_history (take i entries)) (plain_entry e ∷ [])
 
-pub spelled_at : (entries : List Entry) (i : ℕ) (e : Entry) → i < length entries → e ≡ get_or entries i e → AllByRecursion HasBody (plain_history entries) → HasBody (plain_entry e)
-spelled_at [] i e within is spelled = absurd (omega arith)
-spelled_at (first ∷ entries) zero e within is spelled = subst (λ (x : Entry). HasBody (plain_entry x)) (sym is) spelled.0
-spelled_at (first ∷ entries) (suc i) e within is spelled = spelled_at entries i e (omega arith) is spelled.1
+spelled_front : (format : LogFormat) (entries : List Entry) (i : ℕ) → AllByRecursion (HasBody format) (untimed_all (plain_history entries)) → AllByRecursion (HasBody format) (untimed_all (plain_history (take i entries)))
+spelled_front format entries zero spelled = tt
+spelled_front format [] (suc i) spelled = tt
+spelled_front format (first ∷ entries) (suc i) spelled = (spelled.0, spelled_front format entries i spelled.1)
+
+pub spelled_at : (format : LogFormat) (entries : List Entry) (i : ℕ) (e : Entry) → i < length entries → e ≡ get_or entries i e → AllByRecursion (HasBody format) (untimed_all (plain_history entries)) → HasBody format (untimed (plain_entry e))
+spelled_at format [] i e within is spelled = absurd (omega arith)
+spelled_at format (first ∷ entries) zero e within is spelled = subst (λ (x : Entry). HasBody format (untimed (plain_entry x))) (sym is) spelled.0
+spelled_at format (first ∷ entries) (suc i) e within is spelled = spelled_at format entries i e (omega arith) is spelled.1
 
 -- ---- where a gate stands
 
-pub place_more : (entries : List Entry) (i : ℕ) (e : Entry) (at : ℕ) → i < length entries → e ≡ get_or entries i e → at ≡ length (gated (plain_history (take i entries)))
-    → at + (1 + length (body_of (plain_entry e))) ≡ length (gated (plain_history (take (i + 1) entries)))
-place_more entries i e at within is before =
-    let past = plain_history (take i entries) in
-    let grows : gated (plain_history (take (i + 1) entries)) ≡ gated past ++ (1 ∷ body_of (plain_entry e)) = ap gated (passed entries i e within is) ∙ gated-push past (plain_entry e) in
-    omega (arith, before, ap length grows, length-append (gated past) (1 ∷ body_of (plain_entry e)))
+pub first_place : (format : LogFormat) (at : ℕ) → at ≡ begins_at format → at ≡ gate_place format []
+first_place format at is = omega (arith, is)
 
-pub place_small : BodySaysLength → (entries : List Entry) (i : ℕ) → AllByRecursion HasBody (plain_history entries) → length entries ≤ most_entries → length (gated (plain_history (take i entries))) < 2 ^ 63
-place_small says entries i spelled few =
-    end_is_small says (plain_history (take i entries)) (spelled_front entries i spelled) (omega (arith, length-map (take i entries) plain_entry, length-take i entries, few))
+pub place_more : (format : LogFormat) (entries : List Entry) (i : ℕ) (e : Entry) (at : ℕ) → i < length entries → e ≡ get_or entries i e → at ≡ gate_place format (untimed_all (plain_history (take i entries)))
+    → at + (1 + length (body_of format (untimed (plain_entry e)))) ≡ gate_place format (untimed_all (plain_history (take (i + 1) entries)))
+place_more format entries i e at within is before =
+    let past : List PlainLogged = untimed_all (plain_history (take i entries)) in
+    let body : List ℕ = body_of format (untimed (plain_entry e)) in
+    let grows : gated format (untimed_all (plain_history (take (i + 1) entries))) ≡ gated format past ++ (1 ∷ body) = ap (gated format) (untimed_more entries i e within is) ∙ gated-push format past (untimed (plain_entry e)) in
+    omega (arith, before, ap length grows, length-append (gated format past) (1 ∷ body))
+
+beginning_small : (format : LogFormat) → begins_at format ≤ 1
+beginning_small Old = omega arith
+beginning_small New = omega arith
+
+pub place_small : BodySaysLength → (format : LogFormat) (entries : List Entry) (i : ℕ) → AllByRecursion (HasBody format) (untimed_all (plain_history entries)) → length entries ≤ most_entries
+    → gate_place format (untimed_all (plain_history (take i entries))) ≤ 2 ^ 63
+place_small says format entries i spelled few =
+    let past : List PlainLogged = untimed_all (plain_history (take i entries)) in
+    let long : length past ≤ most_entries =
+    omega (arith, length-map (plain_history (take i entries)) untimed, length-map (take i entries) plain_entry, length-take i entries, few) in
+    omega (arith, beginning_small format, end_is_small says format past (spelled_front format entries i spelled) long)
 
 -- ---- the first entry that does not fit
 

@@ -1,14 +1,15 @@
 -- What steps leave of a store's pages, and what saves leave of its log.
-use Rattle.std.proofs.Common.{◌≡◌, ◌⊎◌, inl, inr, ◌∙◌, ℕ, Bool, true, false, List, [], ◌∷◌, ◌++◌, length, Option, None, Some, Result, Ok, Err, ap, refl, sym, subst}
-use Rattle.std.specs.Prelude.{IsSome, OnOk, OnErr}
+use Rattle.std.proofs.Common.{◌≡◌, ◌⊎◌, inl, inr, ◌∙◌, ℕ, Bool, List, [], length, Option, None, Some, ap, refl, sym, subst}
+use Rattle.std.specs.Prelude.{IsSome}
 use Rattle.std.proofs.lemmas.List.{append-nil}
-use Rattle.febe_data.specs.Plain.{PlainEntry, plain_request}
+use Rattle.febe_data.specs.Plain.{PlainEntry}
+use Rattle.entry_codec.specs.Logged.{PlainLogged}
 use Rattle.green_io.specs.declared.disk.Area.{Area}
-use Rattle.green_io.specs.declared.disk.Area.TheVariants.{Log, Home, Journal}
-use Rattle.green_io.specs.Areas.{Areas, is_log, IsSameBut}
+use Rattle.green_io.specs.declared.disk.Area.TheVariants.{Log, Second, Home, Journal}
+use Rattle.green_io.specs.Areas.{Areas, is_logged, IsSameBut}
 use Rattle.green_io.specs.Disk.{DiskState, IsDisk, LeavesOnly, LeavesBut, ReadsAsBut, IsAsBut, images_now}
 use Rattle.green_io.proofs.Beside.{kept_others}
-use Rattle.green_io.proofs.Crash.{weaker, none_called}
+use Rattle.green_io.proofs.Crash.{weaker}
 use Rattle.page_journal.specs.Images.{is_paged}
 use Rattle.page_journal.specs.JournalBytes.{opened, replayed}
 use Rattle.page_journal.specs.Pages.{Pages, pages_of, home_after}
@@ -21,7 +22,7 @@ use Rattle.world_rules.specs.FlatView.{view_of}
 use Rattle.world_rules.specs.History.{durable_entries}
 use Rattle.world_rules.specs.Laws.{HasContentsOf}
 use Rattle.world_rules.proofs.Folded.{folds_to_world}
-use Rattle.edit_log.specs.Images.{IsOpen, IsPending, LogImages, InLog}
+use Rattle.edit_log.specs.Images.{SecondImages, InSecond}
 use Rattle.edit_log.specs.LogView.{LogView}
 use Rattle.tree_world.specs.Nodes.{WorldNodes, AllGrown}
 use Rattle.tree_world.proofs.Grown.{all_same}
@@ -29,15 +30,15 @@ use Rattle.page_trees.specs.Trees.{PlainTrees}
 use Rattle.green_flush.specs.Loads.{TreesAt, Loads}
 use Rattle.green_flush.specs.Standing.{FlushView, StandsOn, trees_at, LoadsOne, IsSaved, IsStopped, IsRenewed}
 use Rattle.green_flush.proofs.Held.{resting-loads, log-stays, renewed-stands}
-use Rattle.paged_world.specs.Standing.{StandFor, HaveSame, HaveNodes, HaveGrownFrom, MayGoOn}
+use Rattle.paged_world.specs.Standing.{StandFor, HaveNodes, HaveGrownFrom, MayGoOn}
 use Rattle.green_store.specs.declared.step.Step.{Step}
 use Rattle.green_store.specs.declared.step.Step.TheVariants as steps
 use Rattle.green_store.specs.declared.step.StepAnswer.{StepAnswer}
 use Rattle.green_store.specs.declared.step.StepAnswer.TheVariants as answers
-use Rattle.green_store.specs.Durable.{Keeps, LogHas, HoldsWith, IsThat, HoldsStep, KeepsStep, IsDurableEntryOf, IsRefusedForDisk}
-use Rattle.green_store.specs.IsStep.{IsStep, IsSwept, UnlessTended, UnlessSwept, UnlessFlushed, OnFlushed}
+use Rattle.green_store.specs.Durable.{kept_rows, Keeps, LogHas, HoldsWith, IsThat, HoldsStep, KeepsStep, IsDurableRowOf, IsRefusedForDisk}
+use Rattle.green_store.specs.IsStep.{IsStep, UnlessTended, UnlessSwept, UnlessFlushed, OnFlushed}
 use Rattle.green_store.specs.Paged.{IsPaged, HasPages, LoadsFor, EachLoadsFor, MayLoad}
-use Rattle.green_store.specs.StoreView.{StoreView, PagesStandStill}
+use Rattle.green_store.specs.StoreView.{StoreView}
 use Rattle.green_store.proofs.Edits.{holds_more, stays_kept}
 use Rattle.green_store.proofs.Quiet.{background_is_quiet}
 
@@ -87,7 +88,7 @@ module _ (before after : StoreView) (flush_stays : after.flush ≡ before.flush)
   pub stay_paged : (disk : DiskState) → HasPages disk before → HasPages disk after
   stay_paged disk has = record { was = has.was; now = has.now; paged = paged disk has.was has.now has.paged }
 
-moved : (old new : DiskState) (store : StoreView) → IsDisk new → LeavesBut is_log old new → HasPages old store → HasPages new store
+moved : (old new : DiskState) (store : StoreView) → IsDisk new → LeavesBut is_logged old new → HasPages old store → HasPages new store
 moved old new store disk leaves has = record {
   was = has.was;
   now = has.now;
@@ -163,22 +164,22 @@ background_base before after answers.Idle rose step = ap (λ (v : StoreView). v.
 background_base before after answers.Memory rose step = ap (λ (v : StoreView). v.base) step.still
 background_base before after other rose step = absurd step
 
-pub kept_paged : (old new : DiskState) (before after : StoreView) → IsDisk new → LeavesBut is_log old new → KeepsPages before after → HasPages old before → HasPages new after
+pub kept_paged : (old new : DiskState) (before after : StoreView) → IsDisk new → LeavesBut is_logged old new → KeepsPages before after → HasPages old before → HasPages new after
 kept_paged old new before after disk leaves keeps has = stay_paged before after keeps.flush keeps.grown new (moved old new before disk leaves has)
 
 -- ---- images, while the log alone is touched
 
-same_pages : (was image : Areas) → IsSameBut is_log was image → opened was ≡ opened image
+same_pages : (was image : Areas) → IsSameBut is_logged was image → opened was ≡ opened image
 same_pages was image same =
     ap (λ (home : List ℕ). pages_of (home_after (replayed was.journal) home)) (sym (same Home refl))
     ∙ ap (λ (journal : List ℕ). pages_of (home_after (replayed journal) image.home)) (sym (same Journal refl))
 
-loads_as : (was image : Areas) (now : Option TreesAt) → IsSameBut is_log was image → Loads (opened was) now → Loads (opened image) now
+loads_as : (was image : Areas) (now : Option TreesAt) → IsSameBut is_logged was image → Loads (opened was) now → Loads (opened image) now
 loads_as was image now same loads = subst (λ (pages : Pages). Loads pages now) (same_pages was image same) loads
 
-pub log_leaves : (old new : DiskState) (store : StoreView) (was now : Option TreesAt) (entries : List PlainEntry) → LeavesBut is_log old new → IsPaged old store was now → LeavesOnly old new (MayLoad was now entries)
+pub log_leaves : (old new : DiskState) (store : StoreView) (was now : Option TreesAt) (entries : List PlainEntry) → LeavesBut is_logged old new → IsPaged old store was now → LeavesOnly old new (MayLoad was now entries)
 log_leaves old new store was now entries leaves has =
-    weaker old new (IsAsBut is_log (images_now old)) (MayLoad was now entries) leaves.images
+    weaker old new (IsAsBut is_logged (images_now old)) (MayLoad was now entries) leaves.images
     (λ image left. elim (resting-loads old store.flush was now has.stands left.0 left.1) [
       | inl one ↦ inl (inl (loads_as left.0 image was left.2 one))
       | inr one ↦ inl (inr (loads_as left.0 image now left.2 one))
@@ -192,40 +193,41 @@ is_told touched None (Some new) reads told = absurd reads
 is_told touched (Some old) None reads told = absurd reads
 is_told touched (Some old) (Some new) reads told = refl
 
-images_stay : (old new : DiskState) (end : ℕ) (front : List ℕ) (fact : List ℕ → Type 0) → IsDisk new → LeavesBut is_paged old new → LogImages old end front fact → LogImages new end front fact
+images_stay : (old new : DiskState) (end : ℕ) (front : List ℕ) (fact : List ℕ → Type 0) → IsDisk new → LeavesBut is_paged old new → SecondImages old end front fact → SecondImages new end front fact
 images_stay old new end front fact disk leaves images = record {
   told = is_told is_paged old.reads new.reads leaves.reads images.told;
   at_end = images.at_end;
-  each = kept_others is_paged old new (InLog fact) disk leaves (λ i j same has. subst fact (sym (same Log refl)) has) images.each;
+  each = kept_others is_paged old new (InSecond fact) disk leaves (λ i j same has. subst fact (sym (same Second refl)) has) images.each;
 }
 
-pub log_stays : (old new : DiskState) (log : LogView) (entries : List PlainEntry) (pending : Option PlainEntry) → IsDisk new → LeavesBut is_paged old new → LogHas old log entries pending → LogHas new log entries pending
-log_stays old new log entries None disk leaves has = record { idle = has.idle; images = images_stay old new log.end _ _ disk leaves has.images }
-log_stays old new log entries (Some entry) disk leaves has = (has.0, record { images = images_stay old new log.end _ _ disk leaves has.1.images; busy = has.1.busy })
+pub log_stays : (old new : DiskState) (log : LogView) (rows : List PlainLogged) (pending : Option PlainLogged) → IsDisk new → LeavesBut is_paged old new → LogHas old log rows pending → LogHas new log rows pending
+log_stays old new log rows None disk leaves has = record { idle = has.idle; images = images_stay old new log.end _ _ disk leaves has.images }
+log_stays old new log rows (Some row) disk leaves has = (has.0, record { images = images_stay old new log.end _ _ disk leaves has.1.images; busy = has.1.busy })
 
-holds_as : (entries : List PlainEntry) (MayCome : PlainEntry → Type 0) (was image : Areas) → IsSameBut is_paged was image → HoldsWith entries MayCome was → HoldsWith entries MayCome image
-holds_as entries MayCome was image same holds =
-    let P : List ℕ → Type 0 = λ log. HoldsWith entries MayCome (record was { log = log }) in
-    subst P (sym (same Log refl)) holds
+holds_as : (rows : List PlainLogged) (MayCome : PlainLogged → Type 0) (was image : Areas) → IsSameBut is_paged was image → HoldsWith rows MayCome was → HoldsWith rows MayCome image
+holds_as rows MayCome was image same holds =
+    let P : List ℕ → List ℕ → Type 0 = λ log second. HoldsWith rows MayCome (record was { log = log; second = second }) in
+    subst (P image.log) (sym (same Second refl)) (subst (λ (log : List ℕ). P log was.second) (sym (same Log refl)) holds)
 
-pub save_leaves : (old new : DiskState) (before : StoreView) (pending : Option PlainEntry) → LeavesBut is_paged old new → ((image : Areas) → images_now old image → HoldsWith (durable_entries before.history) (IsThat pending) image)
-    → LeavesOnly old new (HoldsStep before pending steps.Background)
-save_leaves old new before pending leaves kept =
-    weaker old new (IsAsBut is_paged (images_now old)) (HoldsStep before pending steps.Background) leaves.images
-    (λ image left. holds_more (durable_entries before.history) (IsThat pending) (λ entry. IsThat pending entry ⊎ IsDurableEntryOf before steps.Background entry) (λ entry that. inl that) image
-    (holds_as (durable_entries before.history) (IsThat pending) left.0 image left.2 (kept left.0 left.1)))
+module _ (old new : DiskState) (before : StoreView) (pending : Option PlainLogged) (moment : ℕ) where
+  pub save_leaves : LeavesBut is_paged old new → ((image : Areas) → images_now old image → HoldsWith (kept_rows before) (IsThat pending) image) → LeavesOnly old new (HoldsStep before pending moment steps.Background)
+  save_leaves leaves kept =
+      weaker old new (IsAsBut is_paged (images_now old)) (HoldsStep before pending moment steps.Background) leaves.images
+      (λ image left. holds_more (kept_rows before) (IsThat pending) (λ row. IsThat pending row ⊎ IsDurableRowOf before moment steps.Background row) (λ row that. inl that) image
+      (holds_as (kept_rows before) (IsThat pending) left.0 image left.2 (kept left.0 left.1)))
 
-pub save_keeps : (old new : DiskState) (before after : StoreView) (answer : StepAnswer) (pending : Option PlainEntry) → IsDisk new → LeavesBut is_paged old new → durable_entries after.history ≡ durable_entries before.history → after.log ≡ before.log
-    → Keeps old before pending → KeepsStep before pending steps.Background after answer new
-save_keeps old new before after answer pending disk leaves none_kept same_log has =
-    stays_kept before after new (λ entry. IsDurableEntryOf before steps.Background entry × IsRefusedForDisk answer) pending none_kept same_log
-    (log_stays old new before.log (durable_entries before.history) pending disk leaves has)
+  pub save_keeps : (after : StoreView) (answer : StepAnswer) → IsDisk new → LeavesBut is_paged old new → durable_entries after.history ≡ durable_entries before.history → after.moments ≡ before.moments → after.log ≡ before.log
+      → Keeps old before pending → KeepsStep before pending moment steps.Background after answer new
+  save_keeps after answer disk leaves none_kept moments same_log has =
+      stays_kept before after new (λ row. IsDurableRowOf before moment steps.Background row × IsRefusedForDisk answer) pending none_kept moments same_log
+      (log_stays old new before.log (kept_rows before) pending disk leaves has)
 
 -- a background step that leaves the disk alone
-pub still_keeps : (disk : DiskState) (before after : StoreView) (answer : StepAnswer) (rose : Bool) (pending : Option PlainEntry) → IsStep before steps.Background after answer rose → Keeps disk before pending → KeepsStep before pending steps.Background after answer disk
-still_keeps disk before after answer rose pending step has =
+pub still_keeps : (disk : DiskState) (before after : StoreView) (answer : StepAnswer) (rose : Bool) (pending : Option PlainLogged) (moment : ℕ) → IsStep before steps.Background after answer rose → Keeps disk before pending
+    → KeepsStep before pending moment steps.Background after answer disk
+still_keeps disk before after answer rose pending moment step has =
     let quiet = background_is_quiet before after answer rose step in
-    stays_kept before after disk (λ entry. IsDurableEntryOf before steps.Background entry × IsRefusedForDisk answer) pending quiet.none_kept quiet.same_log has
+    stays_kept before after disk (λ row. IsDurableRowOf before moment steps.Background row × IsRefusedForDisk answer) pending quiet.none_kept quiet.moments_stay quiet.same_log has
 
 -- ---- a save
 

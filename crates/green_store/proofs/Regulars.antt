@@ -1,22 +1,18 @@
--- A history stays regular, and its kept entries such as a log may have, with one entry more.
-use Rattle.std.proofs.Common.{◌≡◌, ◌∙◌, ℕ, ◌+◌, ◌<◌, ◌≤◌, Bool, true, false, List, [], ◌∷◌, ◌++◌, ap, refl, sym, subst, arith}
+-- A history stays regular with one entry more, and which of its entries are kept.
+use Rattle.std.proofs.Common.{◌≡◌, ◌∙◌, ℕ, ◌+◌, ◌≤◌, Bool, true, false, List, [], ◌∷◌, ◌++◌, ap, refl, subst, arith}
 use Rattle.std.specs.Prelude.{if◌then◌else◌}
 use Rattle.std.proofs.lemmas.List.{append-nil}
 use Rattle.std.proofs.lemmas.List.Elements.{All-push, filter-append}
 use Rattle.febe_data.specs.Plain.{PlainChange, PlainEntry, restarted, began, ended, account_changed, document_opened, document_closed}
 use Rattle.world_rules.specs.World.{empty_world}
 use Rattle.world_rules.specs.Apply.{world_of}
-use Rattle.world_rules.specs.History.{durable_entries, is_durable, next_serial}
+use Rattle.world_rules.specs.History.{durable_entries, is_durable}
 use Rattle.world_rules.specs.Effects.{Effect}
 use Rattle.world_rules.specs.Legal.{entry_after}
 use Rattle.world_rules.specs.Placed.{IsPlaced}
 use Rattle.world_rules.specs.Serials.{ComesNext}
 use Rattle.world_rules.proofs.Serials.{serials_go_on}
 use Rattle.entry_fits.specs.Laws.{IsRegular}
-use Rattle.edit_log.specs.Images.{AreEntries}
-use Rattle.edit_log.specs.Log.{IsNext}
-use Rattle.edit_log.proofs.Wholes.{entries_push}
-use Rattle.green_store.specs.inside.{MayBeKept}
 use Rattle.green_store.specs.LeavesLive.{LeavesLive}
 use Rattle.green_store.specs.Sessions.{greatest_session, begin_entry, end_entry}
 use Rattle.green_store.proofs.Places.{placed_push}
@@ -68,16 +64,6 @@ kept_counted h e is = kept_more h e ∙ ap (λ (es : List PlainEntry). durable_e
 
 pub kept_other : (h : List PlainEntry) (e : PlainEntry) → is_durable e.change ≡ false → durable_entries (h ++ e ∷ []) ≡ durable_entries h
 kept_other h e is = kept_more h e ∙ ap (λ (es : List PlainEntry). durable_entries h ++ es) (alone e false is) ∙ append-nil (durable_entries h)
-
-pub entries_other : (h : List PlainEntry) (e : PlainEntry) → is_durable e.change ≡ false → AreEntries (durable_entries h) → AreEntries (durable_entries (h ++ e ∷ []))
-entries_other h e is are = subst AreEntries (sym (kept_other h e is)) are
-
-pub entries_counted : (h : List PlainEntry) (e : PlainEntry) → is_durable e.change ≡ true → IsNext (durable_entries h) e → AreEntries (durable_entries h) → AreEntries (durable_entries (h ++ e ∷ []))
-entries_counted h e is next are = subst AreEntries (sym (kept_counted h e is)) (entries_push (durable_entries h) e are next)
-
--- what may be kept may come next in the log
-pub may_come : (h : List PlainEntry) (session : ℕ) (made : Effect) → MayBeKept h session made → session < 18446744073709551616 → next_serial h session < 18446744073709551616 → IsNext (durable_entries h) (entry_after h session made)
-may_come h session made may number serial = record { spelled = record { session = number; serial = serial; change = may.logged }; fits = may.fits; room = may.room }
 
 -- changes that are kept leave who is live
 pub kept_leaves : (change : PlainChange) → is_durable change ≡ true → LeavesLive change

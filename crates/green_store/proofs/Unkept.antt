@@ -17,6 +17,8 @@ use Rattle.world_rules.specs.Legal.{IsLegal, IsOutOfMemory, IsServed, IsRefused,
 use Rattle.green_store.specs.Steps.{Steps}
 use Rattle.green_store.specs.IsStep.{OnRefused, UnlessKept}
 use Rattle.green_store.specs.StoreView.{StoreView, with_one, PagesStandStill, StandsAsBefore}
+use Rattle.green_store.specs.TimedStep.{IsTimedStep}
+use Rattle.green_store.proofs.Moments.{moments_stay}
 use Rattle.green_store.proofs.Regulars.{kept_counted}
 
 -- ---- the reply to a change is no refusal
@@ -88,14 +90,17 @@ module _ (limits : LimitsView) (session : ℕ) (history : List PlainEntry) (requ
 
 -- ---- so the store is as it was
 
-same_history : (before after : StoreView) → after.history ≡ before.history → UnlessKept before after (after.trees ≡ before.trees) → after.base ≡ before.base → UnlessKept before after (after.nodes ≡ before.nodes) → PagesStandStill before after → StandsAsBefore before after
-same_history before after same trees base nodes pages = record { history = same; trees = trees (ap durable_entries same); base = base; nodes = nodes (ap durable_entries same); pages = pages }
+module _ (before after : StoreView) (moment : ℕ) (timed : IsTimedStep before moment after) (trees : UnlessKept before after (after.trees ≡ before.trees)) (base : after.base ≡ before.base) (nodes : UnlessKept before after (after.nodes ≡ before.nodes))
+    (pages : PagesStandStill before after) where
+  same_history : after.history ≡ before.history → StandsAsBefore before after
+  same_history same =
+      let kept = ap durable_entries same in
+      record { history = same; moments = moments_stay before after moment timed kept; trees = trees kept; base = base; nodes = nodes kept; pages = pages }
 
-pub refused_stays : (before after : StoreView) (session : ℕ) (request : PlainRequest) (reply : PlainReply) (rose : Bool) → Steps before.limits session before.history request reply after.history rose → UnlessKept before after (after.trees ≡ before.trees) → after.base ≡ before.base
-    → UnlessKept before after (after.nodes ≡ before.nodes) → PagesStandStill before after → OnRefused reply (StandsAsBefore before after)
-refused_stays before after session request reply rose steps trees base nodes pages =
-    also reply (steps.added ≡ []) (StandsAsBefore before after) (λ none. same_history before after (steps.grows ∙ ap (λ (es : List PlainEntry). before.history ++ es) none ∙ append-nil before.history) trees base nodes pages)
-    (refused_adds before.limits session before.history request reply steps.added rose steps.legal)
+  pub refused_stays : (session : ℕ) (request : PlainRequest) (reply : PlainReply) (rose : Bool) → Steps before.limits session before.history request reply after.history rose → OnRefused reply (StandsAsBefore before after)
+  refused_stays session request reply rose steps =
+      also reply (steps.added ≡ []) (StandsAsBefore before after) (λ none. same_history (steps.grows ∙ ap (λ (es : List PlainEntry). before.history ++ es) none ∙ append-nil before.history))
+      (refused_adds before.limits session before.history request reply steps.added rose steps.legal)
 
 -- ---- a change
 

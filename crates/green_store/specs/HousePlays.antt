@@ -8,12 +8,13 @@ use Rattle.febe_data.specs.Validity.{IsRequest, IsReply}
 use Rattle.world_rules.specs.History.{is_live}
 use Rattle.green_store.specs.declared.housed.HouseJob.{HouseJob}
 use Rattle.green_store.specs.declared.housed.HouseJob.TheVariants as jobs
+use Rattle.green_store.specs.declared.housed.Timed.{Timed}
 use Rattle.green_store.specs.declared.step.Step.{Step}
 use Rattle.green_store.specs.declared.step.Step.TheVariants as steps
 use Rattle.green_store.specs.declared.step.StepAnswer.{StepAnswer}
 use Rattle.green_store.specs.declared.step.StepAnswer.TheVariants as answers
 use Rattle.green_store.specs.Durable.{has_risen}
-use Rattle.green_store.specs.Marks.{limits_in, faults_in, debt_in, unsaved_in, due_in, unreached_in}
+use Rattle.green_store.specs.Marks.{limits_in, faults_in, debt_in, unsaved_in, due_in, unreached_in, last_in, but_last}
 use Rattle.green_store.specs.Sessions.{greatest_session, begin_entry, end_entry}
 use Rattle.green_store.specs.Steps.{Steps}
 
@@ -67,7 +68,7 @@ pub record PlaysNoMemory (before : List PlainEntry) (number next : ℕ) (after :
 pub record PlaysSecondBegin (before : List PlainEntry) (number next : ℕ) (after : List PlainEntry) (old new : List ℕ) : Type 0 where
   pub has_one : number ≢ 0
   pub stays : Stays number next before after
-  pub marks_stay : new ≡ old
+  pub marks_stay : but_last new ≡ but_last old
 
 -- the number's session is not live, and nothing changed
 pub record PlaysNoSession (before : List PlainEntry) (number next : ℕ) (after : List PlainEntry) : Type 0 where
@@ -104,7 +105,7 @@ pub record PlaysFlushed (old new : List ℕ) : Type 0 where
 pub record PlaysStopped (old new : List ℕ) : Type 0 where
   pub due : due_in old ≡ 1
   pub failed : IsTrue (has_risen (faults_in old) (faults_in new))
-  pub stays : drop 1 new ≡ drop 1 old
+  pub stays : drop 1 (but_last new) ≡ drop 1 (but_last old)
 
 -- something was to be put right: now every node is reached from a root
 pub record PlaysSwept (old new : List ℕ) : Type 0 where
@@ -114,30 +115,34 @@ pub record PlaysSwept (old new : List ℕ) : Type 0 where
 -- nothing was to be put right, and nothing changed
 pub record PlaysIdle (old new : List ℕ) : Type 0 where
   pub none_due : due_in old ≡ 0
-  pub stays : new ≡ old
+  pub stays : but_last new ≡ but_last old
 
 -- Something was to be put right, but there was no memory for it, and nothing changed. Only where pages were to be written the
 -- disk may have had faults meanwhile.
 pub record PlaysPutOff (limits : LimitsView) (old new : List ℕ) : Type 0 where
   pub due : due_in old ≡ 1
-  pub stays : drop 1 new ≡ drop 1 old
-  pub no_fault : unsaved_in old < limits.flush → new ≡ old
+  pub stays : drop 1 (but_last new) ≡ drop 1 (but_last old)
+  pub no_fault : unsaved_in old < limits.flush → but_last new ≡ but_last old
 
 -- What each job comes to. What is not listed never happens.
-abbrev pub HousePlays : List ℕ → List PlainEntry → ℕ → HouseJob → StepAnswer → ℕ → List PlainEntry → List ℕ → List ℕ → Type 0
-HousePlays fixed before number jobs.Begin (answers.Begun session) next after old new = PlaysBegun before number session next after
-HousePlays fixed before number jobs.Begin answers.NoNumber next after old new = PlaysNoNumber before number next after
-HousePlays fixed before number jobs.Begin answers.Memory next after old new = PlaysNoMemory before number next after
-HousePlays fixed before number jobs.Begin answers.NoSession next after old new = PlaysSecondBegin before number next after old new
-HousePlays fixed before number (jobs.Ask request) (answers.Reply reply point) next after old new =
+abbrev pub ComesTo : List ℕ → List PlainEntry → ℕ → HouseJob → StepAnswer → ℕ → List PlainEntry → List ℕ → List ℕ → Type 0
+ComesTo fixed before number jobs.Begin (answers.Begun session) next after old new = PlaysBegun before number session next after
+ComesTo fixed before number jobs.Begin answers.NoNumber next after old new = PlaysNoNumber before number next after
+ComesTo fixed before number jobs.Begin answers.Memory next after old new = PlaysNoMemory before number next after
+ComesTo fixed before number jobs.Begin answers.NoSession next after old new = PlaysSecondBegin before number next after old new
+ComesTo fixed before number (jobs.Ask request) (answers.Reply reply point) next after old new =
     PlaysReply (limits_in fixed) before number (plain_request request) (plain_reply reply) point next after (has_risen (faults_in old) (faults_in new))
-HousePlays fixed before number (jobs.Ask request) answers.NoSession next after old new = PlaysNoSession before number next after
-HousePlays fixed before number jobs.End answers.Ended next after old new = PlaysEnded before number next after
-HousePlays fixed before number jobs.End answers.NoSession next after old new = PlaysNoSession before number next after
-HousePlays fixed before number jobs.Background answers.Balanced next after old new = Stays number next before after × PlaysBalanced old new
-HousePlays fixed before number jobs.Background answers.Flushed next after old new = Stays number next before after × PlaysFlushed old new
-HousePlays fixed before number jobs.Background answers.Disk next after old new = Stays number next before after × PlaysStopped old new
-HousePlays fixed before number jobs.Background answers.Swept next after old new = Stays number next before after × PlaysSwept old new
-HousePlays fixed before number jobs.Background answers.Idle next after old new = Stays number next before after × PlaysIdle old new
-HousePlays fixed before number jobs.Background answers.Memory next after old new = Stays number next before after × PlaysPutOff (limits_in fixed) old new
-HousePlays fixed before number job answer next after old new = ⊥
+ComesTo fixed before number (jobs.Ask request) answers.NoSession next after old new = PlaysNoSession before number next after
+ComesTo fixed before number jobs.End answers.Ended next after old new = PlaysEnded before number next after
+ComesTo fixed before number jobs.End answers.NoSession next after old new = PlaysNoSession before number next after
+ComesTo fixed before number jobs.Background answers.Balanced next after old new = Stays number next before after × PlaysBalanced old new
+ComesTo fixed before number jobs.Background answers.Flushed next after old new = Stays number next before after × PlaysFlushed old new
+ComesTo fixed before number jobs.Background answers.Disk next after old new = Stays number next before after × PlaysStopped old new
+ComesTo fixed before number jobs.Background answers.Swept next after old new = Stays number next before after × PlaysSwept old new
+ComesTo fixed before number jobs.Background answers.Idle next after old new = Stays number next before after × PlaysIdle old new
+ComesTo fixed before number jobs.Background answers.Memory next after old new = Stays number next before after × PlaysPutOff (limits_in fixed) old new
+ComesTo fixed before number job answer next after old new = ⊥
+
+-- What each job comes to that is given at this moment, which is the last mark afterwards, whatever the job comes to.
+abbrev pub HousePlays : List ℕ → List PlainEntry → ℕ → Timed → StepAnswer → ℕ → List PlainEntry → List ℕ → List ℕ → Type 0
+HousePlays fixed before number timed answer next after old new = (last_in new ≡ timed.moment) × ComesTo fixed before number timed.job answer next after old new

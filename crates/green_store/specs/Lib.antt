@@ -6,6 +6,7 @@ pub use Rattle.world_rules.specs.History
 pub use Rattle.world_rules.specs.Holding
 pub use Rattle.world_rules.specs.Legal
 pub use Rattle.world_rules.specs.Isolated as WorldIsolated
+pub use Rattle.entry_codec.specs.Logged
 pub use Rattle.green_io.specs.Areas
 pub use Rattle.green_io.specs.Disk
 pub use Rattle.green_io.specs.Outside
@@ -14,6 +15,7 @@ pub use Rattle.entry_fits.specs.Laws as EntryLaws
 pub use Rattle.edit_log.specs.Images
 pub use Rattle.edit_log.specs.Log
 pub use Rattle.edit_log.specs.LogView
+pub use Rattle.edit_log.specs.Second
 pub use Rattle.tree_world.specs.Condition
 pub use Rattle.tree_world.specs.Nodes
 pub use Rattle.green_flush.specs.Loads
@@ -23,6 +25,7 @@ pub use Rattle.history_lock.specs.Histories
 pub mod Sessions
 pub mod Steps
 pub mod StoreView
+pub mod TimedStep
 pub mod IsStep
 pub mod Isolated
 pub mod IsStore

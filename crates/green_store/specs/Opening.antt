@@ -1,11 +1,14 @@
 -- Opening a store from a log.
-use Rattle.std.specs.Prelude.{◌≡◌, ◌⊎◌, ℕ, ◌<◌, ◌≤◌, List, [], ◌∷◌, ◌++◌, length, take, Option, None, Some, Result, Ok, Err}
+use Rattle.std.specs.Prelude.{◌≡◌, ◌⊎◌, ℕ, ◌+◌, ◌<◌, ◌≤◌, List, [], ◌∷◌, ◌++◌, length, take, map, Option, None, Some, Result, Ok, Err}
 use Rattle.febe_data.specs.Plain.{PlainEntry}
+use Rattle.entry_codec.specs.Logged.{PlainLogged, untimed, entries_of, moments_of}
+use Rattle.entry_codec.specs.declared.format.LogFormat.{LogFormat}
 use Rattle.green_io.specs.Areas.{Areas}
 use Rattle.green_io.specs.Disk.{WhereTold}
 use Rattle.entry_fits.specs.Fits.{Fits, AllFit}
-use Rattle.edit_log.specs.Images.{AreEntries}
-use Rattle.edit_log.specs.Log.{gated, ReadsAs, HasEndClosed, IsDamagedAt}
+use Rattle.edit_log.specs.Images.{AreEntries, AsRead}
+use Rattle.edit_log.specs.Log.{gated}
+use Rattle.edit_log.specs.Second.{begins_at, ReadsIn, IsDamaged, IsMoved, BothTold, IsAsFound}
 use Rattle.edit_log.specs.declared.opening.LogFault.{LogFault}
 use Rattle.edit_log.specs.declared.opening.LogFault.TheVariants as faults
 use Rattle.world_rules.specs.Apply.{world_of}
@@ -55,12 +58,17 @@ fault_of_pages pages.Memory = Memory
 abbrev pub opened_with : List PlainEntry → List PlainEntry
 opened_with entries = entries ++ restart_entry ∷ []
 
--- A back end opened with the entries of the log as it was read, which fit one after another.
-pub record IsOpenedFrom (reads : Option Areas) (history : List PlainEntry) : Type 0 where
-  pub entries : List PlainEntry
-  pub are_entries : AreEntries entries
-  pub history_is : history ≡ opened_with entries
-  pub read : WhereTold reads (λ areas. ReadsAs entries areas.log)
+-- these are the entries of the logged area as it is read, with their moments, in whichever format it has
+abbrev pub ReadsRows : List PlainLogged → Areas → Type 0
+ReadsRows rows areas = (format : LogFormat) × ReadsIn format rows areas
+
+-- A back end opened with the entries of the logged area as it was read, which fit one after another, and with their moments.
+pub record IsOpenedFrom (reads : Option Areas) (history : List PlainEntry) (moments : List ℕ) : Type 0 where
+  pub rows : List PlainLogged
+  pub are_entries : AreEntries rows
+  pub history_is : history ≡ opened_with (entries_of rows)
+  pub moments_are : moments ≡ moments_of rows
+  pub read : WhereTold reads (ReadsRows rows)
 
 -- These entries in front fit one after another, and the one behind them does not fit after them.
 pub record IsUnfitBehind (front entries : List PlainEntry) : Type 0 where
@@ -70,28 +78,49 @@ pub record IsUnfitBehind (front entries : List PlainEntry) : Type 0 where
   pub fit : AllFit [] front
   pub unfit : ¬ Fits front entry
 
--- The log can be read, and the entry behind the gate at this place is the first that does not fit after those before it.
-pub record IsUnfitAt (place : ℕ) (log : List ℕ) : Type 0 where
-  pub entries : List PlainEntry
-  pub front : List PlainEntry
-  pub read : ReadsAs entries log
-  pub unfit : IsUnfitBehind front entries
-  pub at : place ≡ length (gated front)
+-- So many entries in front fit one after another, and the one behind them does not fit.
+abbrev pub IsUnfitFrom : ℕ → List PlainEntry → Type 0
+IsUnfitFrom count entries = (count < length entries) × IsUnfitBehind (take count entries) entries
 
--- The log is damaged at this gate: the first behind which no body stands, or one too many, anywhere; or, where there is
+-- these entries with no moments
+abbrev pub untimed_all : List PlainEntry → List PlainLogged
+untimed_all entries = map untimed entries
+
+-- where the gate behind these entries stands in the area of this format
+abbrev pub gate_place : LogFormat → List PlainLogged → ℕ
+gate_place format rows = begins_at format + length (gated format rows)
+
+-- The logged area can be read, and the entry behind the gate at this place of the area is the first that does not fit after
+-- those before it.
+pub record IsUnfitAt (place : ℕ) (areas : Areas) : Type 0 where
+  pub format : LogFormat
+  pub rows : List PlainLogged
+  pub count : ℕ
+  pub read : ReadsIn format rows areas
+  pub unfit : IsUnfitFrom count (entries_of rows)
+  pub at : place ≡ gate_place format (take count rows)
+
+-- The logged area is damaged at this gate: the first behind which no body stands, or one too many, anywhere; or, where there is
 -- none, the first behind which an entry stands that does not fit.
-abbrev pub IsDamagedLog : ℕ → List ℕ → Type 0
-IsDamagedLog place log = IsDamagedAt place log ⊎ IsUnfitAt place log
+abbrev pub IsDamagedLog : ℕ → Areas → Type 0
+IsDamagedLog place areas = IsDamaged place areas ⊎ IsUnfitAt place areas
 
--- the same bytes; or these but for the gate at the end, which is 0 now
-abbrev pub IsAsBefore : List ℕ → List ℕ → Type 0
-IsAsBefore old new = (new ≡ old) ⊎ ((entries : List PlainEntry) × HasEndClosed entries old new)
+-- What opening leaves of the areas for a log: the entries that it read are in the second area, and that of before is empty; or it
+-- stopped before, and they are as they were, or the log of before is and the second area is still closed.
+abbrev pub IsAsBefore : Areas → Areas → Type 0
+IsAsBefore old new = ((format : LogFormat) × (rows : List PlainLogged) × ReadsIn format rows old × IsMoved format rows old new) ⊎ IsAsFound old new
 
--- what the log reads is as it was, but that its end gate may be closed
+-- so it is with what the disk reads, where it tells that
 abbrev pub ReadsAsBefore : Option Areas → Option Areas → Type 0
-ReadsAsBefore None None = Unit {0}
-ReadsAsBefore (Some old) (Some new) = IsAsBefore old.log new.log
-ReadsAsBefore _ _ = ⊥
+ReadsAsBefore old new = BothTold old new IsAsBefore
+
+-- where no body, or one too many, stands behind this gate of what the disk reads, that is left as it was
+abbrev pub LeavesMisspelled : ℕ → Option Areas → Option Areas → Type 0
+LeavesMisspelled place old new = AsRead old (IsDamaged place) → new ≡ old
+
+-- So whatever entries the logged area had, with their moments, it has them still.
+abbrev pub OpeningKeepsRows : Type 0
+OpeningKeepsRows = (old new : Areas) (rows : List PlainLogged) → IsAsBefore old new → ReadsRows rows old → ReadsRows rows new
 
 -- ---- pages
 
@@ -121,18 +150,18 @@ pub record IsFlushedFrom (pages : Pages) (store : StoreView) : Type 0 where
 
 -- ---- a whole log
 
--- it is not damaged, and if it is opened the history is that of these entries
-abbrev pub OpensAs : Result StoreView OpenFault → List PlainEntry → Type 0
-OpensAs (Ok store) entries = store.history ≡ opened_with entries
-OpensAs (Err (Damaged at)) entries = ⊥
-OpensAs (Err Disk) entries = Unit {0}
-OpensAs (Err Memory) entries = Unit {0}
+-- it is not damaged, and if it is opened the history is that of these entries, and the moments are theirs
+abbrev pub OpensAs : Result StoreView OpenFault → List PlainLogged → Type 0
+OpensAs (Ok store) rows = (store.history ≡ opened_with (entries_of rows)) × (store.moments ≡ moments_of rows)
+OpensAs (Err (Damaged at)) rows = ⊥
+OpensAs (Err Disk) rows = Unit {0}
+OpensAs (Err Memory) rows = Unit {0}
 
--- The bytes of a log alone decide: it is read as entries that fit one after another, or it is damaged at one place, and never
--- both.
-pub record OneOpening (log : List ℕ) : Type 0 where
-  pub place : (a b : ℕ) → IsDamagedLog a log → IsDamagedLog b log → a ≡ b
-  pub apart : (entries : List PlainEntry) (place : ℕ) → ReadsAs entries log → AllFit [] entries → ¬ IsDamagedLog place log
+-- The bytes of the areas alone decide: they are read as entries that fit one after another, or they are damaged at one place, and
+-- never both.
+pub record OneOpening (areas : Areas) : Type 0 where
+  pub place : (a b : ℕ) → IsDamagedLog a areas → IsDamagedLog b areas → a ≡ b
+  pub apart : (rows : List PlainLogged) (place : ℕ) → ReadsRows rows areas → AllFit [] (entries_of rows) → ¬ IsDamagedLog place areas
 
 abbrev pub EachHasOneOpening : Type 0
-EachHasOneOpening = (log : List ℕ) → OneOpening log
+EachHasOneOpening = (areas : Areas) → OneOpening areas

@@ -1,5 +1,5 @@
 -- How a store stands to its pages: what loading gives of every image of its disk.
-use Rattle.std.specs.Prelude.{◌≡◌, ◌⊎◌, ℕ, List, length, Option}
+use Rattle.std.specs.Prelude.{◌⊎◌, List, length, Option}
 use Rattle.febe_data.specs.Plain.{PlainEntry}
 use Rattle.green_io.specs.Areas.{Areas}
 use Rattle.green_io.specs.Disk.{DiskState, images_now}

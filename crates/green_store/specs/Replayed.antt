@@ -1,5 +1,5 @@
 -- What building the world of a log's entries finds, and how it goes on with trees that pages hold.
-use Rattle.std.specs.Prelude.{◌≡◌, ◌⊎◌, ℕ, ◌<◌, ◌≤◌, Bool, true, false, not, List, [], length, take, Option, None, Some}
+use Rattle.std.specs.Prelude.{◌≡◌, ◌⊎◌, ℕ, ◌≤◌, Bool, true, false, not, List, [], length, Option, None, Some}
 use Rattle.febe_data.specs.Plain.{PlainEntry}
 use Rattle.world_rules.specs.FlatView.{FlatView, view_of}
 use Rattle.entry_fits.specs.Fits.{AllFit}
@@ -14,11 +14,7 @@ use Rattle.green_store.specs.declared.opening.Retold.{Retold}
 use Rattle.green_store.specs.declared.opening.Retold.TheVariants as retold
 use Rattle.green_store.specs.declared.opening.Rebuilt.{Rebuilt}
 use Rattle.green_store.specs.declared.opening.Rebuilt.TheVariants as rebuilt
-use Rattle.green_store.specs.Opening.{IsUnfitBehind, StandAt}
-
--- So many entries in front fit one after another, and the one behind them does not fit.
-abbrev pub IsUnfitFrom : ℕ → List PlainEntry → Type 0
-IsUnfitFrom at entries = (at < length entries) × IsUnfitBehind (take at entries) entries
+use Rattle.green_store.specs.Opening.{IsUnfitFrom, StandAt}
 
 -- These entries fit one after another, the world stands for what they build, and the serials of their sessions are noted.
 pub record AreTold (past : List PlainEntry) (stands : FlatView → Type 0) (serials : List (ℕ × ℕ)) : Type 0 where

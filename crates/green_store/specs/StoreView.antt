@@ -7,11 +7,12 @@ use Rattle.tree_world.specs.Condition.{Condition}
 use Rattle.tree_world.specs.Nodes.{WorldNodes}
 use Rattle.green_flush.specs.Standing.{FlushView}
 
--- its history, what it holds at most, how far its log is, the condition of its trees, how many nodes these had once they
+-- its history, the moments at which its kept entries were made, what it holds at most, how far its log is, the condition of its trees, how many nodes these had once they
 -- were last swept, or when the store opened, the nodes themselves, what is known of its pages, and for how many kept entries
 -- these stand
 pub record StoreView : Type 0 where
   pub history : List PlainEntry
+  pub moments : List ℕ
   pub limits : LimitsView
   pub log : LogView
   pub trees : Condition
@@ -27,6 +28,7 @@ with_one view entry = record view { history = view.history ++ entry ∷ [] }
 -- all but the trees and the pages is as it was
 pub record StandsStill (before after : StoreView) : Type 0 where
   pub history : after.history ≡ before.history
+  pub moments : after.moments ≡ before.moments
   pub limits : after.limits ≡ before.limits
   pub log : after.log ≡ before.log
 
@@ -35,9 +37,10 @@ pub record PagesStandStill (before after : StoreView) : Type 0 where
   pub flush : after.flush ≡ before.flush
   pub flushed : after.flushed ≡ before.flushed
 
--- the history is as it was, and so are the trees, down to their nodes, and the pages
+-- the history is as it was, and so are the moments, the trees, down to their nodes, and the pages
 pub record StandsAsBefore (before after : StoreView) : Type 0 where
   pub history : after.history ≡ before.history
+  pub moments : after.moments ≡ before.moments
   pub trees : after.trees ≡ before.trees
   pub base : after.base ≡ before.base
   pub nodes : after.nodes ≡ before.nodes

@@ -5,6 +5,7 @@ use Rattle.tumbler.specs.Places.{IsTumbler}
 use Rattle.febe_data.specs.declared.refusal.Refusal.TheVariants.{Disk}
 use Rattle.febe_data.specs.Plain.{PlainChange, document_created, version_made, copy_opened, text_inserted, specs_copied, link_made, PlainReply, refused, PlainEntry}
 use Rattle.entry_codec.specs.Bodies.{IsU32, IsEncodable}
+use Rattle.entry_codec.specs.Logged.{PlainLogged}
 use Rattle.green_io.specs.Disk.{DiskState}
 use Rattle.world_rules.specs.Apply.{world_of}
 use Rattle.world_rules.specs.History.{durable_entries, is_durable}
@@ -22,10 +23,10 @@ use Rattle.green_store.specs.IsStep.{MayBalance, IsBalanced, unsaved}
 use Rattle.green_store.specs.StoreView.{StoreView}
 
 -- one edit is pending behind these entries, of which this holds
-pub record PendsOneOf (disk : DiskState) (log : LogView) (entries : List PlainEntry) (MayPend : PlainEntry → Type 0) : Type 0 where
-  pub entry : PlainEntry
-  pub which : MayPend entry
-  pub has : LogHas disk log entries (Some entry)
+pub record PendsOneOf (disk : DiskState) (log : LogView) (rows : List PlainLogged) (MayPend : PlainLogged → Type 0) : Type 0 where
+  pub row : PlainLogged
+  pub which : MayPend row
+  pub has : LogHas disk log rows (Some row)
 
 -- what the types of a kept change's fields say of them, where a request does not say it
 abbrev pub IsTyped : PlainChange → Type 0
@@ -63,10 +64,10 @@ IsKeptOrTakenBack before session made reply after rose = IsKept before session m
 
 -- The disk has the kept entries as they are then. Or none was kept, and an edit is pending: the one that was before, or this
 -- one, which was refused since the disk failed.
-abbrev pub KeepsEdit : StoreView → Option PlainEntry → PlainEntry → StoreView → PlainReply → DiskState → Type 0
-KeepsEdit before pending entry after reply disk =
+abbrev pub KeepsEdit : StoreView → Option PlainLogged → PlainLogged → StoreView → PlainReply → DiskState → Type 0
+KeepsEdit before pending row after reply disk =
     Keeps disk after None
-    ⊎ StaysPending before after disk (λ other. IsThat pending other ⊎ ((other ≡ entry) × (reply ≡ refused Disk)))
+    ⊎ StaysPending before after disk (λ other. IsThat pending other ⊎ ((other ≡ row) × (reply ≡ refused Disk)))
 
 -- One step has put this right in the trees, which are in one condition before it and in the other after it; and so many
 -- nodes they had after the last sweep, before the step and after it.

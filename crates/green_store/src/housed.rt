@@ -1,7 +1,7 @@
 //! A store and its disk as one value, which sessions share behind a lock.
 ghost use Rattle.std.specs.Prelude.{◌≡◌, ◌≤◌, ◌<◌, length, Option};
-ghost use Rattle.febe_data.specs.Plain.{PlainEntry};
-ghost use Rattle.green_io.specs.Areas.{is_log};
+ghost use Rattle.entry_codec.specs.Logged.{PlainLogged};
+ghost use Rattle.green_io.specs.Areas.{is_logged};
 ghost use Rattle.green_io.specs.Disk.{LeavesOnly, LeavesBut};
 ghost use Rattle.history_lock.specs.Histories.{Grows};
 ghost use Rattle.green_store.specs.Durable.{has_risen, Keeps, HoldsStep, KeepsStep};
@@ -14,6 +14,7 @@ ghost use Rattle.green_store.specs.Paged.{IsPaged, HasPages, EachLoadsFor, MayLo
 ghost use Rattle.green_store.specs.IsStep.{IsStep, UnlessAsked, UnlessSwept, UnlessFlushed, OnFlushed, UnlessTended, OnTended, unsaved};
 ghost use Rattle.green_store.specs.Isolated.{IsolatesStep};
 ghost use Rattle.green_store.specs.Marks.{owner_of, numbers_of, marks_of};
+ghost use Rattle.green_store.specs.TimedStep.{IsTimedStep};
 
 use crate::laws::no_session_is_zero;
 use crate::step::{Step, StepAnswer};
@@ -37,6 +38,14 @@ pub enum HouseJob {
     Background,
 }
 
+/// A job, and the moment at which it is given.
+#[derive(Debug, Drop)]
+pub struct Timed {
+    /// In milliseconds since the year 1970 began.
+    pub moment: u64,
+    pub job: HouseJob,
+}
+
 /// What contracts see as an entry of a housed store's history. No value of it is made.
 pub struct EntryView;
 
@@ -53,6 +62,8 @@ impl Model for EntryView {
 pub struct Housed<D: Disk> {
     pub store: Store,
     pub disk: D,
+    /// The moment of the last job, and 0 before the first.
+    pub last: u64,
 }
 
 impl<D: Disk> Model for Housed<D> {
@@ -60,7 +71,7 @@ impl<D: Disk> Model for Housed<D> {
 
     ghost Value = { HousedView D };
 
-    ghost view = { λ h. record { store = h.store; disk = h.disk } };
+    ghost view = { λ h. record { store = h.store; disk = h.disk; last = h.last } };
 
     ghost invariant = { λ h. IsOneDisk (D.state h.disk) h.store };
 }
@@ -71,20 +82,27 @@ impl<D: Disk> Housed<D> {
         requires { IsOneDisk (D.state disk) store }
         ensures store { result.store ≡ store }
         ensures disk { result.disk ≡ disk }
+        ensures last { result.last ≡ 0 }
     {
-        Housed { store, disk }
+        Housed {
+            store,
+            disk,
+            last: 0,
+        }
     }
 
-    /// Does one step of the store over its disk, as [`Store::step`](crate::StoreOver::step) tells.
-    pub fn step(&mut self, alloc: Global, step: Step) -> StepAnswer
+    /// Does one step of the store over its disk at this moment, as [`Store::step`](crate::StoreOver::step) tells.
+    pub fn step(&mut self, alloc: Global, moment: u64, step: Step) -> StepAnswer
         ensures step { IsStep self.old.store step self.new.store result (has_risen (D.fault_count self.old.disk) (D.fault_count self.new.disk)) }
         ensures isolated { IsolatesStep self.old.store step result }
         ensures limits { self.new.store.limits ≡ self.old.store.limits }
-        ensures any_moment { (pending : Option PlainEntry) → Keeps (D.state self.old.disk) self.old.store pending → LeavesOnly (D.state self.old.disk) (D.state self.new.disk) (HoldsStep self.old.store pending step) }
-        ensures keeps { (pending : Option PlainEntry) → Keeps (D.state self.old.disk) self.old.store pending → KeepsStep self.old.store pending step self.new.store result (D.state self.new.disk) }
+        ensures moments { IsTimedStep self.old.store moment self.new.store }
+        ensures last { self.new.last ≡ moment }
+        ensures any_moment { (pending : Option PlainLogged) → Keeps (D.state self.old.disk) self.old.store pending → LeavesOnly (D.state self.old.disk) (D.state self.new.disk) (HoldsStep self.old.store pending moment step) }
+        ensures keeps { (pending : Option PlainLogged) → Keeps (D.state self.old.disk) self.old.store pending → KeepsStep self.old.store pending moment step self.new.store result (D.state self.new.disk) }
         ensures pages_any_moment { (was now : Option TreesAt) → IsPaged (D.state self.old.disk) self.old.store was now → LeavesOnly (D.state self.old.disk) (D.state self.new.disk) (MayLoad was now (durable_entries self.old.store.history)) }
         ensures flushed { OnFlushed result (HasPages (D.state self.old.disk) self.old.store → EachLoadsFor (durable_entries self.new.store.history) (D.state self.new.disk)) }
-        ensures others { UnlessTended step (LeavesBut is_log (D.state self.old.disk) (D.state self.new.disk)) }
+        ensures others { UnlessTended step (LeavesBut is_logged (D.state self.old.disk) (D.state self.new.disk)) }
         ensures log { OnTended step (LeavesBut is_paged (D.state self.old.disk) (D.state self.new.disk)) }
         ensures never_falls { D.fault_count self.old.disk ≤ D.fault_count self.new.disk }
         ensures base { UnlessSwept result (self.new.store.base ≡ self.old.store.base) }
@@ -92,7 +110,8 @@ impl<D: Disk> Housed<D> {
         ensures untouched { UnlessAsked step (UnlessTended step (self.new.disk ≡ self.old.disk)) }
         ensures left_alone { OnTended step (unsaved self.old.store < self.old.store.limits.flush → self.new.disk ≡ self.old.disk) }
     {
-        self.store.step(alloc, &mut self.disk, step)
+        self.last = moment;
+        self.store.step(alloc, &mut self.disk, moment, step)
     }
 
     /// The store and the disk, when they are done with as one.
@@ -101,7 +120,11 @@ impl<D: Disk> Housed<D> {
         ensures disk { result.1 ≡ self.disk }
         ensures one_disk { IsOneDisk (D.state result.1) result.0 }
     {
-        let Housed { store, disk } = self;
+        let Housed {
+            store,
+            disk,
+            last: _,
+        } = self;
         (store, disk)
     }
 }
@@ -133,7 +156,7 @@ fn number_behind(number: u64, answer: &StepAnswer) -> u64
 }
 
 impl<D: Disk> Kept for Housed<D> {
-    type Job = HouseJob;
+    type Job = Timed;
 
     type Answer = StepAnswer;
 
@@ -145,7 +168,7 @@ impl<D: Disk> Kept for Housed<D> {
 
     ghost fixed = { λ h. numbers_of h.store.limits };
 
-    ghost marks = { λ h. marks_of (D.fault_count h.disk) h.store };
+    ghost marks = { λ h. marks_of (D.fault_count h.disk) h.store h.last };
 
     ghost plays = { HousePlays };
 
@@ -153,26 +176,30 @@ impl<D: Disk> Kept for Housed<D> {
         self.store.length()
     }
 
-    /// Does the job by one step of the store. The crash clauses are those of that step.
-    fn play(&mut self, alloc: Global, number: u64, job: HouseJob) -> Played<StepAnswer>
+    /// Does the job by one step of the store at its moment, which is the last one then, whatever comes of the job. The crash clauses
+    /// are those of that step.
+    fn play(&mut self, alloc: Global, number: u64, job: Timed) -> Played<StepAnswer>
         ensures fixed { numbers_of self.new.store.limits ≡ numbers_of self.old.store.limits }
         ensures grows { Grows owner_of number self.old.store.history result.number self.new.store.history }
-        ensures plays { HousePlays (numbers_of self.old.store.limits) self.old.store.history number job result.answer result.number self.new.store.history (marks_of (D.fault_count self.old.disk) self.old.store) (marks_of (D.fault_count self.new.disk) self.new.store) }
-        ensures any_moment { (pending : Option PlainEntry) → Keeps (D.state self.old.disk) self.old.store pending → LeavesOnly (D.state self.old.disk) (D.state self.new.disk) (HoldsStep self.old.store pending (step_for number job)) }
-        ensures keeps { (pending : Option PlainEntry) → Keeps (D.state self.old.disk) self.old.store pending → KeepsStep self.old.store pending (step_for number job) self.new.store result.answer (D.state self.new.disk) }
+        ensures plays { HousePlays (numbers_of self.old.store.limits) self.old.store.history number job result.answer result.number self.new.store.history (marks_of (D.fault_count self.old.disk) self.old.store self.old.last) (marks_of (D.fault_count self.new.disk) self.new.store self.new.last) }
+        ensures moments { IsTimedStep self.old.store job.moment self.new.store }
+        ensures any_moment { (pending : Option PlainLogged) → Keeps (D.state self.old.disk) self.old.store pending → LeavesOnly (D.state self.old.disk) (D.state self.new.disk) (HoldsStep self.old.store pending job.moment (step_for number job.job)) }
+        ensures keeps { (pending : Option PlainLogged) → Keeps (D.state self.old.disk) self.old.store pending → KeepsStep self.old.store pending job.moment (step_for number job.job) self.new.store result.answer (D.state self.new.disk) }
         ensures pages_any_moment { (was now : Option TreesAt) → IsPaged (D.state self.old.disk) self.old.store was now → LeavesOnly (D.state self.old.disk) (D.state self.new.disk) (MayLoad was now (durable_entries self.old.store.history)) }
-        ensures others { UnlessTended (step_for number job) (LeavesBut is_log (D.state self.old.disk) (D.state self.new.disk)) }
-        ensures log { OnTended (step_for number job) (LeavesBut is_paged (D.state self.old.disk) (D.state self.new.disk)) }
+        ensures others { UnlessTended (step_for number job.job) (LeavesBut is_logged (D.state self.old.disk) (D.state self.new.disk)) }
+        ensures log { OnTended (step_for number job.job) (LeavesBut is_paged (D.state self.old.disk) (D.state self.new.disk)) }
         ensures never_falls { D.fault_count self.old.disk ≤ D.fault_count self.new.disk }
     {
         no_session_is_zero(&self.store);
+        let Timed { moment, job } = job;
         let Some(step) = step_of(number, job) else {
+            self.last = moment;
             return Played {
                 answer: StepAnswer::NoSession,
                 number,
             };
         };
-        let answer = self.step(alloc, step);
+        let answer = self.step(alloc, moment, step);
         let number = number_behind(number, &answer);
         Played { answer, number }
     }

@@ -1,9 +1,11 @@
 //! The records of edits, and how one comes into the log.
 ghost use Rattle.std.specs.Prelude.{◌≡◌, ◌⊎◌, ◌≤◌, List, [], ◌∷◌, ◌++◌, Option, IfOk};
-ghost use Rattle.febe_data.specs.Plain.{PlainEntry, plain_change, plain_entry};
+ghost use Rattle.febe_data.specs.Plain.{plain_change, plain_entry};
 ghost use Rattle.entry_codec.specs.Bodies.{HasBody};
 ghost use Rattle.entry_codec.specs.Format.{body_of};
-ghost use Rattle.green_io.specs.Areas.{is_log};
+ghost use Rattle.entry_codec.specs.Logged.{PlainLogged, made_at_moment};
+ghost use Rattle.entry_codec.specs.declared.format.LogFormat.TheVariants.{New};
+ghost use Rattle.green_io.specs.Areas.{is_logged};
 ghost use Rattle.green_io.specs.Disk.{LeavesOnly, LeavesBut};
 ghost use Rattle.green_io.specs.Outside.{HasRisen};
 ghost use Rattle.edit_log.specs.Answers.{OnDone, OnFailed};
@@ -55,22 +57,22 @@ pub(crate) fn look_at(change: &Change)
     }
 }
 
-/// What is appended for an entry: its body, and the byte 0 that will be the next end gate.
-pub(crate) fn record_of(alloc: Global, entry: &Entry) -> Result<Text, Memory>
-    requires { HasBody (plain_entry entry.now) }
-    ensures { IfOk result (λ bytes. bytes.items ≡ body_of (plain_entry entry.now) ++ (0 ∷ [])) }
+/// What is appended for an entry that is made at this moment: its body, and the byte 0 that will be the next end gate.
+pub(crate) fn record_of(alloc: Global, entry: &Entry, moment: u64) -> Result<Text, Memory>
+    requires { HasBody New (made_at_moment (plain_entry entry.now) moment) }
+    ensures { IfOk result (λ bytes. bytes.items ≡ body_of New (made_at_moment (plain_entry entry.now) moment) ++ (0 ∷ [])) }
 {
-    let mut bytes = encode(alloc, entry)?;
+    let mut bytes = encode(alloc, entry, moment)?;
     bytes.push(0)?;
     Ok(bytes)
 }
 
 /// Takes a pending edit back, where one is, and appends the record. It takes no memory.
 pub(crate) fn keep<D: Disk>(log: &mut EditLog, disk: &mut D, bytes: &Text) -> Appended
-    ensures any_moment { (entries : List PlainEntry) (pending : Option PlainEntry) (entry : PlainEntry) → IsAppendable entries entry bytes.now.items → LogHas (D.state disk.old) log.old entries pending → LeavesOnly (D.state disk.old) (D.state disk.new) (HoldsWith entries (λ other. IsThat pending other ⊎ (other ≡ entry))) }
-    ensures done { (entries : List PlainEntry) (pending : Option PlainEntry) (entry : PlainEntry) → IsAppendable entries entry bytes.now.items → LogHas (D.state disk.old) log.old entries pending → OnDone result (LogHas (D.state disk.new) log.new (entries ++ entry ∷ []) None) }
-    ensures pending { (entries : List PlainEntry) (pending : Option PlainEntry) (entry : PlainEntry) → IsAppendable entries entry bytes.now.items → LogHas (D.state disk.old) log.old entries pending → OnFailed result (PendsOneOf (D.state disk.new) log.new entries (λ other. IsThat pending other ⊎ (other ≡ entry))) }
-    ensures others { LeavesBut is_log (D.state disk.old) (D.state disk.new) }
+    ensures any_moment { (rows : List PlainLogged) (pending : Option PlainLogged) (row : PlainLogged) → IsAppendable rows row bytes.now.items → LogHas (D.state disk.old) log.old rows pending → LeavesOnly (D.state disk.old) (D.state disk.new) (HoldsWith rows (λ other. IsThat pending other ⊎ (other ≡ row))) }
+    ensures done { (rows : List PlainLogged) (pending : Option PlainLogged) (row : PlainLogged) → IsAppendable rows row bytes.now.items → LogHas (D.state disk.old) log.old rows pending → OnDone result (LogHas (D.state disk.new) log.new (rows ++ row ∷ []) None) }
+    ensures pending { (rows : List PlainLogged) (pending : Option PlainLogged) (row : PlainLogged) → IsAppendable rows row bytes.now.items → LogHas (D.state disk.old) log.old rows pending → OnFailed result (PendsOneOf (D.state disk.new) log.new rows (λ other. IsThat pending other ⊎ (other ≡ row))) }
+    ensures others { LeavesBut is_logged (D.state disk.old) (D.state disk.new) }
     ensures never_falls { D.fault_count disk.old ≤ D.fault_count disk.new }
     ensures failed { OnFailed result (HasRisen (D.fault_count disk.old) (D.fault_count disk.new)) }
 {

@@ -9,7 +9,7 @@ mod step;
 mod store;
 mod tending;
 
-pub use housed::{EntryView, HouseJob, Housed};
+pub use housed::{EntryView, HouseJob, Housed, Timed};
 pub use opening::OpenFault;
 pub use step::{Step, StepAnswer};
 pub use store::{Store, StoreOver};

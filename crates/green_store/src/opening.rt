@@ -3,13 +3,16 @@ ghost use Rattle.std.specs.Prelude.{◌≡◌, ◌≤◌, List as ListOf, [], �
 ghost use Rattle.std.specs.List.{AllByRecursion};
 ghost use Rattle.febe_data.specs.Plain.{PlainEntry, plain_entry, plain_history};
 ghost use Rattle.entry_codec.specs.Bodies.{HasBody};
+ghost use Rattle.entry_codec.specs.Logged.{plain_log, entries_of, moments_of, timed};
 ghost use Rattle.entry_fits.specs.Fits.{AllFit};
 ghost use Rattle.entry_fits.specs.Greatest.{AreSerialsOf};
 ghost use Rattle.green_io.specs.Disk.{LeavesOnly, WhereTold};
 ghost use Rattle.green_io.specs.Outside.{HasRisen};
+ghost use Rattle.world_rules.specs.History.{restart_entry};
 ghost use Rattle.world_rules.specs.FlatView.{FlatView, nothing_yet, view_of, after_entry};
 ghost use Rattle.edit_log.specs.Images.{AreEntries, AsRead, HoldsAsRead};
-ghost use Rattle.edit_log.specs.Log.{gated, most_entries, IsWhole};
+ghost use Rattle.edit_log.specs.Log.{most_entries};
+ghost use Rattle.edit_log.specs.Second.{begins_at, HoldsWhole};
 ghost use Rattle.page_journal.specs.JournalBytes.{opened};
 ghost use Rattle.page_trees.specs.Trees.{PlainTrees};
 ghost use Rattle.green_flush.specs.Loads.{TreesAt, AreLoaded, HasLoaded};
@@ -18,16 +21,16 @@ ghost use Rattle.tree_world.specs.Nodes.{AllGrown};
 ghost use Rattle.paged_world.specs.Standing.{MayGoOn};
 ghost use Rattle.green_store.specs.Durable.{Keeps};
 ghost use Rattle.green_store.specs.Paged.{HasPages};
-ghost use Rattle.green_store.specs.Opening.{IsFlushedAt, IsFlushedFrom, IsOpenedFrom, IsDamagedLog, IsUnfitBehind, OnDamagedLog, OnDiskFailed, UnlessDiskFailed, ReadsAsBefore, OpensAs, opened_with};
+ghost use Rattle.green_store.specs.Opening.{IsFlushedAt, IsFlushedFrom, IsOpenedFrom, IsDamagedLog, IsUnfitFrom, LeavesMisspelled, OnDamagedLog, OnDiskFailed, UnlessDiskFailed, ReadsAsBefore, OpensAs, gate_place, opened_with, untimed_all};
 ghost use Rattle.green_store.specs.Replayed.{AreTold, IsRetold, IsRebuilt, AreTreesAt, MayHaveGoneOn, came_to, IsSameOrRenewed};
 ghost use Rattle.green_store.specs.Sessions.{greatest_session};
 
 use crate::store::{Store, StoreOver};
 use crate::tending::{Tended, tend};
-use edit_log::laws::one_reading;
+use edit_log::laws::{one_reading, open_is_whole};
 use edit_log::{EditLog, LogFault};
-use entry_codec::encode;
-use entry_codec::laws::body_says_length;
+use entry_codec::laws::{body_says_length, moments_are_as_long, old_has_new};
+use entry_codec::{LogFormat, Logged, body_length};
 use entry_fits::laws::{fitting_are_kept, fitting_begin, one_more_fits};
 use entry_fits::{Serials, fits};
 use febe_data::{Change, Entry, Limits, List, Memory};
@@ -36,6 +39,7 @@ use green_io::Disk;
 use page_journal::PageFault;
 use paged_world::OnPages;
 use std::alloc::Global;
+use std::mem;
 use thiserror::Error;
 use tree_world::{Rebalance, TreeWorld};
 
@@ -46,7 +50,7 @@ pub enum OpenFault {
     /// before it.
     #[error("damaged log at {at}")]
     Damaged {
-        /// The gate's offset in the log.
+        /// The gate's offset in the area that the log was read in.
         at: u64,
     },
     /// The disk failed.
@@ -94,20 +98,73 @@ impl From<LogFault> for OpenFault {
     }
 }
 
-/// Where the gate behind these entries stands in a log.
-fn gate_behind(alloc: Global, entries: &[Entry]) -> Result<u64, Memory>
-    requires spelled { AllByRecursion HasBody (plain_history entries.now) }
+/// Where a log of this format begins in its area.
+fn beginning(format: LogFormat) -> u64
+    ensures { result ≡ begins_at format }
+{
+    match format {
+        LogFormat::Old => 0,
+        LogFormat::New => 1,
+    }
+}
+
+/// Where the gate behind these entries stands in the area of a log of this format. It takes no memory.
+fn gate_behind(format: LogFormat, entries: &[Entry]) -> u64
+    requires spelled { AllByRecursion (HasBody format) (untimed_all (plain_history entries.now)) }
     requires few { length entries.now ≤ most_entries }
-    ensures { IfOk result (λ at. at ≡ length (gated (plain_history entries.now))) }
+    ensures { result ≡ gate_place format (untimed_all (plain_history entries.now)) }
 {
     // So the place is far below the greatest number.
     body_says_length();
-    let mut at: u64 = 0;
+    let mut at = beginning(format);
     for entry in entries {
-        let body = encode(alloc, entry)?;
-        at += 1 + body.len() as u64;
+        at += 1 + body_length(format, entry);
     }
-    Ok(at)
+    at
+}
+
+/// The entry of a restart.
+fn restart() -> Entry
+    ensures { plain_entry result ≡ restart_entry }
+{
+    Entry {
+        session: 0,
+        serial: 0,
+        change: Change::Restart,
+    }
+}
+
+/// Takes the entry out of its row, where a restart is left.
+fn take_entry(row: &mut Logged) -> Entry
+    ensures { result ≡ row.old.entry }
+{
+    mem::replace(&mut row.entry, restart())
+}
+
+/// Moves the entries of the rows, and their moments, into lists that have room for them.
+fn move_apart(rows: &mut [Logged], entries: &mut List<Entry>, moments: &mut List<u64>)
+    requires room { length rows.old ≤ entries.old.spare }
+    requires moments_room { length rows.old ≤ moments.old.spare }
+    ensures entries { plain_history entries.new.items ≡ plain_history entries.old.items ++ entries_of (plain_log rows.old) }
+    ensures moments { moments.new.items ≡ moments.old.items ++ moments_of (plain_log rows.old) }
+{
+    for k in 0..rows.len() {
+        moments.push_reserved(rows[k].moment);
+        entries.push_reserved(take_entry(&mut rows[k]));
+    }
+}
+
+/// The entries and their moments, each in a list of its own. Nothing that entries hold is copied.
+fn take_apart(alloc: Global, mut rows: List<Logged>) -> Result<(List<Entry>, List<u64>), Memory>
+    ensures entries { IfOk result (λ parts. plain_history parts.0.items ≡ entries_of (plain_log rows.items)) }
+    ensures moments { IfOk result (λ parts. parts.1.items ≡ moments_of (plain_log rows.items)) }
+{
+    let mut entries = List::new(alloc);
+    entries.reserve(rows.len())?;
+    let mut moments = List::new(alloc);
+    moments.reserve(rows.len())?;
+    move_apart(rows.as_mut_slice(), &mut entries, &mut moments);
+    Ok((entries, moments))
 }
 
 /// What telling some of the entries again came to.
@@ -322,79 +379,94 @@ impl<W: OnPages + Drop> StoreOver<W> {
         limits: Limits,
     ) -> Result<StoreOver<W>, OpenFault>
         requires { W.stands world nothing_yet }
-        ensures history { IfOk result (λ store. IsOpenedFrom (D.state disk.old).reads store.history) }
+        ensures history { IfOk result (λ store. IsOpenedFrom (D.state disk.old).reads store.history store.moments) }
         ensures limits { IfOk result (λ store. store.limits ≡ limits) }
         ensures base { IfOk result (λ store. store.base ≡ store.trees.nodes) }
         ensures keeps { IfOk result (λ store. IsSome (D.state disk.old).reads → Keeps (D.state disk.new) store None) }
-        ensures damaged { OnDamagedLog result (λ at. WhereTold (D.state disk.old).reads (λ areas. IsDamagedLog at areas.log)) }
+        ensures damaged { OnDamagedLog result (λ at. WhereTold (D.state disk.old).reads (IsDamagedLog at)) }
+        ensures untouched { OnDamagedLog result (λ at. LeavesMisspelled at (D.state disk.old).reads (D.state disk.new).reads) }
         ensures left { UnlessDiskFailed result (ReadsAsBefore (D.state disk.old).reads (D.state disk.new).reads) }
-        ensures whole { (entries : _) → AsRead (D.state disk.old).reads (IsWhole entries) → OpensAs result entries }
-        ensures any_moment { (entries : _) → AsRead (D.state disk.old).reads (IsWhole entries) → LeavesOnly (D.state disk.old) (D.state disk.new) (HoldsAsRead entries (D.state disk.old).reads) }
+        ensures whole { (rows : _) → AsRead (D.state disk.old).reads (HoldsWhole rows) → OpensAs result rows }
+        ensures any_moment { (rows : _) → AsRead (D.state disk.old).reads (HoldsWhole rows) → LeavesOnly (D.state disk.old) (D.state disk.new) (HoldsAsRead rows (D.state disk.old).reads) }
         ensures pages { IfOk result (λ store. IsSome (D.state disk.old).reads → HasPages (D.state disk.new) store) }
         ensures flushed { IfOk result (λ store. WhereTold (D.state disk.old).reads (λ areas. IsFlushedFrom (opened areas) store)) }
         ensures never_falls { D.fault_count disk.old ≤ D.fault_count disk.new }
         ensures failed { OnDiskFailed result (HasRisen (D.fault_count disk.old) (D.fault_count disk.new)) }
     {
-        // So a whole log is read as its entries.
+        // So a whole log is read as its entries, what could be read has no misspelled body, and old entries may be new ones.
         one_reading();
+        old_has_new();
         fitting_are_kept();
-        let (log, entries) = EditLog::open(alloc, disk)?;
+        let (log, rows) = EditLog::open(alloc, disk)?;
+        // And it stays whole while the pages are read.
+        open_is_whole(&*disk, &log);
         let pages = open_pages(alloc, disk)?;
-        StoreOver::over(alloc, world, log, entries, limits, pages)
+        StoreOver::over(alloc, world, log, rows, limits, pages)
     }
 
-    /// A store with the entries of an open log, over a world that no entry has changed yet, and with what its pages gave.
+    /// A store with the entries of an open log and their moments, over a world that no entry has changed yet, and with what its
+    /// pages gave.
     fn over(
         alloc: Global,
         mut world: W,
         log: EditLog,
-        entries: List<Entry>,
+        rows: List<Logged>,
         limits: Limits,
         pages: Opened,
     ) -> Result<StoreOver<W>, OpenFault>
         requires stands { W.stands world nothing_yet }
-        requires spelled { AllByRecursion HasBody (plain_history entries.items) }
-        requires few { length (plain_history entries.items) ≤ most_entries }
+        requires spelled { AllByRecursion (HasBody log.read) (plain_log rows.items) }
+        requires few { length (plain_log rows.items) ≤ most_entries }
         requires sound { HasLoaded pages.trees }
-        ensures history { IfOk result (λ store. store.history ≡ opened_with (plain_history entries.items)) }
-        ensures fit { IfOk result (λ store. AllFit [] (plain_history entries.items)) }
+        ensures history { IfOk result (λ store. store.history ≡ opened_with (entries_of (plain_log rows.items))) }
+        ensures moments { IfOk result (λ store. store.moments ≡ moments_of (plain_log rows.items)) }
+        ensures fit { IfOk result (λ store. AllFit [] (entries_of (plain_log rows.items))) }
         ensures limits { IfOk result (λ store. store.limits ≡ limits) }
         ensures log { IfOk result (λ store. store.log ≡ log) }
         ensures base { IfOk result (λ store. store.base ≡ store.trees.nodes) }
         ensures flush { IfOk result (λ store. IsSameOrRenewed pages.flush store.flush) }
         ensures goes_on { (now : OptionOf TreesAt) → AreTreesAt pages.trees now → IfOk result (λ store. MayGoOn store.flush now store.nodes) }
-        ensures flushed { (now : OptionOf TreesAt) → AreTreesAt pages.trees now → IfOk result (IsFlushedAt now (plain_history entries.items)) }
-        ensures damaged { OnDamagedLog result (λ at. (front : _) × IsUnfitBehind front (plain_history entries.items) × (at ≡ length (gated front))) }
+        ensures flushed { (now : OptionOf TreesAt) → AreTreesAt pages.trees now → IfOk result (IsFlushedAt now (entries_of (plain_log rows.items))) }
+        ensures damaged { OnDamagedLog result (λ at. (count : _) × IsUnfitFrom count (entries_of (plain_log rows.items)) × (at ≡ gate_place log.read (take count (plain_log rows.items)))) }
         ensures no_disk { OnDiskFailed result ⊥ }
     {
+        // So the place of a gate is told without the moments, and the entries may be those of the log that is open.
+        moments_are_as_long();
+        old_has_new();
         let Opened { flush, trees } = pages;
+        let (entries, moments) = take_apart(alloc, rows)?;
         match rebuild(alloc, &mut world, entries.as_slice(), trees)? {
             Rebuilt::Unfit { at } => {
-                let at = gate_behind(alloc, entries.as_slice().split_at(at).0)?;
+                let at = gate_behind(log.read_format(), entries.as_slice().split_at(at).0);
                 Err(OpenFault::Damaged { at })
             }
             Rebuilt::Whole { flushed, goes_on } => {
                 let flush = for_saves(flush, goes_on);
-                let store = StoreOver::begun(alloc, world, log, entries, limits, flush, flushed)?;
+                let store = StoreOver::begun(
+                    alloc, world, log, entries, moments, limits, flush, flushed,
+                )?;
                 Ok(store)
             }
         }
     }
 
-    /// A store that begins with these entries and a restart, over a world that the entries have built.
+    /// A store that begins with these entries, which have these moments, and a restart, over a world that the entries have built.
     fn begun(
         alloc: Global,
         mut world: W,
         log: EditLog,
         entries: List<Entry>,
+        moments: List<u64>,
         limits: Limits,
         flush: Flush,
         flushed: u64,
     ) -> Result<StoreOver<W>, Memory>
         requires stands { W.stands world (view_of (plain_history entries.items)) }
-        requires entries { AreEntries (plain_history entries.items) }
+        requires entries { AreEntries (timed (plain_history entries.items) moments.items) }
+        requires timed { length moments.items ≡ length (plain_history entries.items) }
         requires within { flushed ≤ length (plain_history entries.items) }
         ensures history { IfOk result (λ store. store.history ≡ opened_with (plain_history entries.items)) }
+        ensures moments { IfOk result (λ store. store.moments ≡ moments.items) }
         ensures limits { IfOk result (λ store. store.limits ≡ limits) }
         ensures log { IfOk result (λ store. store.log ≡ log) }
         ensures base { IfOk result (λ store. store.base ≡ store.trees.nodes) }
@@ -407,17 +479,14 @@ impl<W: OnPages + Drop> StoreOver<W> {
         fitting_are_kept();
         fitting_begin();
         let greatest = greatest_session(entries.as_slice());
-        let restart = Entry {
-            session: 0,
-            serial: 0,
-            change: Change::Restart,
-        };
+        let restart = restart();
         world.apply_beside(alloc, &restart)?;
         let base = world.nodes();
         let mut history = entries;
         history.push(restart)?;
         Ok(StoreOver {
             history,
+            moments,
             world,
             live: List::new(alloc),
             greatest,
@@ -440,18 +509,22 @@ impl StoreOver<TreeWorld> {
     /// for it. Else they are put aside, nothing is written for them, and the next save writes every stream anew; so it does where
     /// nodes were swept away behind that entry.
     ///
-    /// Where the log is damaged its place is that of the first gate with no entry behind it, or one too many, anywhere; and only
-    /// where there is none, of the first whose entry does not fit. Limits that are below what the log has do not matter here:
+    /// A log of before is moved into the second area, where each of its entries has the moment 0, and is emptied.
+    ///
+    /// Where the log is damaged its place is that of the first gate with no entry behind it, or one too many, anywhere: then it
+    /// is left as it was. Only where there is none, it is the place of the first gate whose entry does not fit: that log has
+    /// been moved, and the place is in the area where it was read. Limits that are below what the log has do not matter here:
     /// edits are then refused as full.
     pub fn open<D: Disk>(alloc: Global, disk: &mut D, limits: Limits) -> Result<Store, OpenFault>
-        ensures history { IfOk result (λ store. IsOpenedFrom (D.state disk.old).reads store.history) }
+        ensures history { IfOk result (λ store. IsOpenedFrom (D.state disk.old).reads store.history store.moments) }
         ensures limits { IfOk result (λ store. store.limits ≡ limits) }
         ensures base { IfOk result (λ store. store.base ≡ store.trees.nodes) }
         ensures keeps { IfOk result (λ store. IsSome (D.state disk.old).reads → Keeps (D.state disk.new) store None) }
-        ensures damaged { OnDamagedLog result (λ at. WhereTold (D.state disk.old).reads (λ areas. IsDamagedLog at areas.log)) }
+        ensures damaged { OnDamagedLog result (λ at. WhereTold (D.state disk.old).reads (IsDamagedLog at)) }
+        ensures untouched { OnDamagedLog result (λ at. LeavesMisspelled at (D.state disk.old).reads (D.state disk.new).reads) }
         ensures left { UnlessDiskFailed result (ReadsAsBefore (D.state disk.old).reads (D.state disk.new).reads) }
-        ensures whole { (entries : _) → AsRead (D.state disk.old).reads (IsWhole entries) → OpensAs result entries }
-        ensures any_moment { (entries : _) → AsRead (D.state disk.old).reads (IsWhole entries) → LeavesOnly (D.state disk.old) (D.state disk.new) (HoldsAsRead entries (D.state disk.old).reads) }
+        ensures whole { (rows : _) → AsRead (D.state disk.old).reads (HoldsWhole rows) → OpensAs result rows }
+        ensures any_moment { (rows : _) → AsRead (D.state disk.old).reads (HoldsWhole rows) → LeavesOnly (D.state disk.old) (D.state disk.new) (HoldsAsRead rows (D.state disk.old).reads) }
         ensures pages { IfOk result (λ store. IsSome (D.state disk.old).reads → HasPages (D.state disk.new) store) }
         ensures flushed { IfOk result (λ store. WhereTold (D.state disk.old).reads (λ areas. IsFlushedFrom (opened areas) store)) }
         ensures never_falls { D.fault_count disk.old ≤ D.fault_count disk.new }

@@ -23,6 +23,8 @@ use world_rules::{Effect, Served, is_durable};
 #[derive(Drop)]
 pub struct StoreOver<W: OnPages> {
     pub(crate) history: List<Entry>,
+    /// When each kept entry was made, in milliseconds since the year 1970 began.
+    pub(crate) moments: List<u64>,
     pub(crate) world: W,
     /// The live sessions. The history has room for the end of each.
     pub(crate) live: List<u64>,
@@ -48,15 +50,15 @@ impl<W: OnPages> Model for StoreOver<W> {
 
     ghost Value = { StoreView };
 
-    ghost view = { λ s. record { history = plain_history s.history.items; limits = s.limits; log = s.log; trees = W.condition s.world; base = s.base; nodes = W.world_nodes s.world; flush = s.flush; flushed = s.flushed } };
+    ghost view = { λ s. record { history = plain_history s.history.items; moments = s.moments.items; limits = s.limits; log = s.log; trees = W.condition s.world; base = s.base; nodes = W.world_nodes s.world; flush = s.flush; flushed = s.flushed } };
 
-    ghost invariant = { λ s. IsStore (plain_history s.history.items) s.history.spare (W.stands s.world) s.live.items s.greatest s.flushed };
+    ghost invariant = { λ s. IsStore (plain_history s.history.items) s.moments.items s.history.spare (W.stands s.world) s.live.items s.greatest s.flushed };
 }
 
 impl<W: OnPages + Drop> StoreOver<W> {
     ghost use Rattle.febe_data.specs.Plain.{plain_history};
-    ghost use Rattle.febe_data.specs.Plain.{PlainEntry};
-    ghost use Rattle.green_io.specs.Areas.{is_log};
+    ghost use Rattle.entry_codec.specs.Logged.{PlainLogged};
+    ghost use Rattle.green_io.specs.Areas.{is_logged};
     ghost use Rattle.green_io.specs.Disk.{LeavesOnly, LeavesBut};
     ghost use Rattle.world_rules.specs.Apply.{world_of};
     ghost use Rattle.world_rules.specs.FlatView.{view_of};
@@ -67,33 +69,42 @@ impl<W: OnPages + Drop> StoreOver<W> {
     ghost use Rattle.green_flush.specs.Loads.{TreesAt};
     ghost use Rattle.green_store.specs.IsStep.{IsStep, UnlessAsked, UnlessSwept, UnlessFlushed, OnFlushed, UnlessTended, OnTended, unsaved};
     ghost use Rattle.green_store.specs.Isolated.{IsolatesStep};
+    ghost use Rattle.green_store.specs.TimedStep.{IsTimedStep};
     ghost use Rattle.green_store.specs.Paged.{IsPaged, HasPages, EachLoadsFor, MayLoad};
     ghost use Rattle.std.specs.Prelude.{min};
     ghost use Rattle.enfilade_core.specs.Summary.{most_count};
 
-    /// Does one step, whole: where there is no memory in its midst, or the disk fails, nothing of it stays but an edit that is
+    /// Does one step at this moment, whole: where there is no memory in its midst, or the disk fails, nothing of it stays but an edit that is
     /// pending in the log, which the next edit takes back first; and but for pages that a save had written when it stopped,
     /// which change no answer.
     ///
     /// A query is answered by what its session may read alone: what is private to other accounts changes no answer.
     ///
     /// An edit builds its reply, its trees and its record first, then mends the log where an edit is pending, appends, and
-    /// stands. What was appended is never refused. Steps that make no kept change leave the disk alone.
+    /// stands. What was appended is never refused. It is logged with the moment, which comes behind those of the entries kept before
+    /// it. Steps that make no kept change leave the disk and the moments alone.
     ///
     /// A background step makes one step of the balancer where a tree allows one. Only where none does, it writes all trees to
     /// pages, if so many kept entries stand behind those that the pages stand for as the limits say. Only where neither is to be
     /// done, and the arenas hold over twice as many nodes as after the last sweep or at opening, and 1,024 more, it lets go of
     /// those that no tree reaches. Where nothing is to be put right it takes no memory.
-    pub fn step<D: Disk>(&mut self, alloc: Global, disk: &mut D, step: Step) -> StepAnswer
+    pub fn step<D: Disk>(
+        &mut self,
+        alloc: Global,
+        disk: &mut D,
+        moment: u64,
+        step: Step,
+    ) -> StepAnswer
         ensures step { IsStep self.old step self.new result (has_risen (D.fault_count disk.old) (D.fault_count disk.new)) }
         ensures isolated { IsolatesStep self.old step result }
         ensures limits { self.new.limits ≡ self.old.limits }
-        ensures any_moment { (pending : Option PlainEntry) → Keeps (D.state disk.old) self.old pending → LeavesOnly (D.state disk.old) (D.state disk.new) (HoldsStep self.old pending step) }
-        ensures keeps { (pending : Option PlainEntry) → Keeps (D.state disk.old) self.old pending → KeepsStep self.old pending step self.new result (D.state disk.new) }
+        ensures moments { IsTimedStep self.old moment self.new }
+        ensures any_moment { (pending : Option PlainLogged) → Keeps (D.state disk.old) self.old pending → LeavesOnly (D.state disk.old) (D.state disk.new) (HoldsStep self.old pending moment step) }
+        ensures keeps { (pending : Option PlainLogged) → Keeps (D.state disk.old) self.old pending → KeepsStep self.old pending moment step self.new result (D.state disk.new) }
         ensures pages { HasPages (D.state disk.old) self.old → HasPages (D.state disk.new) self.new }
         ensures pages_any_moment { (was now : Option TreesAt) → IsPaged (D.state disk.old) self.old was now → LeavesOnly (D.state disk.old) (D.state disk.new) (MayLoad was now (durable_entries self.old.history)) }
         ensures flushed { OnFlushed result (HasPages (D.state disk.old) self.old → EachLoadsFor (durable_entries self.new.history) (D.state disk.new)) }
-        ensures others { UnlessTended step (LeavesBut is_log (D.state disk.old) (D.state disk.new)) }
+        ensures others { UnlessTended step (LeavesBut is_logged (D.state disk.old) (D.state disk.new)) }
         ensures log { OnTended step (LeavesBut is_paged (D.state disk.old) (D.state disk.new)) }
         ensures never_falls { D.fault_count disk.old ≤ D.fault_count disk.new }
         ensures base { UnlessSwept result (self.new.base ≡ self.old.base) }
@@ -103,7 +114,7 @@ impl<W: OnPages + Drop> StoreOver<W> {
     {
         match step {
             Step::Begin => self.begin(alloc),
-            Step::Ask { session, request } => self.ask(alloc, disk, session, &request),
+            Step::Ask { session, request } => self.ask(alloc, disk, moment, session, &request),
             Step::End { session } => self.end(alloc, session),
             Step::Background => self.tend(alloc, disk),
         }
@@ -114,6 +125,14 @@ impl<W: OnPages + Drop> StoreOver<W> {
         ensures { plain_history result.now.items ≡ self.now.history }
     {
         &self.history
+    }
+
+    /// When each kept entry was made, in milliseconds since the year 1970 began: at the moment that its step was given, or as the
+    /// log had it when the store opened, where 0 stands for a moment that was not logged. It takes no memory.
+    pub fn moments(&self) -> &List<u64>
+        ensures { result.now.items ≡ self.now.moments }
+    {
+        &self.moments
     }
 
     /// How many entries there are.
@@ -191,6 +210,15 @@ impl<W: OnPages + Drop> StoreOver<W> {
     {
         self.history
     }
+
+    /// The entries, and the moments of those that are kept, when the store is done with.
+    pub fn into_log(self) -> (List<Entry>, List<u64>)
+        ensures history { plain_history result.0.items ≡ self.history }
+        ensures moments { result.1.items ≡ self.moments }
+        ensures each { length result.1.items ≡ length (durable_entries self.history) }
+    {
+        (self.history, self.moments)
+    }
 }
 
 fn is_in(live: &[u64], session: u64) -> bool
@@ -208,27 +236,29 @@ fn remove(live: &mut List<u64>, session: u64)
 
 #[tactic(auto, using(crate::proofs::Histories::histories))]
 impl<W: OnPages + Drop> StoreOver<W> {
-    ghost use Rattle.febe_data.specs.Plain.{PlainEntry, plain_request, plain_reply, plain_change};
+    ghost use Rattle.febe_data.specs.Plain.{plain_request, plain_reply, plain_change};
+    ghost use Rattle.entry_codec.specs.Logged.{PlainLogged, made_at_moment};
     ghost use Rattle.febe_data.specs.Validity.{IsRequest, IsReply};
-    ghost use Rattle.green_io.specs.Areas.{is_log};
+    ghost use Rattle.green_io.specs.Areas.{is_logged};
     ghost use Rattle.green_io.specs.Disk.{LeavesOnly, LeavesBut};
     ghost use Rattle.world_rules.specs.Apply.{world_of};
     ghost use Rattle.world_rules.specs.History.{is_live, is_durable, durable_entries};
     ghost use Rattle.world_rules.specs.Legal.{entry_after};
     ghost use Rattle.world_rules.specs.Placed.{IsPlaced};
     ghost use Rattle.world_rules.specs.PlainEffect.{plain_effect};
-    ghost use Rattle.green_store.specs.Durable.{has_risen, Keeps, HoldsWith, IsThat, HoldsRequest, KeepsRequest, HoldsStep, KeepsStep};
+    ghost use Rattle.green_store.specs.Durable.{has_risen, kept_rows, Keeps, HoldsWith, IsThat, HoldsRequest, KeepsRequest, HoldsStep, KeepsStep};
     ghost use Rattle.green_store.specs.inside.{MayBeKept, IsKeptOrTakenBack, KeepsEdit, IsBalancing, IsSpared};
     ghost use Rattle.green_store.specs.Sessions.{greatest_session, begin_entry, end_entry};
     ghost use Rattle.green_store.specs.Steps.{Steps};
     ghost use Rattle.green_store.specs.StoreView.{with_one, StandsStill, PagesStandStill, StandsAsBefore};
     ghost use Rattle.green_store.specs.IsStep.{IsStep, IsGiven, MayFlush, unsaved, OnRefused, UnlessKept, UnlessSwept, UnlessFlushed, OnFlushed};
     ghost use Rattle.green_store.specs.LeavesLive.{LeavesLive};
+    ghost use Rattle.green_store.specs.TimedStep.{IsTimedStep};
     ghost use Rattle.green_store.specs.Paged.{IsPaged, HasPages, EachLoadsFor, MayLoad};
     ghost use Rattle.green_flush.specs.Loads.{TreesAt};
     ghost use Rattle.page_journal.specs.Images.{is_paged};
     ghost use Rattle.tree_world.specs.Nodes.{AllGrown};
-    ghost use Rattle.std.specs.Prelude.{nat_le};
+    ghost use Rattle.std.specs.Prelude.{ℕ, nat_le};
 
     fn begin(&mut self, alloc: Global) -> StepAnswer
         ensures step { (rose : Bool) → IsStep self.old Step.Begin self.new result rose }
@@ -248,21 +278,23 @@ impl<W: OnPages + Drop> StoreOver<W> {
         &mut self,
         alloc: Global,
         disk: &mut D,
+        moment: u64,
         session: u64,
         request: &Request,
     ) -> StepAnswer
         ensures step { IsStep self.old (Step.Ask session request.now) self.new result (has_risen (D.fault_count disk.old) (D.fault_count disk.new)) }
         ensures limits { self.new.limits ≡ self.old.limits }
         ensures base { self.new.base ≡ self.old.base }
-        ensures any_moment { (pending : Option PlainEntry) → Keeps (D.state disk.old) self.old pending → LeavesOnly (D.state disk.old) (D.state disk.new) (HoldsStep self.old pending (Step.Ask session request.now)) }
-        ensures keeps { (pending : Option PlainEntry) → Keeps (D.state disk.old) self.old pending → KeepsStep self.old pending (Step.Ask session request.now) self.new result (D.state disk.new) }
-        ensures others { LeavesBut is_log (D.state disk.old) (D.state disk.new) }
+        ensures moments { IsTimedStep self.old moment self.new }
+        ensures any_moment { (pending : Option PlainLogged) → Keeps (D.state disk.old) self.old pending → LeavesOnly (D.state disk.old) (D.state disk.new) (HoldsStep self.old pending moment (Step.Ask session request.now)) }
+        ensures keeps { (pending : Option PlainLogged) → Keeps (D.state disk.old) self.old pending → KeepsStep self.old pending moment (Step.Ask session request.now) self.new result (D.state disk.new) }
+        ensures others { LeavesBut is_logged (D.state disk.old) (D.state disk.new) }
         ensures never_falls { D.fault_count disk.old ≤ D.fault_count disk.new }
     {
         if !self.is_live(session) {
             return StepAnswer::NoSession;
         }
-        let reply = self.answer(alloc, disk, session, request);
+        let reply = self.answer(alloc, disk, moment, session, request);
         StepAnswer::Reply {
             reply,
             point: self.history.len() as u64,
@@ -284,8 +316,8 @@ impl<W: OnPages + Drop> StoreOver<W> {
     fn tend<D: Disk>(&mut self, alloc: Global, disk: &mut D) -> StepAnswer
         ensures step { IsStep self.old Step.Background self.new result (has_risen (D.fault_count disk.old) (D.fault_count disk.new)) }
         ensures limits { self.new.limits ≡ self.old.limits }
-        ensures any_moment { (pending : Option PlainEntry) → Keeps (D.state disk.old) self.old pending → LeavesOnly (D.state disk.old) (D.state disk.new) (HoldsStep self.old pending Step.Background) }
-        ensures keeps { (pending : Option PlainEntry) → Keeps (D.state disk.old) self.old pending → KeepsStep self.old pending Step.Background self.new result (D.state disk.new) }
+        ensures any_moment { (moment : ℕ) (pending : Option PlainLogged) → Keeps (D.state disk.old) self.old pending → LeavesOnly (D.state disk.old) (D.state disk.new) (HoldsStep self.old pending moment Step.Background) }
+        ensures keeps { (moment : ℕ) (pending : Option PlainLogged) → Keeps (D.state disk.old) self.old pending → KeepsStep self.old pending moment Step.Background self.new result (D.state disk.new) }
         ensures pages { HasPages (D.state disk.old) self.old → HasPages (D.state disk.new) self.new }
         ensures pages_any_moment { (was now : Option TreesAt) → IsPaged (D.state disk.old) self.old was now → LeavesOnly (D.state disk.old) (D.state disk.new) (MayLoad was now (durable_entries self.old.history)) }
         ensures flushed { OnFlushed result (HasPages (D.state disk.old) self.old → EachLoadsFor (durable_entries self.new.history) (D.state disk.new)) }
@@ -325,8 +357,8 @@ impl<W: OnPages + Drop> StoreOver<W> {
     fn save<D: Disk>(&mut self, alloc: Global, disk: &mut D) -> StepAnswer
         requires { MayFlush self.old }
         ensures step { IsStep self.old Step.Background self.new result (has_risen (D.fault_count disk.old) (D.fault_count disk.new)) }
-        ensures any_moment { (pending : Option PlainEntry) → Keeps (D.state disk.old) self.old pending → LeavesOnly (D.state disk.old) (D.state disk.new) (HoldsStep self.old pending Step.Background) }
-        ensures keeps { (pending : Option PlainEntry) → Keeps (D.state disk.old) self.old pending → KeepsStep self.old pending Step.Background self.new result (D.state disk.new) }
+        ensures any_moment { (moment : ℕ) (pending : Option PlainLogged) → Keeps (D.state disk.old) self.old pending → LeavesOnly (D.state disk.old) (D.state disk.new) (HoldsStep self.old pending moment Step.Background) }
+        ensures keeps { (moment : ℕ) (pending : Option PlainLogged) → Keeps (D.state disk.old) self.old pending → KeepsStep self.old pending moment Step.Background self.new result (D.state disk.new) }
         ensures pages { HasPages (D.state disk.old) self.old → HasPages (D.state disk.new) self.new }
         ensures pages_any_moment { (was now : Option TreesAt) → IsPaged (D.state disk.old) self.old was now → LeavesOnly (D.state disk.old) (D.state disk.new) (MayLoad was now (durable_entries self.old.history)) }
         ensures flushed { OnFlushed result (HasPages (D.state disk.old) self.old → EachLoadsFor (durable_entries self.new.history) (D.state disk.new)) }
@@ -411,6 +443,7 @@ impl<W: OnPages + Drop> StoreOver<W> {
         &mut self,
         alloc: Global,
         disk: &mut D,
+        moment: u64,
         session: u64,
         request: &Request,
     ) -> Reply
@@ -419,13 +452,14 @@ impl<W: OnPages + Drop> StoreOver<W> {
         ensures limits { self.new.limits ≡ self.old.limits }
         ensures base { self.new.base ≡ self.old.base }
         ensures given { IsGiven self.old session (plain_request request.now) (plain_reply result) self.new (has_risen (D.fault_count disk.old) (D.fault_count disk.new)) }
+        ensures moments { IsTimedStep self.old moment self.new }
         ensures stays { OnRefused (plain_reply result) (StandsAsBefore self.old self.new) }
         ensures trees { UnlessKept self.old self.new (self.new.trees ≡ self.old.trees) }
         ensures grown { AllGrown self.old.nodes self.new.nodes }
         ensures pages { PagesStandStill self.old self.new }
-        ensures any_moment { (pending : Option PlainEntry) → Keeps (D.state disk.old) self.old pending → LeavesOnly (D.state disk.old) (D.state disk.new) (HoldsRequest self.old pending session (plain_request request.now)) }
-        ensures keeps { (pending : Option PlainEntry) → Keeps (D.state disk.old) self.old pending → KeepsRequest self.old pending session (plain_request request.now) self.new (plain_reply result) (D.state disk.new) }
-        ensures others { LeavesBut is_log (D.state disk.old) (D.state disk.new) }
+        ensures any_moment { (pending : Option PlainLogged) → Keeps (D.state disk.old) self.old pending → LeavesOnly (D.state disk.old) (D.state disk.new) (HoldsRequest self.old pending moment session (plain_request request.now)) }
+        ensures keeps { (pending : Option PlainLogged) → Keeps (D.state disk.old) self.old pending → KeepsRequest self.old pending moment session (plain_request request.now) self.new (plain_reply result) (D.state disk.new) }
+        ensures others { LeavesBut is_logged (D.state disk.old) (D.state disk.new) }
         ensures never_falls { D.fault_count disk.old ≤ D.fault_count disk.new }
     {
         if let Request::Quit = request {
@@ -435,7 +469,7 @@ impl<W: OnPages + Drop> StoreOver<W> {
         if !request.is_valid() {
             return Reply::Refused(Refusal::Memory);
         }
-        match self.serve(alloc, disk, session, request) {
+        match self.serve(alloc, disk, moment, session, request) {
             Ok(reply) => reply,
             Err(Memory) => Reply::Refused(Refusal::Memory),
         }
@@ -446,6 +480,7 @@ impl<W: OnPages + Drop> StoreOver<W> {
         &mut self,
         alloc: Global,
         disk: &mut D,
+        moment: u64,
         session: u64,
         request: &Request,
     ) -> Result<Reply, Memory>
@@ -456,13 +491,14 @@ impl<W: OnPages + Drop> StoreOver<W> {
         ensures limits { self.new.limits ≡ self.old.limits }
         ensures base { self.new.base ≡ self.old.base }
         ensures steps { IfOk result (λ reply. Steps self.old.limits session self.old.history (plain_request request.now) (plain_reply reply) self.new.history (has_risen (D.fault_count disk.old) (D.fault_count disk.new))) }
+        ensures moments { OnOk result (IsTimedStep self.old moment self.new) }
         ensures trees { UnlessKept self.old self.new (self.new.trees ≡ self.old.trees) }
         ensures nodes { UnlessKept self.old self.new (self.new.nodes ≡ self.old.nodes) }
         ensures grown { AllGrown self.old.nodes self.new.nodes }
         ensures pages { PagesStandStill self.old self.new }
-        ensures any_moment { (pending : Option PlainEntry) → Keeps (D.state disk.old) self.old pending → LeavesOnly (D.state disk.old) (D.state disk.new) (HoldsRequest self.old pending session (plain_request request.now)) }
-        ensures keeps { (pending : Option PlainEntry) → Keeps (D.state disk.old) self.old pending → IfOk result (λ reply. KeepsRequest self.old pending session (plain_request request.now) self.new (plain_reply reply) (D.state disk.new)) }
-        ensures others { LeavesBut is_log (D.state disk.old) (D.state disk.new) }
+        ensures any_moment { (pending : Option PlainLogged) → Keeps (D.state disk.old) self.old pending → LeavesOnly (D.state disk.old) (D.state disk.new) (HoldsRequest self.old pending moment session (plain_request request.now)) }
+        ensures keeps { (pending : Option PlainLogged) → Keeps (D.state disk.old) self.old pending → IfOk result (λ reply. KeepsRequest self.old pending moment session (plain_request request.now) self.new (plain_reply reply) (D.state disk.new)) }
+        ensures others { LeavesBut is_logged (D.state disk.old) (D.state disk.new) }
         ensures never_falls { D.fault_count disk.old ≤ D.fault_count disk.new }
         ensures err { OnErr result (StandsStill self.old self.new) }
         ensures untouched { OnErr result (disk.new ≡ disk.old) }
@@ -474,7 +510,7 @@ impl<W: OnPages + Drop> StoreOver<W> {
                 // What the types of its fields say of them, and the bounds of the limits.
                 look_at(&made.change);
                 let _ = self.limits.text();
-                self.make_kept(alloc, disk, session, made)
+                self.make_kept(alloc, disk, moment, session, made)
             }
             Served::Changed(made) => self.make(alloc, session, made),
         }
@@ -504,12 +540,14 @@ impl<W: OnPages + Drop> StoreOver<W> {
         Ok(made.reply)
     }
 
-    /// Makes a change of a live session that is kept over a restart: its trees and its record come first, then the log, and
-    /// then it is in the history. Where the disk fails the trees are taken back, which takes no memory.
+    /// Makes a change of a live session that is kept over a restart: room for it, its trees and its record come first, then the log,
+    /// and then it is in the history, and its moment behind those before it. Where the disk fails the trees are taken back, which
+    /// takes no memory.
     fn make_kept<D: Disk>(
         &mut self,
         alloc: Global,
         disk: &mut D,
+        moment: u64,
         session: u64,
         made: Effect,
     ) -> Result<Reply, Memory>
@@ -518,19 +556,21 @@ impl<W: OnPages + Drop> StoreOver<W> {
         ensures limits { self.new.limits ≡ self.old.limits }
         ensures base { self.new.base ≡ self.old.base }
         ensures outcome { IfOk result (λ reply. IsKeptOrTakenBack self.old.history session (plain_effect made) (plain_reply reply) self.new.history (has_risen (D.fault_count disk.old) (D.fault_count disk.new))) }
+        ensures moments { OnOk result (IsTimedStep self.old moment self.new) }
         ensures trees { UnlessKept self.old self.new (self.new.trees ≡ self.old.trees) }
         ensures nodes { UnlessKept self.old self.new (self.new.nodes ≡ self.old.nodes) }
         ensures grown { AllGrown self.old.nodes self.new.nodes }
         ensures pages { PagesStandStill self.old self.new }
-        ensures any_moment { (pending : Option PlainEntry) → Keeps (D.state disk.old) self.old pending → LeavesOnly (D.state disk.old) (D.state disk.new) (HoldsWith (durable_entries self.old.history) (λ other. IsThat pending other ⊎ (other ≡ entry_after self.old.history session (plain_effect made)))) }
-        ensures keeps { (pending : Option PlainEntry) → Keeps (D.state disk.old) self.old pending → IfOk result (λ reply. KeepsEdit self.old pending (entry_after self.old.history session (plain_effect made)) self.new (plain_reply reply) (D.state disk.new)) }
-        ensures others { LeavesBut is_log (D.state disk.old) (D.state disk.new) }
+        ensures any_moment { (pending : Option PlainLogged) → Keeps (D.state disk.old) self.old pending → LeavesOnly (D.state disk.old) (D.state disk.new) (HoldsWith (kept_rows self.old) (λ other. IsThat pending other ⊎ (other ≡ made_at_moment (entry_after self.old.history session (plain_effect made)) moment))) }
+        ensures keeps { (pending : Option PlainLogged) → Keeps (D.state disk.old) self.old pending → IfOk result (λ reply. KeepsEdit self.old pending (made_at_moment (entry_after self.old.history session (plain_effect made)) moment) self.new (plain_reply reply) (D.state disk.new)) }
+        ensures others { LeavesBut is_logged (D.state disk.old) (D.state disk.new) }
         ensures never_falls { D.fault_count disk.old ≤ D.fault_count disk.new }
         ensures err { OnErr result (StandsStill self.old self.new) }
         ensures untouched { OnErr result (disk.new ≡ disk.old) }
     {
         let room = self.live.len().checked_add(1).ok_or(Memory)?;
         self.history.reserve(room)?;
+        self.moments.reserve(1)?;
         // A list with its spare is shorter than 2^64, so there is a next serial.
         let _ = self.history.spare();
         let edit = Entry {
@@ -538,13 +578,14 @@ impl<W: OnPages + Drop> StoreOver<W> {
             serial: self.world.entries_of(session) + 1,
             change: made.change,
         };
-        let record = record_of(alloc, &edit)?;
+        let record = record_of(alloc, &edit, moment)?;
         let undo = self.world.apply_with_undo(alloc, &edit)?;
         let Appended::Ok = keep(&mut self.log, disk, &record) else {
             self.world.undo(undo);
             return Ok(Reply::Refused(Refusal::Disk));
         };
         self.history.push_reserved(edit);
+        self.moments.push_reserved(moment);
         Ok(made.reply)
     }
 }

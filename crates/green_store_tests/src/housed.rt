@@ -2,7 +2,7 @@
 
 use febe_data::{Limits, List};
 use green_fakes::MemoryDisk;
-use green_store::{HouseJob, Housed, StepAnswer, Store};
+use green_store::{HouseJob, Housed, StepAnswer, Store, Timed};
 use history_lock::Kept;
 use std::alloc::Global;
 use std::process::Abort;
@@ -17,20 +17,26 @@ fn housed(rt: &impl Abort, alloc: Global) -> Result<Housed<MemoryDisk>, Fail> {
     Ok(housed)
 }
 
+/// A job at a moment.
+fn at_moment(moment: u64, job: HouseJob) -> Timed {
+    Timed { moment, job }
+}
+
 #[test]
 fn a_number_begins_once(rt: HostRuntime) -> Result<(), Fail> {
     let alloc = rt.alloc();
     let mut housed = housed(&rt, alloc)?;
-    let begun = housed.play(alloc, 0, HouseJob::Begin);
+    let begun = housed.play(alloc, 0, at_moment(11, HouseJob::Begin));
     assert!(rt; matches!(&begun.answer, StepAnswer::Begun { session: 1 }));
-    assert_eq!(rt; begun.number, 1);
-    let again = housed.play(alloc, 1, HouseJob::Begin);
+    assert_eq!(rt; (begun.number, housed.last), (1, 11));
+    let again = housed.play(alloc, 1, at_moment(12, HouseJob::Begin));
     assert!(rt; matches!(&again.answer, StepAnswer::NoSession));
-    assert_eq!(rt; (again.number, housed.count()), (1, 2));
-    let idle = housed.play(alloc, 1, HouseJob::Background);
+    assert_eq!(rt; (again.number, housed.count(), housed.last), (1, 2, 12));
+    let idle = housed.play(alloc, 1, at_moment(5, HouseJob::Background));
     assert!(rt; matches!(&idle.answer, StepAnswer::Idle));
-    let ended = housed.play(alloc, 1, HouseJob::End);
+    assert_eq!(rt; housed.last, 5);
+    let ended = housed.play(alloc, 1, at_moment(13, HouseJob::End));
     assert!(rt; matches!(&ended.answer, StepAnswer::Ended));
-    assert_eq!(rt; (ended.number, housed.count()), (1, 3));
+    assert_eq!(rt; (ended.number, housed.count(), housed.last), (1, 3, 13));
     Ok(())
 }

@@ -10,3 +10,5 @@ mod opening;
 mod sessions;
 #[cfg(test)]
 mod tending;
+#[cfg(test)]
+mod timed_logs;

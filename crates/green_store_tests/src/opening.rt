@@ -1,4 +1,4 @@
-//! Logs that stores are opened with. Their bytes and the places in them are counted by hand.
+//! Logs of before that stores are opened with. Their bytes and the places in them are counted by hand.
 
 use febe_data::{Limits, List};
 use green_fakes::MemoryDisk;

@@ -32,7 +32,7 @@ impl Opened {
     }
 
     pub(crate) fn begins(&mut self, rt: &impl Abort, alloc: Global) -> u64 {
-        match self.store.step(alloc, &mut self.disk, Step::Begin) {
+        match self.store.step(alloc, &mut self.disk, 7, Step::Begin) {
             StepAnswer::Begun { session } => session,
             _ => panic!(rt; "no session began"),
         }
@@ -48,7 +48,7 @@ impl Opened {
         entries: u64,
     ) -> Reply {
         let step = Step::Ask { session, request };
-        match self.store.step(alloc, &mut self.disk, step) {
+        match self.store.step(alloc, &mut self.disk, 7, step) {
             StepAnswer::Reply { reply, point } => {
                 assert_eq!(rt; point, entries);
                 reply
@@ -107,7 +107,7 @@ fn a_document_passes_to_another_session(rt: HostRuntime) -> Result<(), Fail> {
     let reply = opens(&rt, alloc, &mut opened, 6)?;
     assert!(rt; matches!(&reply, Reply::Refused(Refusal::Conflict)));
     let end = Step::End { session: 1 };
-    let answer = opened.store.step(alloc, &mut opened.disk, end);
+    let answer = opened.store.step(alloc, &mut opened.disk, 7, end);
     assert!(rt; matches!(&answer, StepAnswer::Ended));
     assert_eq!(rt; opened.store.holder_of(&document), None);
     let reply = opens(&rt, alloc, &mut opened, 8)?;
@@ -124,13 +124,13 @@ fn what_is_over_stays_over(rt: HostRuntime) -> Result<(), Fail> {
     let reply = opened.asks(&rt, alloc, 2, Request::Quit, 7);
     assert!(rt; matches!(&reply, Reply::Quit));
     let end = Step::End { session: 2 };
-    let answer = opened.store.step(alloc, &mut opened.disk, end);
+    let answer = opened.store.step(alloc, &mut opened.disk, 7, end);
     assert!(rt; matches!(&answer, StepAnswer::NoSession));
     let create = Step::Ask {
         session: 2,
         request: Request::Create,
     };
-    let answer = opened.store.step(alloc, &mut opened.disk, create);
+    let answer = opened.store.step(alloc, &mut opened.disk, 7, create);
     assert!(rt; matches!(&answer, StepAnswer::NoSession));
     assert_eq!(rt; opened.begins(&rt, alloc), 3);
     assert_eq!(rt; opened.store.history().len(), 8);
@@ -180,7 +180,7 @@ fn edits(
             session: 1,
             request: edit(alloc, number)?,
         };
-        let StepAnswer::Reply { reply, point } = opened.store.step(alloc, &mut opened.disk, step)
+        let StepAnswer::Reply { reply, point } = opened.store.step(alloc, &mut opened.disk, 7, step)
         else {
             panic!(rt; "the session is not live");
         };

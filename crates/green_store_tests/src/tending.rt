@@ -75,7 +75,9 @@ fn check_text(
 /// Makes a background step. Where it answers Swept there are fewer nodes than before it, and so many as the base then.
 fn tends(rt: &impl Abort, alloc: Global, opened: &mut Opened) -> StepAnswer {
     let nodes = opened.store.nodes();
-    let answer = opened.store.step(alloc, &mut opened.disk, Step::Background);
+    let answer = opened
+        .store
+        .step(alloc, &mut opened.disk, 7, Step::Background);
     if let StepAnswer::Swept = &answer {
         assert!(rt; opened.store.nodes() < nodes);
         assert_eq!(rt; opened.store.base(), opened.store.nodes());

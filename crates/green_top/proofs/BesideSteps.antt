@@ -14,6 +14,7 @@ use Rattle.green_store.specs.declared.step.Step.TheVariants as steps
 use Rattle.green_store.specs.declared.step.StepAnswer.{StepAnswer}
 use Rattle.green_store.specs.declared.step.StepAnswer.TheVariants as answers
 use Rattle.green_top.specs.Ends.{AllNumbersTaken}
+use Rattle.green_top.specs.Times.{Coming}
 use Rattle.green_top.specs.inside.Play.{BeginsAt, EndsAt, HasReplied}
 use Rattle.green_top.proofs.Liveness.{no_others}
 
@@ -42,9 +43,9 @@ pub legal_of : (before : StoreView) (session : ℕ) (request : PlainRequest) (re
 legal_of before session request reply after rose (inl g) valid = g.1
 legal_of before session request reply after rose (inr g) valid = absurd (g.0 valid)
 
-module _ {F S : Type 0} (Tells : F → S → Exchange → F → S → Type 0) (limits : LimitsView) (session : ℕ) (h h' : List PlainEntry) (first first' : F) (second second' : S) (request : PlainRequest) (reply : PlainReply) (point : ℕ) (rose : Bool) where
-  pub replied_here : (s : Steps limits session h request reply h' rose) → point ≡ length h' → Tells first second (record { request = request; reply = reply; point = point; added = s.added; rose = rose }) first' second'
-      → HasReplied Tells limits session h first second request reply point h' first' second'
+module _ {F S : Type 0} (Tells : F → S → Coming → Exchange → F → S → Coming → Type 0) (limits : LimitsView) (session : ℕ) (h h' : List PlainEntry) (first first' : F) (second second' : S) (coming coming' : Coming) (request : PlainRequest) (reply : PlainReply) (point : ℕ) (rose : Bool) where
+  pub replied_here : (s : Steps limits session h request reply h' rose) → point ≡ length h' → Tells first second coming (record { request = request; reply = reply; point = point; added = s.added; rose = rose }) first' second' coming'
+      → HasReplied Tells limits session h first second coming request reply point h' first' second' coming'
   replied_here s is told = record {
     past = [];
     added = s.added;

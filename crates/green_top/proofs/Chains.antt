@@ -1,27 +1,50 @@
 -- Chains of exchanges, one behind the other.
-use Rattle.std.proofs.Common.{◌≡◌, List, [], ◌∷◌, ◌++◌, refl, ap, ◌∙◌, sym, subst, append_assoc}
+use Rattle.std.proofs.Common.{◌≡◌, ◌≢◌, Bool, true, false, List, [], ◌∷◌, ◌++◌, refl, ap, ◌∙◌, sym, subst, inl, inr, append_assoc}
 use Rattle.std.proofs.lemmas.List.{append-nil}
 use Rattle.world_rules.specs.Legal.{Exchange}
-use Rattle.green_top.specs.inside.Play.{Chain, nothing, asked, tended}
+use Rattle.green_top.specs.Times.{Coming}
+use Rattle.green_top.specs.inside.Play.{Chain, nothing, asked, tended, AsksOnce, Leads}
 
-module _ {F S : Type 0} (Tells : F → S → Exchange → F → S → Type 0) (Tended : F → S → F → S → Type 0) where
-  pub chain_nothing : (first : F) (second : S) → Chain Tells Tended first second [] first second
-  chain_nothing first second = nothing [] first second refl refl refl
-
-  pub chain_one : (first : F) (second : S) (e : Exchange) (first' : F) (second' : S) → Tells first second e first' second' → Chain Tells Tended first second (e ∷ []) first' second'
-  chain_one first second e first' second' told = asked (e ∷ []) [] e first second first' second' refl (chain_nothing first second) told
+module _ {F S : Type 0} (Tells : F → S → Coming → Exchange → F → S → Coming → Type 0) (Tended : F → S → Coming → F → S → Coming → Type 0) where
+  pub chain_nothing : (first : F) (second : S) (coming : Coming) → Chain Tells Tended first second coming [] true first second coming
+  chain_nothing first second coming = nothing [] true first second coming refl refl refl refl refl
 
   -- nothing was done behind it
-  stays : (first : F) (second : S) (xs ys : List Exchange) (f f' : F) (s s' : S) → ys ≡ [] → f' ≡ f → s' ≡ s → Chain Tells Tended first second xs f s → Chain Tells Tended first second (xs ++ ys) f' s'
-  stays first second xs ys f f' s s' none same same' c =
-      subst (λ (es : List Exchange). Chain Tells Tended first second es f' s') (sym (ap (λ (es : List Exchange). xs ++ es) none ∙ append-nil xs))
-      (subst (λ (x : F). Chain Tells Tended first second xs x s') (sym same) (subst (λ (x : S). Chain Tells Tended first second xs f x) (sym same') c))
+  stays : (first : F) (second : S) (coming : Coming) (xs ys : List Exchange) (done : Bool) (f f' : F) (s s' : S) (c c' : Coming) → ys ≡ [] → done ≡ true → f' ≡ f → s' ≡ s → c' ≡ c → Chain Tells Tended first second coming xs true f s c
+      → Chain Tells Tended first second coming (xs ++ ys) done f' s' c'
+  stays first second coming xs ys done f f' s s' c c' none all same same' same_coming chain =
+      subst (λ (es : List Exchange). Chain Tells Tended first second coming es done f' s' c') (sym (ap (λ (es : List Exchange). xs ++ es) none ∙ append-nil xs))
+      (subst (λ (x : Bool). Chain Tells Tended first second coming xs x f' s' c') (sym all)
+      (subst (λ (x : F). Chain Tells Tended first second coming xs true x s' c') (sym same)
+      (subst (λ (x : S). Chain Tells Tended first second coming xs true f x c') (sym same') (subst (λ (x : Coming). Chain Tells Tended first second coming xs true f s x) (sym same_coming) chain))))
 
-  pub chain_both : (first : F) (second : S) (xs : List Exchange) (f : F) (s : S) → Chain Tells Tended first second xs f s → (ys : List Exchange) (f' : F) (s' : S) → Chain Tells Tended f s ys f' s' → Chain Tells Tended first second (xs ++ ys) f' s'
-  chain_both first second xs f s c ys f' s' (nothing _ _ _ none same same') = stays first second xs ys f f' s s' none same same' c
-  chain_both first second xs f s c ys f' s' (asked _ before e b b' _ _ parts more told) =
-      asked (xs ++ ys) (xs ++ before) e b b' f' s' (ap (λ (es : List Exchange). xs ++ es) parts ∙ sym (append_assoc xs before (e ∷ []))) (chain_both first second xs f s c before b b' more) told
-  chain_both first second xs f s c ys f' s' (tended _ b b' _ _ more told) = tended (xs ++ ys) b b' f' s' (chain_both first second xs f s c ys b b' more) told
+  pub chain_both : (first : F) (second : S) (coming : Coming) (xs : List Exchange) (f : F) (s : S) (c : Coming) → Chain Tells Tended first second coming xs true f s c
+      → (ys : List Exchange) (done : Bool) (f' : F) (s' : S) (c' : Coming) → Chain Tells Tended f s c ys done f' s' c' → Chain Tells Tended first second coming (xs ++ ys) done f' s' c'
+  chain_both first second coming xs f s c chain ys done f' s' c' (nothing _ _ _ _ _ none all same same' same_coming) = stays first second coming xs ys done f f' s s' c c' none all same same' same_coming chain
+  chain_both first second coming xs f s c chain ys done f' s' c' (asked _ before e _ b b' between _ _ _ parts left more told) =
+      asked (xs ++ ys) (xs ++ before) e done b b' between f' s' c' (ap (λ (es : List Exchange). xs ++ es) parts ∙ sym (append_assoc xs before (e ∷ []))) left (chain_both first second coming xs f s c chain before true b b' between more) told
+  chain_both first second coming xs f s c chain ys done f' s' c' (tended _ _ b b' between _ _ _ all more told) =
+      tended (xs ++ ys) done b b' between f' s' c' all (chain_both first second coming xs f s c chain ys false b b' between more) told
 
-  pub chain_tended : (first : F) (second : S) (es : List Exchange) (f : F) (s : S) (f' : F) (s' : S) → Chain Tells Tended first second es f s → Tended f s f' s' → Chain Tells Tended first second es f' s'
-  chain_tended first second es f s f' s' c told = tended es f s f' s' c told
+  -- what leads there behind a chain
+  pub leads_both : (first : F) (second : S) (coming : Coming) (xs : List Exchange) (f : F) (s : S) (c : Coming) → Chain Tells Tended first second coming xs true f s c
+      → (ys : List Exchange) (f' : F) (s' : S) (c' : Coming) → Leads Tells Tended f s c ys f' s' c' → Leads Tells Tended first second coming (xs ++ ys) f' s' c'
+  leads_both first second coming xs f s c chain ys f' s' c' leads = (leads.0, chain_both first second coming xs f s c chain ys leads.0 f' s' c' leads.1)
+
+  pub leads_nothing : (first : F) (second : S) (coming : Coming) → Leads Tells Tended first second coming [] first second coming
+  leads_nothing first second coming = (true, chain_nothing first second coming)
+
+  -- a request that was asked, if one was, and nothing behind it
+  pub leads_asked : (first : F) (second : S) (coming : Coming) (es : List Exchange) (f : F) (s : S) (c : Coming) → AsksOnce Tells first second coming es f s c → Leads Tells Tended first second coming es f s c
+  leads_asked first second coming es f s c (inl none) = (true, nothing es true f s c none.0 refl none.1 none.2 none.3)
+  leads_asked first second coming es f s c (inr (e, one, told)) = (false, asked es [] e false first second coming f s c one refl (chain_nothing first second coming) told)
+
+  -- a request that was asked, and what is then done
+  pub chain_turn : (first : F) (second : S) (coming : Coming) (es : List Exchange) (f : F) (s : S) (c : Coming) (f' : F) (s' : S) (c' : Coming) → es ≢ [] → AsksOnce Tells first second coming es f s c → Tended f s c f' s' c'
+      → Chain Tells Tended first second coming es true f' s' c'
+  chain_turn first second coming es f s c f' s' c' some (inl none) told = absurd (some none.0)
+  chain_turn first second coming es f s c f' s' c' some (inr (e, one, asks)) told = tended es true f s c f' s' c' refl (asked es [] e false first second coming f s c one refl (chain_nothing first second coming) asks) told
+
+  pub leads_turn : (first : F) (second : S) (coming : Coming) (es : List Exchange) (f : F) (s : S) (c : Coming) (f' : F) (s' : S) (c' : Coming) → es ≢ [] → AsksOnce Tells first second coming es f s c → Tended f s c f' s' c'
+      → Leads Tells Tended first second coming es f' s' c'
+  leads_turn first second coming es f s c f' s' c' some asks told = (true, chain_turn first second coming es f s c f' s' c' some asks told)

@@ -4,6 +4,7 @@ use Rattle.std.specs.Io.KnownBytes.{Consumes, IsAtEnd}
 use Rattle.std.proofs.lemmas.List.{append-nil, length-append}
 use Rattle.febe_data.specs.LimitsView.{LimitsView}
 use Rattle.febe_data.specs.Plain.{PlainEntry}
+use Rattle.entry_codec.specs.Logged.{entries_of}
 use Rattle.febe_fields.specs.Prefixes.{IsPrefix}
 use Rattle.febe_wire.specs.Sessions.{IsInput}
 use Rattle.febe_feed.proofs.Malformed.{prefixes_are_right}
@@ -11,6 +12,7 @@ use Rattle.green_io.specs.Areas.{Areas}
 use Rattle.green_io.specs.Outside.{HasRisen}
 use Rattle.world_rules.specs.Legal.{Exchange}
 use Rattle.edit_log.specs.Laws.{EachHasOneReading}
+use Rattle.green_store.specs.Opening.{EachHasOneOpening}
 use Rattle.green_store.specs.declared.opening.OpenFault.{OpenFault}
 use Rattle.green_store.specs.declared.opening.OpenFault.TheVariants as faults
 use Rattle.green_store.specs.Sessions.{greatest_session}
@@ -70,8 +72,8 @@ module _ (before after : IoState) (s : HasSession before.left) (quiet : NoFaults
     served ends.NoNumber cause leaves = absurd (number_left limits session read written history exchanges points has leaves)
 
 -- the store is not opened for want of memory, or since the disk failed, and for nothing else
-by_fault : EachHasOneReading → (reads left : Option Areas) (before after : IoState) → HasLog reads → (fault : OpenFault) → FaultCause fault reads left before after → IsServed before after (fault_status fault)
-by_fault one reads left before after log (faults.Damaged at) cause = absurd (undamaged one reads log.entries log.read log.fit at cause.0)
+by_fault : EachHasOneOpening → (reads left : Option Areas) (before after : IoState) → HasLog reads → (fault : OpenFault) → FaultCause fault reads left before after → IsServed before after (fault_status fault)
+by_fault one reads left before after log (faults.Damaged at) cause = absurd (undamaged one reads log.rows log.read log.fit at cause.0)
 by_fault one reads left before after log faults.Disk cause = inr (inr (refl, cause))
 by_fault one reads left before after log faults.Memory cause = inr (inl refl)
 
@@ -80,17 +82,17 @@ by_end : (before after : IoState) (status given : ℕ) → status ≡ given → 
 by_end before after status given is (inl e) = inl (is ∙ e)
 by_end before after status given is (inr e) = inr (inl (is ∙ e))
 
-by_nothing : EachHasOneReading → (words : List (List ℕ)) (reads left : Option Areas) (before after : IoState) (place status : ℕ) → ¬ AreNoWords words → HasLog reads
+by_nothing : EachHasOneOpening → (words : List (List ℕ)) (reads left : Option Areas) (before after : IoState) (place status : ℕ) → ¬ AreNoWords words → HasLog reads
     → IsUsage words before after place status ⊎ IsNotOpened words reads left before after place status → IsServed before after status
 by_nothing one words reads left before after place status are log (inl wrong) = absurd (are wrong.wrong)
 by_nothing one words reads left before after place status are log (inr n) = subst (IsServed before after) (sym n.status_is) (by_fault one reads left before after log n.fault n.cause)
 
-pub completeness : EachHasOneReading → Completeness
-completeness one words limits reads left before after report exchanges status are s log quiet (inl nothing) = by_nothing one words reads left before after report.place status (λ none. none.no_session limits are) log nothing.why
-completeness one words limits reads left before after report exchanges status are s log quiet (inr (inr o)) = absurd (not_both words limits o.start are o.words_are)
-completeness one words limits reads left before after report exchanges status are s log quiet (inr (inl o)) =
-    let is = opened_is one reads log.entries o.opened log.read o.from in
-    let has : greatest_session o.opened + 1 < 2 ^ 64 = omega (arith, log.number, ap greatest_session is, greatest_opened log.entries) in
+pub completeness : EachHasOneReading → EachHasOneOpening → Completeness
+completeness one opening words limits reads left before after report steps exchanges status are s log quiet (inl nothing) = by_nothing opening words reads left before after report.place status (λ none. none.no_session limits are) log nothing.why
+completeness one opening words limits reads left before after report steps exchanges status are s log quiet (inr (inr o)) = absurd (not_both words limits o.start are o.words_are)
+completeness one opening words limits reads left before after report steps exchanges status are s log quiet (inr (inl o)) =
+    let is = opened_is one reads log.rows o.opened o.moments log.read o.from in
+    let has : greatest_session o.opened + 1 < 2 ^ 64 = omega (arith, log.number, ap greatest_session is, greatest_opened (entries_of log.rows)) in
     by_end before after status (status_of o.end) o.status_is (served before after s quiet o.run.read o.run.moves.consumed o.limits o.session o.run.written _ exchanges report.points.items
     (left_where_none o.opened o.session _ exchanges before.disk_faults after.disk_faults has o.alone) o.end o.run.cause o.run.leaves)
 
@@ -113,11 +115,11 @@ generated_ends start session history exchanges points written before after ends.
 generated_ends start session history exchanges points written before after ends.NoNumber has quiet failed (inl never) = absurd (omega (arith, has never.1.unnumbered, never.0))
 generated_ends start session history exchanges points written before after ends.NoNumber has quiet failed (inr s) = absurd s.answered_and_summed
 
-pub generated_completeness : EachHasOneReading → GeneratedCompleteness
-generated_completeness one words start reads left before after report exchanges status are log quiet (inl nothing) = by_nothing one words reads left before after report.place status (λ none. none.no_generate start are) log nothing.why
-generated_completeness one words start reads left before after report exchanges status are log quiet (inr (inl o)) = absurd (not_both words o.limits start o.words_are are)
-generated_completeness one words start reads left before after report exchanges status are log quiet (inr (inr o)) =
-    let is = opened_is one reads log.entries o.opened log.read o.from in
-    let has : greatest_session o.opened + 1 < 2 ^ 64 = omega (arith, log.number, ap greatest_session is, greatest_opened log.entries) in
+pub generated_completeness : EachHasOneReading → EachHasOneOpening → GeneratedCompleteness
+generated_completeness one opening words start reads left before after report steps exchanges status are log quiet (inl nothing) = by_nothing opening words reads left before after report.place status (λ none. none.no_generate start are) log nothing.why
+generated_completeness one opening words start reads left before after report steps exchanges status are log quiet (inr (inl o)) = absurd (not_both words o.limits start o.words_are are)
+generated_completeness one opening words start reads left before after report steps exchanges status are log quiet (inr (inr o)) =
+    let is = opened_is one reads log.rows o.opened o.moments log.read o.from in
+    let has : greatest_session o.opened + 1 < 2 ^ 64 = omega (arith, log.number, ap greatest_session is, greatest_opened (entries_of log.rows)) in
     by_end before after status (status_of o.end) o.status_is (generated_ends o.start o.session _ exchanges report.points.items o.run.written before after o.end
     (left_where_none o.opened o.session _ exchanges before.disk_faults after.disk_faults has o.alone) quiet o.run.cause o.run.leaves)

@@ -1,5 +1,7 @@
 pub mod Streams
 pub mod Rises
+pub mod Timings
+pub mod RunSteps
 pub mod Endurings
 pub mod Liveness
 pub mod Chains

@@ -65,6 +65,10 @@ live_behind session h e = fold-append (live_after session) false h (e ∷ [])
 pub live_from_begin : (session : ℕ) (opened h : List PlainEntry) → h ≡ opened ++ begin_entry session ∷ [] → is_live h session ≡ true
 live_from_begin session opened h grows = ap (λ (x : List PlainEntry). is_live x session) grows ∙ live_behind session opened (begin_entry session) ∙ rw (eq-eqb session session refl) refl
 
+-- whatever stood before a session's Begin, it is as live as what comes from there on says
+pub live_own : (session : ℕ) (opened behind : List PlainEntry) → is_live (opened ++ begin_entry session ∷ behind) session ≡ is_live (begin_entry session ∷ behind) session
+live_own session opened behind = fold-append (live_after session) false opened (begin_entry session ∷ behind) ∙ rw (eq-eqb session session refl) refl
+
 pub not_live_behind_end : (session : ℕ) (h : List PlainEntry) → is_live (h ++ end_entry h session ∷ []) session ≡ false
 not_live_behind_end session h = live_behind session h (end_entry h session) ∙ rw (eq-eqb session session refl) refl
 

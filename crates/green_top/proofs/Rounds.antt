@@ -20,10 +20,10 @@ use Rattle.green_top.specs.declared.session_end.SessionEnd.TheVariants as ends
 use Rattle.green_top.specs.inside.Next.{NextIs}
 use Rattle.green_top.specs.IoState.{io_state}
 use Rattle.green_top.specs.inside.Conversation.{SessionState, session_state, reading, answering, IsAsked, IsNotAsked, IsLastRound}
-use Rattle.green_top.specs.inside.Play.{HasReplied, Chain}
+use Rattle.green_top.specs.Times.{Coming}
+use Rattle.green_top.specs.inside.Play.{HasReplied, AsksOnce}
 use Rattle.green_top.specs.inside.Progress.{AnswerState, answer_state, HandlesRequest}
 use Rattle.green_store.proofs.Remaining.{remains_live}
-use Rattle.green_top.proofs.Chains.{chain_one}
 use Rattle.green_top.proofs.Liveness.{quit_ends}
 
 -- nothing but reading was done
@@ -74,6 +74,11 @@ handled_later limits session before h points taken sink_faults faults faults' re
 })
 handled_later limits session before h points taken sink_faults faults faults' request given exchanges done rises (inr m) = absurd (let e = sym done ∙ m.memory in cc)
 
+-- a request whose reply was written was asked
+pub was_asked : (limits : LimitsView) (session : ℕ) (before after : AnswerState) (request : PlainRequest) (given : Put) (exchanges : List Exchange) → given ≡ put_results.Done → HandlesRequest limits session before after request given exchanges → exchanges ≢ []
+was_asked limits session before after request given exchanges done (inl a) none = absurd (let e = sym none ∙ a.exchanges_are in cc)
+was_asked limits session before after request given exchanges done (inr m) none = absurd (let e = sym done ∙ m.memory in cc)
+
 -- A request was taken, and then answered; and what was done behind that left the history as it was.
 module _ (limits : LimitsView) (session : ℕ) (before : SessionState) (exchanges : List Exchange) (request : Request) (given put : Put) (is_put : given ≡ put) (h h' : List PlainEntry) (points : List ℕ) (feed : FeedView) (turns : TurnsView) (left taken : Option (List ℕ))
     (source_faults sink_faults faults : ℕ) (same : h' ≡ h) (t : IsTaken (reading before) (read_state left source_faults feed turns) (take_answers.Request request))
@@ -95,13 +100,13 @@ module _ (limits : LimitsView) (session : ℕ) (before : SessionState) (exchange
 
 -- ---- a request was replied to, its point noted, and its reply written
 
-module _ {F S : Type 0} (Tells : F → S → Exchange → F → S → Type 0) (limits : LimitsView) (session : ℕ) (seen : List PlainEntry) (first first' : F) (second second' : S) (request : PlainRequest) (reply : PlainReply) (point : ℕ) (h : List PlainEntry)
-    (r : HasReplied Tells limits session seen first second request reply point h first' second') where
+module _ {F S : Type 0} (Tells : F → S → Coming → Exchange → F → S → Coming → Type 0) (limits : LimitsView) (session : ℕ) (seen : List PlainEntry) (first first' : F) (second second' : S) (coming coming' : Coming) (request : PlainRequest) (reply : PlainReply) (point : ℕ) (h : List PlainEntry)
+    (r : HasReplied Tells limits session seen first second coming request reply point h first' second' coming') where
   abbrev pub exchange_with : Exchange
   exchange_with = record { request = request; reply = reply; point = point; added = r.added; rose = r.rose }
 
-  pub chained : (Tended : F → S → F → S → Type 0) → Chain Tells Tended first second (exchange_with ∷ []) first' second'
-  chained Tended = chain_one Tells Tended first second exchange_with first' second' r.told
+  pub asked_once : AsksOnce Tells first second coming (exchange_with ∷ []) first' second' coming'
+  asked_once = inr (exchange_with, refl, r.told)
 
   pub handled : (before : AnswerState) (points : List ℕ) (taken : Option (List ℕ)) (sink_faults faults : ℕ) (put : Put) → before.history ≡ seen → IsReply reply → before.disk_faults ≤ faults → points ≡ before.points ++ point ∷ []
       → IsPut before.taken taken before.faults sink_faults (spell_reply reply) put → HandlesRequest limits session before (answer_state h points taken sink_faults faults) request put (exchange_with ∷ [])

@@ -14,6 +14,7 @@ pub use Rattle.febe_wire.specs.Grammar
 pub use Rattle.febe_wire.specs.Sessions
 pub use Rattle.febe_feed.specs.Inputs
 pub use Rattle.febe_reply.specs.ReplyGrammar
+pub use Rattle.entry_codec.specs.Logged
 pub use Rattle.session_generator.specs.Generated
 pub use Rattle.world_rules.specs.World
 pub use Rattle.world_rules.specs.Picking
@@ -31,15 +32,18 @@ pub use Rattle.world_rules.specs.Placed
 pub use Rattle.world_rules.specs.Serials
 pub use Rattle.world_rules.specs.Laws as WorldLaws
 pub use Rattle.green_io.specs.Areas
+pub use Rattle.green_io.specs.Clock
 pub use Rattle.green_io.specs.Disk
 pub use Rattle.green_io.specs.Outside
 pub use Rattle.entry_fits.specs.Fits
 pub use Rattle.edit_log.specs.Images
 pub use Rattle.edit_log.specs.Log
+pub use Rattle.edit_log.specs.Second
 pub use Rattle.green_store.specs.Sessions as StoreSessions
 pub use Rattle.green_store.specs.Durable as StoreDurable
 pub use Rattle.green_store.specs.Opening as StoreOpening
 pub mod Transcript
+pub mod Times
 pub mod Requests
 pub mod IoState
 pub mod Ends

@@ -1,8 +1,8 @@
 //! One run of the program.
 ghost use Rattle.std.specs.Prelude.{◌≡◌, ◌+◌, ◌≤◌, ℕ, List, map, string_bytes};
-ghost use Rattle.febe_data.specs.Plain.{PlainEntry};
+ghost use Rattle.entry_codec.specs.Logged.{PlainLogged};
 ghost use Rattle.edit_log.specs.Images.{AsRead};
-ghost use Rattle.edit_log.specs.Log.{IsWhole};
+ghost use Rattle.edit_log.specs.Second.{HoldsWhole};
 ghost use Rattle.world_rules.specs.Placed.{AllPlaced};
 ghost use Rattle.world_rules.specs.World.{empty_world};
 ghost use Rattle.world_rules.specs.Legal.{Exchange};
@@ -10,10 +10,11 @@ ghost use Rattle.green_store.specs.Sessions.{greatest_session};
 ghost use Rattle.green_top.specs.Outcome.{HasServedAlone};
 ghost use Rattle.green_top.specs.Batch.{BeginsWith, fault_status, fault_place};
 ghost use Rattle.green_top.specs.Call.{IsCall};
+ghost use Rattle.green_top.specs.Times.{RunStep};
 ghost use Rattle.green_top.specs.Words.{AreNoWords, AreGenerateWords};
 ghost use Rattle.green_top.specs.inside.Conversation.{io_by};
-ghost use Rattle.green_top.specs.inside.Enduring.{Endures};
-ghost use Rattle.green_top.specs.inside.Forms.{limits_of, IsFormRun, IsGenerated};
+ghost use Rattle.green_top.specs.inside.Enduring.{RunsThrough};
+ghost use Rattle.green_top.specs.inside.Forms.{limits_of, IsFormRun, IsGenerated, IsBehind};
 
 use crate::beside::{Serves, serve_beside};
 use crate::generate::serve_generated;
@@ -21,7 +22,7 @@ use crate::report::Report;
 use crate::session::Served;
 use crate::session_end::SessionEnd;
 use crate::words::{Form, form_in};
-use green_io::{Disk, Sink, Source};
+use green_io::{Clock, Disk, Sink, Source};
 use green_store::laws::images_are_kept;
 use green_store::{OpenFault, Store};
 use std::alloc::Global;
@@ -40,7 +41,7 @@ fn status_of(fault: OpenFault) -> u8
     }
 }
 
-/// The offset in the log that the fault names, or 0.
+/// The offset in the logged area that the fault names, or 0.
 fn place_of(fault: OpenFault) -> u64
     ensures { result ≡ fault_place fault }
 {
@@ -51,10 +52,11 @@ fn place_of(fault: OpenFault) -> u64
 }
 
 /// Serves the session of this form over a store that has just opened.
-fn serve_form<S: Source, K: Sink, D: Disk>(
+fn serve_form<C: Clock, S: Source, K: Sink, D: Disk>(
     alloc: Global,
     form: &Form,
     serves: &mut Serves,
+    clock: &mut C,
     source: &mut S,
     sink: &mut K,
     disk: &mut D,
@@ -66,17 +68,18 @@ fn serve_form<S: Source, K: Sink, D: Disk>(
         (exchanges : List Exchange) × IsFormRun form.now serves.new.session (io source.old sink.old (D.fault_count disk.old)) (io source.new sink.new (D.fault_count disk.new))
         serves.new.store.history exchanges result.points.items result.bytes_read result.end
         × HasServedAlone serves.old.store.history serves.new.session serves.new.store.history exchanges (D.fault_count disk.old) (D.fault_count disk.new)
-        × Endures serves.old.store.limits (greatest_session serves.old.store.history + 1) exchanges (D.state disk.old) serves.old.store (D.fault_count disk.old) (D.state disk.new) serves.new.store (D.fault_count disk.new) }
+        × (behind : List RunStep) × IsBehind form.now behind
+        × RunsThrough serves.old.store.limits (greatest_session serves.old.store.history + 1) serves.new.session exchanges behind (C.coming clock.old) (C.coming clock.new) (D.state disk.old) serves.old.store (D.fault_count disk.old) (D.state disk.new) serves.new.store (D.fault_count disk.new) }
     ensures source { IsGenerated form.now → source.new ≡ source.old }
 {
     match form {
-        Form::Session { .. } => serve_beside(alloc, serves, source, sink, disk),
-        Form::Generate { start } => serve_generated(alloc, *start, serves, sink, disk),
+        Form::Session { .. } => serve_beside(alloc, serves, clock, source, sink, disk),
+        Form::Generate { start } => serve_generated(alloc, *start, serves, clock, sink, disk),
     }
 }
 
 /// Runs one session over the log of a disk: opens it, answers the session's requests as they come from the source, writes each
-/// reply to the sink before it reads on, and reports the history.
+/// reply to the sink before it reads on, and reports the history, and when its kept entries were made.
 ///
 /// The words are the program's name and a folder, and perhaps `--limits` with the greatest numbers of kept entries and
 /// of content bytes and the number of entries between pages, each in decimal. Or behind the folder stands `--generate` with a
@@ -92,19 +95,23 @@ fn serve_form<S: Source, K: Sink, D: Disk>(
 ///
 /// Behind each reply the trees and pages are put right by one step, and behind a generated session by as many as are due. They
 /// change no reply. Where the disk fails while pages are written, no status tells it.
-pub fn run_batch<S: Source, K: Sink, D: Disk>(
+///
+/// The clock is asked once before each step: the session's Begin, each request, each background step, and its End. A change that is
+/// kept is logged with the moment of its step. While nothing is opened the clock is not asked.
+pub fn run_batch<C: Clock, S: Source, K: Sink, D: Disk>(
     alloc: Global,
     words: &[String],
+    clock: &mut C,
     source: &mut S,
     sink: &mut K,
     disk: &mut D,
     report: &mut Report,
 ) -> u8
     ensures call { let io = io_by S.left S.fault_count K.taken K.fault_count in
-        IsCall (map string_bytes words.now) (D.state disk.old) (D.state disk.new) (io source.old sink.old (D.fault_count disk.old)) (io source.new sink.new (D.fault_count disk.new)) report.new result }
+        IsCall (map string_bytes words.now) (C.coming clock.old) (C.coming clock.new) (D.state disk.old) (D.state disk.new) (io source.old sink.old (D.fault_count disk.old)) (io source.new sink.new (D.fault_count disk.new)) report.new result }
     ensures source { (start : ℕ) → AreGenerateWords (map string_bytes words.now) start → source.new ≡ source.old }
     ensures untouched { AreNoWords (map string_bytes words.now) → disk.new ≡ disk.old }
-    ensures whole { (entries : List PlainEntry) → AsRead (D.state disk.old).reads (IsWhole entries) → BeginsWith entries report.new result }
+    ensures whole { (rows : List PlainLogged) → AsRead (D.state disk.old).reads (HoldsWhole rows) → BeginsWith rows report.new result }
     ensures never_falls { D.fault_count disk.old ≤ D.fault_count disk.new }
 {
     *report = Report::new(alloc);
@@ -124,11 +131,13 @@ pub fn run_batch<S: Source, K: Sink, D: Disk>(
         end,
         points,
         bytes_read,
-    } = serve_form(alloc, &form, &mut serves, source, sink, disk);
+    } = serve_form(alloc, &form, &mut serves, clock, source, sink, disk);
     // So each image has what the store has.
     images_are_kept(disk, &serves.store);
     let Serves { store, session: _ } = serves;
-    report.history = store.into_history();
+    let (history, moments) = store.into_log();
+    report.history = history;
+    report.moments = moments;
     report.opened = opened;
     report.points = points;
     report.bytes_read = bytes_read;

@@ -5,7 +5,7 @@ ghost use Rattle.febe_data.specs.Validity.{IsRequest};
 ghost use Rattle.world_rules.specs.History.{is_live};
 ghost use Rattle.green_session.specs.Taking.{read_state, IsTaken};
 ghost use Rattle.green_top.specs.inside.Next.{NextIs};
-ghost use Rattle.green_top.specs.inside.Play.{Chain};
+ghost use Rattle.green_top.specs.inside.Play.{AsksOnce, LeadsOn};
 ghost use Rattle.green_top.specs.inside.Progress.{answer_state, HandlesRequest};
 ghost use Rattle.green_top.specs.inside.Conversation.{state_by, IsRound};
 
@@ -13,7 +13,7 @@ use crate::plays::{PlaySession, Replied};
 use crate::session_end::SessionEnd;
 use febe_data::{List, Request};
 use febe_feed::Feed;
-use green_io::{Sink, Source};
+use green_io::{Clock, Sink, Source};
 use green_session::{Put, Taken, Turns, put_reply, take_request};
 use std::alloc::Global;
 
@@ -68,11 +68,12 @@ fn is_quit(request: &Request) -> bool
 
 /// Answers a request of the session, notes its point and writes its reply. Room for the point is taken first, so that no
 /// entry stands without its point.
-fn answer_one<P: PlaySession, K: Sink>(
+fn answer_one<P: PlaySession, C: Clock, K: Sink>(
     alloc: Global,
     player: &P,
     first: &mut P::First,
     second: &mut P::Second,
+    clock: &mut C,
     request: Request,
     sink: &mut K,
     points: &mut List<u64>,
@@ -86,7 +87,7 @@ fn answer_one<P: PlaySession, K: Sink>(
     ensures answered { (exchanges : _) × HandlesRequest (P.limits first.old) (P.number first.old)
         (answer_state (P.seen first.old second.old) points.old.items (K.taken sink.old) (K.fault_count sink.old) (P.faults first.old second.old))
         (answer_state (P.seen first.new second.new) points.new.items (K.taken sink.new) (K.fault_count sink.new) (P.faults first.new second.new)) (plain_request request) result.put exchanges
-        × Chain P.tells P.tended first.old second.old exchanges first.new second.new }
+        × AsksOnce P.tells first.old second.old (C.coming clock.old) exchanges first.new second.new (C.coming clock.new) }
     ensures live { is_live (P.seen first.new second.new) (P.number first.new) ≡ result.live }
     ensures stays { plain_request request ≢ quit → result.live ≡ true }
 {
@@ -97,7 +98,7 @@ fn answer_one<P: PlaySession, K: Sink>(
             live: true,
         };
     }
-    let Replied { reply, point } = player.ask(alloc, first, second, request);
+    let Replied { reply, point } = player.ask(alloc, first, second, clock, request);
     points.push_reserved(point);
     let put = put_reply(alloc, sink, &reply);
     Answered { put, live }
@@ -105,11 +106,12 @@ fn answer_one<P: PlaySession, K: Sink>(
 
 /// Takes one request of the session, answers it and writes its reply, or tells what ends the session. Once a reply is written
 /// the player does what is then to be done.
-pub(crate) fn answer_next<P: PlaySession, S: Source, K: Sink>(
+pub(crate) fn answer_next<P: PlaySession, C: Clock, S: Source, K: Sink>(
     alloc: Global,
     player: &P,
     first: &mut P::First,
     second: &mut P::Second,
+    clock: &mut C,
     source: &mut S,
     sink: &mut K,
     talk: &mut Talk,
@@ -122,7 +124,7 @@ pub(crate) fn answer_next<P: PlaySession, S: Source, K: Sink>(
     ensures number { P.number first.new ≡ P.number first.old }
     ensures round { let state = state_by P.seen P.faults S.left S.fault_count K.taken K.fault_count in
         (exchanges : _) × IsRound (P.limits first.old) (P.number first.old) (state first.old second.old source.old sink.old talk.old) (state first.new second.new source.new sink.new talk.new) exchanges result
-        × Chain P.tells P.tended first.old second.old exchanges first.new second.new }
+        × LeadsOn P.tells P.tended result first.old second.old (C.coming clock.old) exchanges first.new second.new (C.coming clock.new) }
 {
     let request = match take_next(alloc, source, &mut talk.feed, &mut talk.turns) {
         Ok(Some(request)) => request,
@@ -135,6 +137,7 @@ pub(crate) fn answer_next<P: PlaySession, S: Source, K: Sink>(
         player,
         first,
         second,
+        clock,
         request,
         sink,
         &mut talk.points,
@@ -150,7 +153,7 @@ pub(crate) fn answer_next<P: PlaySession, S: Source, K: Sink>(
             live,
         }),
     }
-    player.tend(alloc, first, second);
+    player.tend(alloc, first, second, clock);
     if quits {
         return Some(Closing {
             end: SessionEnd::Quit,

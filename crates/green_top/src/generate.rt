@@ -1,6 +1,6 @@
 //! A session whose requests the program makes itself.
-ghost use Rattle.std.specs.Prelude.{◌≡◌, ◌+◌, [], ℕ, IfOk};
-ghost use Rattle.febe_data.specs.LimitsView.{LimitsView, standard_limits};
+ghost use Rattle.std.specs.Prelude.{◌≡◌, ◌+◌, [], ℕ, List as ListOf, IfOk};
+ghost use Rattle.febe_data.specs.LimitsView.{standard_limits};
 ghost use Rattle.febe_wire.specs.Sessions.{IsInputOf};
 ghost use Rattle.world_rules.specs.Apply.{world_of};
 ghost use Rattle.world_rules.specs.Placed.{AllPlaced};
@@ -10,7 +10,8 @@ ghost use Rattle.session_generator.specs.Generated.{generated_requests};
 ghost use Rattle.green_top.specs.IoState.{io_state};
 ghost use Rattle.green_top.specs.Outcome.{HasServedAlone};
 ghost use Rattle.green_top.specs.GeneratedRun.{IsGeneratedRun};
-ghost use Rattle.green_top.specs.inside.Enduring.{Endures};
+ghost use Rattle.green_top.specs.Times.{RunStep, AreTends};
+ghost use Rattle.green_top.specs.inside.Enduring.{RunsThrough, Settles};
 ghost use Rattle.green_top.specs.Summary.{summary_of};
 ghost use Rattle.green_top.specs.inside.Summing.{IsOutput, Tells, CanEnd, outcome_of, IsInnerRun};
 
@@ -21,7 +22,7 @@ use crate::session_end::SessionEnd;
 use crate::summary::summary_of;
 use febe_data::{List, Memory, Text};
 use febe_wire::write_request;
-use green_io::{Disk, Sink};
+use green_io::{Clock, Disk, Sink};
 use green_session::{Put, put_bytes};
 use green_store::Store;
 use session_generator::generated;
@@ -67,10 +68,11 @@ struct Summable {
 }
 
 /// Serves the session that the start generates, whose output comes into memory.
-fn serve_input<D: Disk>(
+fn serve_input<C: Clock, D: Disk>(
     alloc: Global,
     start: u32,
     serves: &mut Serves,
+    clock: &mut C,
     output: &mut KeptSink,
     disk: &mut D,
 ) -> Summable
@@ -80,7 +82,7 @@ fn serve_input<D: Disk>(
     requires none_yet { output.old.taken ≡ [] }
     ensures run { (exchanges : _) × IsInnerRun start serves.new.session result.outcome serves.new.store.history exchanges result.points.items output.new.taken
         × HasServedAlone serves.old.store.history serves.new.session serves.new.store.history exchanges (D.fault_count disk.old) (D.fault_count disk.new)
-        × Endures serves.old.store.limits (greatest_session serves.old.store.history + 1) exchanges (D.state disk.old) serves.old.store (D.fault_count disk.old) (D.state disk.new) serves.new.store (D.fault_count disk.new) }
+        × RunsThrough serves.old.store.limits (greatest_session serves.old.store.history + 1) serves.new.session exchanges [] (C.coming clock.old) (C.coming clock.new) (D.state disk.old) serves.old.store (D.fault_count disk.old) (D.state disk.new) serves.new.store (D.fault_count disk.new) }
 {
     let Ok(input) = input_of(alloc, start) else {
         let outcome = Err(SessionEnd::Memory);
@@ -92,20 +94,20 @@ fn serve_input<D: Disk>(
         end,
         points,
         bytes_read: _,
-    } = serve_beside(alloc, serves, &mut source, output, disk);
+    } = serve_beside(alloc, serves, clock, &mut source, output, disk);
     let outcome = outcome_of(end);
     Summable { outcome, points }
 }
 
 /// Puts the store's trees and pages right, one step after another, until there is nothing to be done, or a step could not be
 /// made for want of memory or since the disk failed.
-fn settle<D: Disk>(alloc: Global, serves: &mut Serves, disk: &mut D)
+fn settle<C: Clock, D: Disk>(alloc: Global, serves: &mut Serves, clock: &mut C, disk: &mut D)
     ensures number { serves.new.session ≡ serves.old.session }
     ensures history { serves.new.store.history ≡ serves.old.store.history }
-    ensures endures { (limits : LimitsView) (session : ℕ) → Endures limits session [] (D.state disk.old) serves.old.store (D.fault_count disk.old) (D.state disk.new) serves.new.store (D.fault_count disk.new) }
+    ensures settles { Settles (C.coming clock.old) (C.coming clock.new) (D.state disk.old) serves.old.store (D.fault_count disk.old) (D.state disk.new) serves.new.store (D.fault_count disk.new) }
 {
     for _ in 0..MOST_STEPS {
-        if !put_right(alloc, serves, disk) {
+        if !put_right(alloc, serves, clock, disk) {
             return;
         }
     }
@@ -135,10 +137,11 @@ fn write_summary<K: Sink>(
 
 /// Serves the session that the start generates, over a store that has just opened, puts the store's trees and pages right, and
 /// writes the summary to the sink.
-pub(crate) fn serve_generated<K: Sink, D: Disk>(
+pub(crate) fn serve_generated<C: Clock, K: Sink, D: Disk>(
     alloc: Global,
     start: u32,
     serves: &mut Serves,
+    clock: &mut C,
     sink: &mut K,
     disk: &mut D,
 ) -> Served
@@ -150,14 +153,15 @@ pub(crate) fn serve_generated<K: Sink, D: Disk>(
         (io_state left faults (K.taken sink.new) (K.fault_count sink.new) (D.fault_count disk.new))
         serves.new.store.history exchanges result.points.items result.end)
         × HasServedAlone serves.old.store.history serves.new.session serves.new.store.history exchanges (D.fault_count disk.old) (D.fault_count disk.new)
-        × Endures serves.old.store.limits (greatest_session serves.old.store.history + 1) exchanges (D.state disk.old) serves.old.store (D.fault_count disk.old) (D.state disk.new) serves.new.store (D.fault_count disk.new) }
+        × (behind : ListOf RunStep) × AreTends behind
+        × RunsThrough serves.old.store.limits (greatest_session serves.old.store.history + 1) serves.new.session exchanges behind (C.coming clock.old) (C.coming clock.new) (D.state disk.old) serves.old.store (D.fault_count disk.old) (D.state disk.new) serves.new.store (D.fault_count disk.new) }
     ensures nothing_read { result.bytes_read ≡ 0 }
 {
     let mut output = KeptSink::new(alloc);
-    let Summable { outcome, points } = serve_input(alloc, start, serves, &mut output, disk);
+    let Summable { outcome, points } = serve_input(alloc, start, serves, clock, &mut output, disk);
     match outcome {
         Ok(()) => {
-            settle(alloc, serves, disk);
+            settle(alloc, serves, clock, disk);
             let end = write_summary(alloc, start, output.bytes(), &serves.store, sink);
             Served {
                 end,

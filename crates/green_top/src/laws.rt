@@ -2,12 +2,14 @@
 ghost use Rattle.green_top.specs.Laws.{Completeness, GeneratedCompleteness, DamageIsTold};
 
 use edit_log::laws::one_reading;
+use green_store::laws::one_opening;
 
 /// A session's whole input is served over a log that is not damaged, or memory runs out.
 pub fn completeness()
     ensures { Completeness }
 {
     one_reading();
+    one_opening();
 }
 
 /// A generated session is served over a log that is not damaged, or memory runs out.
@@ -15,11 +17,12 @@ pub fn generated_completeness()
     ensures { GeneratedCompleteness }
 {
     one_reading();
+    one_opening();
 }
 
 /// Over a damaged log no session is served, and nothing is reported but why.
 pub fn damage_is_told()
     ensures { DamageIsTold }
 {
-    one_reading();
+    one_opening();
 }

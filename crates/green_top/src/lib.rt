@@ -6,6 +6,7 @@ mod beside;
 mod buffers;
 mod exchange;
 mod generate;
+mod jobs;
 pub mod laws;
 mod plays;
 mod report;

@@ -8,6 +8,9 @@ use std::alloc::Global;
 pub struct Report {
     /// The history: the entries of the log as it was read, a restart, and the session's entries.
     pub history: List<Entry>,
+    /// When each kept entry of the history was made, in their order: at the moment that the clock gave to its step, or as the log
+    /// had it, where 0 stands for a moment that was not logged.
+    pub moments: List<u64>,
     /// How many entries the history had once the run had begun; 0 where it never did.
     pub opened: u64,
     /// The number of entries after each reply, one point a reply.
@@ -24,6 +27,7 @@ impl Report {
     /// The report of a run that has done nothing.
     pub fn new(alloc: Global) -> Report
         ensures history { result.history.items ≡ [] }
+        ensures moments { result.moments.items ≡ [] }
         ensures opened { result.opened ≡ 0 }
         ensures points { result.points.items ≡ [] }
         ensures bytes_read { result.bytes_read ≡ 0 }
@@ -31,6 +35,7 @@ impl Report {
     {
         Report {
             history: List::new(alloc),
+            moments: List::new(alloc),
             opened: 0,
             points: List::new(alloc),
             bytes_read: 0,

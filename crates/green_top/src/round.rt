@@ -2,7 +2,8 @@
 ghost use Rattle.history_lock.specs.Passes.{known, IsPassOf};
 ghost use Rattle.green_top.specs.Round.{HasMadeRound};
 
-use green_io::Disk;
+use crate::jobs::timed;
+use green_io::{Clock, Disk};
 use green_store::{HouseJob, Housed, StepAnswer};
 use history_lock::{HistoryLock, Pass};
 use std::alloc::Global;
@@ -26,17 +27,20 @@ pub enum Round {
 }
 
 /// Makes one background step behind the lock, once it has it. Whatever comes of it, sessions go on as if it had not been made.
-pub fn background_round<R: Wait, D: Disk>(
+/// It asks the clock for the step's moment before it waits.
+pub fn background_round<R: Wait, C: Clock, D: Disk>(
     rt: &R,
     alloc: Global,
     lock: &HistoryLock<Housed<D>>,
     pass: &mut Pass<Housed<D>>,
+    clock: &mut C,
 ) -> Round
     requires { IsPassOf lock.now pass.old }
     ensures same_lock { IsPassOf lock.now pass.new }
-    ensures round { HasMadeRound (known pass.old) result (known pass.new) }
+    ensures round { HasMadeRound (known pass.old) result (known pass.new) (C.coming clock.old) (C.coming clock.new) }
 {
-    let answer = lock.act(rt, alloc, pass, HouseJob::Background).answer;
+    let job = timed(clock, HouseJob::Background);
+    let answer = lock.act(rt, alloc, pass, job).answer;
     match answer {
         StepAnswer::Balanced => Round::Balanced,
         StepAnswer::Flushed => Round::Flushed,

@@ -1,7 +1,7 @@
 -- What the images of a disk have in Home and in the Journal while a commit or an opening runs.
 use Rattle.std.specs.Prelude.{◌≡◌, ◌⊎◌, ℕ, ◌∷◌, drop, IsSome}
 use Rattle.green_io.specs.declared.disk.Area.{Area}
-use Rattle.green_io.specs.declared.disk.Area.TheVariants.{Log, Home, Journal}
+use Rattle.green_io.specs.declared.disk.Area.TheVariants.{Log, Home, Journal, Second}
 use Rattle.green_io.specs.Areas.{Areas}
 use Rattle.green_io.specs.Disk.{DiskState, images_now}
 use Rattle.std.specs.Prelude.{Bool, true, false}
@@ -13,6 +13,7 @@ abbrev pub is_paged : Area → Bool
 is_paged Log = false
 is_paged Home = true
 is_paged Journal = true
+is_paged Second = false
 
 -- the gate is a 0 that is there
 abbrev pub IsShut : Bytes → Type 0

@@ -1,6 +1,6 @@
 //! Laws of open journals and of pages. Each is a function that does nothing, whose contract says the law.
 ghost use Rattle.std.specs.Prelude.{◌≡◌, ℕ, Some, false};
-ghost use Rattle.green_io.specs.Areas.{Areas, is_log};
+ghost use Rattle.green_io.specs.Areas.{Areas, is_logged};
 ghost use Rattle.green_io.specs.Disk.{LeavesBut, WhereTold, images_now};
 ghost use Rattle.page_journal.specs.Images.{GivesEither};
 ghost use Rattle.page_journal.specs.JournalBytes.{AreWrites, opened};
@@ -23,8 +23,8 @@ pub fn unfinished_gives<D: Disk>(disk: &D, journal: &PageJournal)
 
 /// Calls on the log alone leave a journal as it stands.
 pub fn log_calls_stay<D: Disk>(old: &D, new: &D, journal: &PageJournal)
-    ensures clean { (home : Bytes) → LeavesBut is_log (D.state old.now) (D.state new.now) → IsClean (D.state old.now) journal.now home → IsClean (D.state new.now) journal.now home }
-    ensures unfinished { (before : Bytes) (writes : Writes) → LeavesBut is_log (D.state old.now) (D.state new.now) → IsUnfinished (D.state old.now) journal.now before writes → IsUnfinished (D.state new.now) journal.now before writes }
+    ensures clean { (home : Bytes) → LeavesBut is_logged (D.state old.now) (D.state new.now) → IsClean (D.state old.now) journal.now home → IsClean (D.state new.now) journal.now home }
+    ensures unfinished { (before : Bytes) (writes : Writes) → LeavesBut is_logged (D.state old.now) (D.state new.now) → IsUnfinished (D.state old.now) journal.now before writes → IsUnfinished (D.state new.now) journal.now before writes }
 {}
 
 /// Home has the pages of a commit once they are laid over it, and every page that it had before.

@@ -1,6 +1,6 @@
 -- What a disk gives while it rests, and that calls on the log leave it so.
 use Rattle.std.proofs.Common.{◌≡◌, ◌⊎◌, inl, inr, ⊎_elim, []}
-use Rattle.green_io.specs.Areas.{Areas, is_log}
+use Rattle.green_io.specs.Areas.{Areas, is_logged}
 use Rattle.green_io.specs.Disk.{DiskState, IsDisk, LeavesBut, images_now}
 use Rattle.page_journal.specs.Images.{IsShut, GivesEither}
 use Rattle.page_journal.specs.JournalBytes.{opened}
@@ -33,7 +33,7 @@ resting-gives disk journal was saved rests image is = ⊎_elim
     (rests-give disk journal (begun saved) (begun saved) newer image is))
     rests
 
-rests-stay : (a b : DiskState) (journal : JournalView) (was now : Course) → IsDisk b → LeavesBut is_log a b → Rests a journal was now → Rests b journal was now
+rests-stay : (a b : DiskState) (journal : JournalView) (was now : Course) → IsDisk b → LeavesBut is_logged a b → Rests a journal was now → Rests b journal was now
 rests-stay a b journal was now disk leaves rests = ⊎_elim
     (λ (settled : IsSettledOn a journal now). inl record {
       home = settled.home;
@@ -49,7 +49,7 @@ rests-stay a b journal was now disk leaves rests = ⊎_elim
     })
     rests
 
-pub resting-stays : (a b : DiskState) (journal : JournalView) (was saved : Saved) → IsDisk b → LeavesBut is_log a b → RestsOn a journal was saved → RestsOn b journal was saved
+pub resting-stays : (a b : DiskState) (journal : JournalView) (was saved : Saved) → IsDisk b → LeavesBut is_logged a b → RestsOn a journal was saved → RestsOn b journal was saved
 resting-stays a b journal was saved disk leaves rests = ⊎_elim
     (λ (older : Rests a journal (begun was) (begun saved)). inl (rests-stay a b journal (begun was) (begun saved) disk leaves older))
     (λ (newer : Rests a journal (begun saved) (begun saved)). inr (rests-stay a b journal (begun saved) (begun saved) disk leaves newer))

@@ -1,5 +1,5 @@
 //! Laws of what saves write, and of how a disk rests between them. Each is a function that does nothing, whose contract says the law.
-ghost use Rattle.green_io.specs.Areas.{Areas, is_log};
+ghost use Rattle.green_io.specs.Areas.{Areas, is_logged};
 ghost use Rattle.green_io.specs.Disk.{LeavesBut, images_now};
 ghost use Rattle.page_saves.specs.Courses.{Saved, GivesOne, begun};
 ghost use Rattle.page_saves.specs.Plans.{BesideLeads, BlankLeads, HeaderLeads, StartLeads};
@@ -15,7 +15,7 @@ pub fn resting_gives<D: Disk>(disk: &D, journal: &PageJournal)
 
 /// Calls on the log alone leave a disk resting as it does.
 pub fn log_calls_stay<D: Disk>(old: &D, new: &D, journal: &PageJournal)
-    ensures { (was saved : Saved) → LeavesBut is_log (D.state old.now) (D.state new.now) → RestsOn (D.state old.now) journal.now was saved → RestsOn (D.state new.now) journal.now was saved }
+    ensures { (was saved : Saved) → LeavesBut is_logged (D.state old.now) (D.state new.now) → RestsOn (D.state old.now) journal.now was saved → RestsOn (D.state new.now) journal.now was saved }
 {}
 
 /// Pages that hold what a save has left are where the next one begins.

@@ -198,7 +198,7 @@ fn check_outcome(
 }
 
 /// How many edits an image of the disk is opened with.
-fn count_left(alloc: Global, disk: &MemoryDisk, pick: u64) -> Result<usize, Fail> {
+pub(crate) fn count_left(alloc: Global, disk: &MemoryDisk, pick: u64) -> Result<usize, Fail> {
     let limits = Limits::new(1000, 1_000_000, 1)?;
     let mut image = disk.crash(u64::MAX, pick)?;
     let store = Store::open(alloc, &mut image, limits)?;

@@ -11,6 +11,8 @@ mod input_cuts;
 #[cfg(test)]
 mod log_bytes;
 #[cfg(test)]
+mod moved_calls;
+#[cfg(test)]
 mod publish_calls;
 #[cfg(test)]
 mod reads_and_writes;

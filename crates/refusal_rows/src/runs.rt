@@ -2,7 +2,7 @@
 
 use crate::exchanges::bytes_of;
 use febe_data::{List, Memory, Text};
-use green_fakes::{MemoryDisk, MemorySink, MemorySource};
+use green_fakes::{MemoryClock, MemoryDisk, MemorySink, MemorySource};
 use green_top::{Report, run_batch};
 use std::alloc::{AllocError, Global};
 use std::process::Abort;
@@ -150,7 +150,15 @@ impl Streams {
             mut sink,
         } = self;
         let mut report = Report::new(alloc);
-        let status = run_batch(alloc, words, &mut source, &mut sink, &mut disk, &mut report);
+        let status = run_batch(
+            alloc,
+            words,
+            &mut MemoryClock::new(1000, 1),
+            &mut source,
+            &mut sink,
+            &mut disk,
+            &mut report,
+        );
         Ran {
             status,
             source,

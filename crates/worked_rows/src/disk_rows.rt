@@ -9,7 +9,17 @@ use std::alloc::Global;
 use std::process::Abort;
 use std::test::Fail;
 
-/// The log after the first run: the document that session 1 made, and the five bytes that it put in, each behind a gate.
+/// The log after the first run: behind a gate of its own the document that session 1 made, and the five bytes that it put in, each
+/// behind a gate and with the moment that the clock gave to its step.
+pub(crate) const HELLO_SECOND: [u8; 143] = [
+    1, 1, 0, 0, 0, 0, 0, 0, 0, 51, 2, 0, 0, 0, 0, 0, 0, 3, 235, 0, 0, 0, 0, 0, 0, 0, 1, 0, 0, 0, 0,
+    0, 0, 0, 3, 1, 6, 0, 0, 0, 1, 0, 0, 0, 1, 0, 0, 0, 0, 0, 0, 0, 1, 0, 0, 0, 0, 0, 0, 0, 1, 1, 0,
+    0, 0, 0, 0, 0, 0, 72, 2, 0, 0, 0, 0, 0, 0, 3, 237, 0, 0, 0, 0, 0, 0, 0, 1, 0, 0, 0, 0, 0, 0, 0,
+    4, 4, 6, 0, 0, 0, 1, 0, 0, 0, 1, 0, 0, 0, 0, 0, 0, 0, 1, 0, 0, 0, 0, 0, 0, 0, 1, 0, 0, 0, 1, 0,
+    0, 0, 1, 0, 0, 0, 0, 0, 0, 0, 5, 104, 101, 108, 108, 111, 0,
+];
+
+/// The same log as it was kept before each edit had its moment.
 pub(crate) const HELLO_LOG: [u8; 114] = [
     1, 0, 0, 0, 43, 1, 0, 0, 0, 0, 0, 0, 0, 1, 0, 0, 0, 0, 0, 0, 0, 3, 1, 6, 0, 0, 0, 1, 0, 0, 0,
     1, 0, 0, 0, 0, 0, 0, 0, 1, 0, 0, 0, 0, 0, 0, 0, 1, 1, 0, 0, 0, 60, 1, 0, 0, 0, 0, 0, 0, 0, 1,
@@ -47,8 +57,8 @@ pub(crate) fn calls_to_open(alloc: Global) -> Result<u64, Fail> {
     Ok(calls_made(&mut ran.disk))
 }
 
-/// A disk with these bytes in its log.
-fn disk_with(alloc: Global, log: &[u8]) -> Result<MemoryDisk, Memory> {
+/// A disk with these bytes in the log of before.
+pub(crate) fn disk_with(alloc: Global, log: &[u8]) -> Result<MemoryDisk, Memory> {
     let mut disk = disk_failing(alloc, &[])?;
     let Ok(()) = disk.write(Area::Log, 0, log) else {
         return Err(Memory);
@@ -74,7 +84,9 @@ fn a_run_leaves_its_log(rt: HostRuntime) -> Result<(), Fail> {
     let alloc = rt.alloc();
     let ran = run_on(alloc, disk_failing(alloc, &[])?, HELLO)?;
     check_output(&rt, alloc, &ran, HELLO_ANSWERED)?;
-    assert_eq!(rt; ran.disk.area(Area::Log), HELLO_LOG.as_slice());
+    assert_eq!(rt; ran.disk.area(Area::Second), HELLO_SECOND.as_slice());
+    assert!(rt; ran.disk.area(Area::Log).is_empty());
+    assert_eq!(rt; ran.report.moments.as_slice(), [1003, 1005].as_slice());
     assert!(rt; ran.disk.area(Area::Home).is_empty());
     assert!(rt; ran.disk.area(Area::Journal) == [0].as_slice());
     Ok(())

@@ -2,6 +2,7 @@
 
 use crate::runs::{HELLO, HELLO_ANSWERED, WORDS, sink_of, source_of, strings_of};
 use crate::sessions::bytes_of;
+use green_fakes::MemoryClock;
 use green_io::{Area, Disk, FolderDisk};
 use green_top::{Report, run_batch};
 use std::fs;
@@ -20,6 +21,7 @@ fn run_in(rt: HostRuntime, folder: &str, input: &str) -> Result<(u8, Text), Fail
     let status = run_batch(
         alloc,
         words.as_slice(),
+        &mut MemoryClock::new(1000, 1),
         &mut source,
         &mut sink,
         &mut disk,

@@ -28,6 +28,8 @@ mod journal_rows;
 #[cfg(test)]
 mod marked_rows;
 #[cfg(test)]
+mod moment_rows;
+#[cfg(test)]
 mod page_bytes;
 #[cfg(test)]
 mod page_faults;

@@ -1,9 +1,10 @@
 //! What is published stays so when a store is opened again, with pages and without; and logs of before are private.
 
-use crate::disk_rows::{HELLO_LOG, disk_failing};
+use crate::disk_rows::{HELLO_LOG, disk_failing, disk_with};
 use crate::paged_runs::{beside_log, log_alone, run_first};
 use crate::runs::HELLO;
 use crate::store_rows::{Asked, House, asks_all, begin, flushes, house_over, reopened};
+use green_io::{Area, Disk};
 use std::alloc::Global;
 use std::process::Abort;
 use std::test::Fail;
@@ -110,19 +111,19 @@ fn check_private(rt: &impl Abort, alloc: Global, house: &mut House) -> Result<()
     check_found(rt, alloc, house, FINDS_HELLO)
 }
 
-/// The log has no publish: it is such as was written before there were any.
+/// The log has no publish: it is such as was written before there were any, and before edits had moments. Pages that stand for it
+/// are gone on from while it moves.
 #[test]
 fn a_log_of_before_is_private(rt: HostRuntime) -> Result<(), Fail> {
     let alloc = rt.alloc();
     let ran = run_first(alloc, HELLO)?;
-    let mut paged = house_over(
-        alloc,
-        beside_log(alloc, &ran.disk, HELLO_LOG.as_slice())?,
-        256,
-    )?;
+    let mut disk = beside_log(alloc, &ran.disk, &[])?;
+    let written = disk.write(Area::Log, 0, HELLO_LOG.as_slice());
+    written.ok().ok_or("not written")?;
+    let mut paged = house_over(alloc, disk, 256)?;
     assert!(rt; paged.store.flushed() == 2);
     check_private(&rt, alloc, &mut paged)?;
-    let mut plain = house_over(alloc, log_alone(alloc, &ran.disk)?, 256)?;
+    let mut plain = house_over(alloc, disk_with(alloc, HELLO_LOG.as_slice())?, 256)?;
     assert!(rt; plain.store.flushed() == 0);
     check_private(&rt, alloc, &mut plain)
 }

@@ -57,7 +57,7 @@ fn check_changed(
     byte: u8,
 ) -> Result<(), Fail> {
     let home = changed(alloc, disk.area(Area::Home), at, byte)?;
-    let log = disk.area(Area::Log);
+    let log = disk.area(Area::Second);
     let other = disk_of(alloc, log, home.as_slice(), disk.area(Area::Journal))?;
     check_looks(rt, alloc, other)
 }
@@ -76,7 +76,7 @@ fn check_front(rt: &impl Abort, alloc: Global, disk: &MemoryDisk, from: usize) -
 fn a_run_over_whole_pages_and_one_over_none(rt: HostRuntime) -> Result<(), Fail> {
     let alloc = rt.alloc();
     let ran = run_first(alloc, MAKES)?;
-    let log = ran.disk.area(Area::Log);
+    let log = ran.disk.area(Area::Second);
     check_looks(&rt, alloc, beside_log(alloc, &ran.disk, log)?)?;
     check_looks(
         &rt,

@@ -1,6 +1,6 @@
 //! What runs with pages leave, and what later ones find there.
 
-use crate::disk_rows::{HELLO_LOG, disk_failing, run_on};
+use crate::disk_rows::{HELLO_SECOND, disk_failing, run_on};
 use crate::paged_runs::{LATER, LATER_ANSWERED, beside_log, position_in, run_eager, run_first};
 use crate::runs::{HELLO, HELLO_ANSWERED, Ran};
 use crate::sessions::bytes_of;
@@ -22,7 +22,7 @@ fn a_run_leaves_pages(rt: HostRuntime) -> Result<(), Fail> {
     let alloc = rt.alloc();
     let ran = run_first(alloc, HELLO)?;
     check_written(&rt, alloc, &ran, HELLO_ANSWERED)?;
-    assert!(rt; ran.disk.area(Area::Log) == HELLO_LOG.as_slice());
+    assert!(rt; ran.disk.area(Area::Second) == HELLO_SECOND.as_slice());
     assert!(rt; position_in(ran.disk.area(Area::Home)) == Some(2));
     assert!(rt; ran.disk.area(Area::Journal).first() == Some(&0));
     Ok(())
@@ -32,13 +32,13 @@ fn a_run_leaves_pages(rt: HostRuntime) -> Result<(), Fail> {
 fn a_later_run_goes_on_from_pages(rt: HostRuntime) -> Result<(), Fail> {
     let alloc = rt.alloc();
     let first = run_first(alloc, HELLO)?;
-    let disk = beside_log(alloc, &first.disk, HELLO_LOG.as_slice())?;
+    let disk = beside_log(alloc, &first.disk, HELLO_SECOND.as_slice())?;
     let later = run_eager(alloc, disk, LATER)?;
     check_written(&rt, alloc, &later, LATER_ANSWERED[2])?;
     assert!(rt; later.figures().opened == 3);
     // Nothing came in that is kept, so nothing is written.
     assert!(rt; later.disk.area(Area::Home) == first.disk.area(Area::Home));
-    assert!(rt; later.disk.area(Area::Log) == HELLO_LOG.as_slice());
+    assert!(rt; later.disk.area(Area::Second) == HELLO_SECOND.as_slice());
     Ok(())
 }
 
@@ -105,7 +105,7 @@ fn pages_of_entries_that_the_log_lacks_are_put_aside(rt: HostRuntime) -> Result<
 /// The log that a session leaves.
 fn house_beside_session(alloc: Global, input: &str) -> Result<House, Fail> {
     let ran = run_on(alloc, disk_failing(alloc, &[])?, input)?;
-    house_beside(alloc, ran.disk.area(Area::Log))
+    house_beside(alloc, ran.disk.area(Area::Second))
 }
 
 #[test]

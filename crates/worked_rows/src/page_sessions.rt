@@ -64,7 +64,7 @@ fn pages_change_no_reply(rt: HostRuntime) -> Result<(), Fail> {
     let none = run_mixed(alloc, NONE, 400)?;
     assert!(rt; each.status == 0 && none.status == 0);
     assert!(rt; each.written() == none.written());
-    assert!(rt; each.disk.area(Area::Log) == none.disk.area(Area::Log));
+    assert!(rt; each.disk.area(Area::Second) == none.disk.area(Area::Second));
     assert!(rt; position_in(each.disk.area(Area::Home)).is_some());
     assert!(rt; none.disk.area(Area::Home).is_empty());
     Ok(())
@@ -111,7 +111,7 @@ impl Drop for Pair {
 
 /// One goes on from what the run has left, pages and log, and one from the log alone.
 fn pair_of(rt: &impl Abort, alloc: Global, ran: &Ran) -> Result<Pair, Fail> {
-    let log = ran.disk.area(Area::Log);
+    let log = ran.disk.area(Area::Second);
     let mut paged = house_over(alloc, beside_log(alloc, &ran.disk, log)?, 16)?;
     let mut plain = house_over(alloc, log_alone(alloc, &ran.disk)?, 4_194_304)?;
     assert!(rt; begin(alloc, &mut paged) == Some(2));

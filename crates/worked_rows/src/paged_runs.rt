@@ -55,7 +55,7 @@ fn put(disk: &mut MemoryDisk, area: Area, bytes: &[u8]) -> Result<(), Memory> {
     Ok(())
 }
 
-/// A disk with these bytes in its areas.
+/// A disk with these bytes in its areas. The log is that of the second one.
 pub(crate) fn disk_of(
     alloc: Global,
     log: &[u8],
@@ -63,13 +63,13 @@ pub(crate) fn disk_of(
     journal: &[u8],
 ) -> Result<MemoryDisk, Memory> {
     let mut disk = disk_failing(alloc, &[])?;
-    put(&mut disk, Area::Log, log)?;
+    put(&mut disk, Area::Second, log)?;
     put(&mut disk, Area::Home, home)?;
     put(&mut disk, Area::Journal, journal)?;
     Ok(disk)
 }
 
-/// A disk with the pages of one disk and this log.
+/// A disk with the pages of one disk and this log, of the second area.
 pub(crate) fn beside_log(
     alloc: Global,
     pages: &MemoryDisk,
@@ -85,7 +85,7 @@ pub(crate) fn beside_log(
 
 /// A disk with the log of another, and no pages.
 pub(crate) fn log_alone(alloc: Global, disk: &MemoryDisk) -> Result<MemoryDisk, Memory> {
-    disk_of(alloc, disk.area(Area::Log), &[], &[])
+    disk_of(alloc, disk.area(Area::Second), &[], &[])
 }
 
 /// How many entries a header says that its trees stand for: the number behind the mark. Nothing where there is no header.

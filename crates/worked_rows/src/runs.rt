@@ -5,7 +5,7 @@
 
 use crate::sessions::bytes_of;
 use febe_data::{Change, List};
-use green_fakes::{MemoryDisk, MemorySink, MemorySource};
+use green_fakes::{MemoryClock, MemoryDisk, MemorySink, MemorySource};
 use green_top::{Report, run_batch};
 use std::alloc::{AllocError, Global};
 use std::process::Abort;
@@ -137,12 +137,21 @@ pub(crate) fn strings_of(alloc: Global, words: &[&str]) -> Result<Vec<String>, A
 fn run_strings(
     alloc: Global,
     words: &[String],
+    mut clock: MemoryClock,
     mut source: MemorySource,
     mut sink: MemorySink,
     mut disk: MemoryDisk,
 ) -> Ran {
     let mut report = Report::new(alloc);
-    let status = run_batch(alloc, words, &mut source, &mut sink, &mut disk, &mut report);
+    let status = run_batch(
+        alloc,
+        words,
+        &mut clock,
+        &mut source,
+        &mut sink,
+        &mut disk,
+        &mut report,
+    );
     Ran {
         status,
         source,
@@ -152,7 +161,20 @@ fn run_strings(
     }
 }
 
-/// Runs the program with these words over a disk.
+/// Runs the program with these words over a disk, by this clock.
+pub(crate) fn run_at(
+    alloc: Global,
+    words: &[&str],
+    clock: MemoryClock,
+    source: MemorySource,
+    sink: MemorySink,
+    disk: MemoryDisk,
+) -> Result<Ran, AllocError> {
+    let strings = strings_of(alloc, words)?;
+    Ok(run_strings(alloc, strings.as_slice(), clock, source, sink, disk))
+}
+
+/// Runs the program with these words over a disk. Its steps have the moments 1000, 1001, ..
 pub(crate) fn run_over(
     alloc: Global,
     words: &[&str],
@@ -160,8 +182,7 @@ pub(crate) fn run_over(
     sink: MemorySink,
     disk: MemoryDisk,
 ) -> Result<Ran, AllocError> {
-    let strings = strings_of(alloc, words)?;
-    Ok(run_strings(alloc, strings.as_slice(), source, sink, disk))
+    run_at(alloc, words, MemoryClock::new(1000, 1), source, sink, disk)
 }
 
 /// Runs the program with these words over an empty disk.

@@ -6,8 +6,8 @@ use crate::runs::{sink_of, source_of};
 use crate::sessions::{bytes_of, request_of};
 use febe_data::{Limits, List};
 use febe_reply::write_reply;
-use green_fakes::{MemoryDisk, MemorySink};
-use green_store::{HouseJob, Housed, StepAnswer, Store};
+use green_fakes::{MemoryClock, MemoryDisk, MemorySink};
+use green_store::{HouseJob, Housed, StepAnswer, Store, Timed};
 use green_top::{Round, SessionEnd, background_round, serve_session};
 use history_lock::{HistoryLock, Pass};
 use std::alloc::Global;
@@ -26,12 +26,17 @@ fn house(alloc: Global) -> Result<House, Fail> {
     Ok(Housed::new(store, disk))
 }
 
+/// The job, at some moment.
+fn at_moment(job: HouseJob) -> Timed {
+    Timed { moment: 7, job }
+}
+
 /// Begins a session. Gives its number, or 0.
 fn begin<R: Wait>(rt: &R, alloc: Global, lock: &HistoryLock<House>, pass: &mut Pass<House>) -> u64
     requires { IsPassOf lock.now pass.old }
     ensures { IsPassOf lock.now pass.new }
 {
-    let answer = lock.act(rt, alloc, pass, HouseJob::Begin).answer;
+    let answer = lock.act(rt, alloc, pass, at_moment(HouseJob::Begin)).answer;
     match answer {
         StepAnswer::Begun { session } => session,
         _ => 0,
@@ -76,7 +81,9 @@ fn ask<R: Wait>(
             point: 0,
         });
     };
-    let answer = lock.act(rt, alloc, pass, HouseJob::Ask(request)).answer;
+    let answer = lock
+        .act(rt, alloc, pass, at_moment(HouseJob::Ask(request)))
+        .answer;
     let StepAnswer::Reply { reply, point } = answer else {
         return Ok(Told {
             bytes: Text::new(alloc),
@@ -174,6 +181,7 @@ fn serve<R: Wait>(
         alloc,
         lock,
         &mut pass,
+        &mut MemoryClock::new(1000, 1),
         &mut source,
         &mut sink,
         &mut points,
@@ -250,7 +258,7 @@ fn settles<R: Wait>(
     ensures { IsPassOf lock.now pass.new }
 {
     for _ in 0..100u64 {
-        if background_round(rt, alloc, lock, pass) == Round::Idle {
+        if background_round(rt, alloc, lock, pass, &mut MemoryClock::new(1000, 1)) == Round::Idle {
             return true;
         }
     }
@@ -266,7 +274,15 @@ fn rounds_put_trees_right(rt: HostRuntime) -> Result<(), Fail> {
     write_document(&rt, alloc, &lock, &mut first, "0~A~0.1.1~t1:x")?;
     type_in_front(&rt, alloc, &lock, &mut first, 20)?;
     // Twenty-one pieces are more than a node may have.
-    assert!(rt; background_round(&rt, alloc, &lock, &mut first) == Round::Balanced);
+    assert!(rt;
+        background_round(
+            &rt,
+            alloc,
+            &lock,
+            &mut first,
+            &mut MemoryClock::new(1000, 1)
+        ) == Round::Balanced
+    );
     assert!(rt; settles(&rt, alloc, &lock, &mut first));
     let told = ask(&rt, alloc, &lock, &mut first, "5~1~A~1~0.1.1~1.21~")?;
     // A restart, a begin and 23 requests: rounds add nothing to the history.

@@ -11,6 +11,9 @@ use std::process::Abort;
 use std::test::Fail;
 use tumbler::Text;
 
+/// The moment of each step.
+const MOMENT: u64 = 7;
+
 /// A store and its disk.
 pub(crate) struct House {
     pub(crate) store: Store,
@@ -44,7 +47,10 @@ pub(crate) fn reopened(alloc: Global, house: &House, pick: u64) -> Result<House,
 
 /// Begins a session, and gives its number.
 pub(crate) fn begin(alloc: Global, house: &mut House) -> Option<u64> {
-    match house.store.step(alloc, &mut house.disk, Step::Begin) {
+    match house
+        .store
+        .step(alloc, &mut house.disk, MOMENT, Step::Begin)
+    {
         StepAnswer::Begun { session } => Some(session),
         _ => None,
     }
@@ -58,7 +64,8 @@ pub(crate) fn ask(
     request: Request,
 ) -> Result<Text, Memory> {
     let step = Step::Ask { session, request };
-    let StepAnswer::Reply { reply, .. } = house.store.step(alloc, &mut house.disk, step) else {
+    let StepAnswer::Reply { reply, .. } = house.store.step(alloc, &mut house.disk, MOMENT, step)
+    else {
         return Ok(Text::new(alloc));
     };
     write_reply(alloc, &reply)
@@ -66,26 +73,35 @@ pub(crate) fn ask(
 
 /// Makes a background step, and tells whether it has written pages for all kept entries.
 pub(crate) fn flushes(alloc: Global, house: &mut House) -> bool {
-    let answer = house.store.step(alloc, &mut house.disk, Step::Background);
+    let answer = house
+        .store
+        .step(alloc, &mut house.disk, MOMENT, Step::Background);
     matches!(&answer, StepAnswer::Flushed)
 }
 
 /// Makes a background step, and tells whether the disk failed while pages were written.
 pub(crate) fn stops(alloc: Global, house: &mut House) -> bool {
-    let answer = house.store.step(alloc, &mut house.disk, Step::Background);
+    let answer = house
+        .store
+        .step(alloc, &mut house.disk, MOMENT, Step::Background);
     matches!(&answer, StepAnswer::Disk)
 }
 
 /// Makes a background step, and tells whether nodes that no tree reaches were let go.
 pub(crate) fn sweeps(alloc: Global, house: &mut House) -> bool {
-    let answer = house.store.step(alloc, &mut house.disk, Step::Background);
+    let answer = house
+        .store
+        .step(alloc, &mut house.disk, MOMENT, Step::Background);
     matches!(&answer, StepAnswer::Swept)
 }
 
 /// Makes background steps until none applies. Gives whether no tree allows a step then.
 pub(crate) fn settles(alloc: Global, house: &mut House) -> bool {
     for _ in 0..100_000u32 {
-        if let StepAnswer::Idle = house.store.step(alloc, &mut house.disk, Step::Background) {
+        if let StepAnswer::Idle = house
+            .store
+            .step(alloc, &mut house.disk, MOMENT, Step::Background)
+        {
             return !house.store.can_balance();
         }
     }
@@ -96,7 +112,7 @@ pub(crate) fn settles(alloc: Global, house: &mut House) -> bool {
 fn end(alloc: Global, house: &mut House, session: u64) -> bool {
     match house
         .store
-        .step(alloc, &mut house.disk, Step::End { session })
+        .step(alloc, &mut house.disk, MOMENT, Step::End { session })
     {
         StepAnswer::Ended => true,
         _ => false,

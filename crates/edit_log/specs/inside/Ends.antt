@@ -1,9 +1,9 @@
 -- The end of a log that is being closed.
 use Rattle.std.specs.Prelude.{◌≡◌, ◌≢◌, ◌⊎◌, ℕ, ◌==◌, Bool, false, List, [], ◌∷◌, ◌++◌, drop}
 
--- the log is this
-abbrev pub IsLog : List ℕ → List ℕ → Type 0
-IsLog bytes log = log ≡ bytes
+-- the area is this
+abbrev pub IsThat : List ℕ → List ℕ → Type 0
+IsThat bytes area = area ≡ bytes
 
 -- a gate stands there, and is 0
 abbrev pub begins_shut : List ℕ → Bool

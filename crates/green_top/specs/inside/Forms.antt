@@ -1,5 +1,5 @@
 -- The forms of the program's words.
-use Rattle.std.specs.Prelude.{◌≡◌, ℕ, List}
+use Rattle.std.specs.Prelude.{◌≡◌, ℕ, List, []}
 use Rattle.febe_data.specs.LimitsView.{LimitsView, standard_limits}
 use Rattle.green_top.specs.declared.words.Form.{Form}
 use Rattle.green_top.specs.declared.words.Form.TheVariants as forms
@@ -9,6 +9,7 @@ use Rattle.green_top.specs.declared.session_end.SessionEnd.{SessionEnd}
 use Rattle.green_top.specs.GeneratedRun.{IsGeneratedRun}
 use Rattle.green_top.specs.IoState.{IoState}
 use Rattle.green_top.specs.Outcome.{IsRun}
+use Rattle.green_top.specs.Times.{RunStep, AreTends}
 use Rattle.green_top.specs.Words.{AreWords, AreGenerateWords}
 
 -- the limits of a run of this form
@@ -30,3 +31,8 @@ IsFormRun (forms.Generate start) session before after history exchanges points b
 abbrev pub IsGenerated : Form → Type 0
 IsGenerated (forms.Session limits) = ⊥
 IsGenerated (forms.Generate start) = Unit {0}
+
+-- what is done behind the session: nothing; or, behind one that was generated, trees and pages are put right
+abbrev pub IsBehind : Form → List RunStep → Type 0
+IsBehind (forms.Session limits) steps = steps ≡ []
+IsBehind (forms.Generate start) steps = AreTends steps

@@ -1,11 +1,12 @@
 -- How a session is played, whoever plays it: on a history to which other sessions may add between its own steps.
-use Rattle.std.specs.Prelude.{◌≡◌, ◌≢◌, ◌⊎◌, ℕ, ◌+◌, ◌^◌, ◌<◌, Bool, true, false, List, [], ◌∷◌, ◌++◌, length}
+use Rattle.std.specs.Prelude.{◌≡◌, ◌≢◌, ◌⊎◌, ℕ, ◌+◌, ◌^◌, ◌<◌, Bool, true, false, List, [], ◌∷◌, ◌++◌, length, Option, None, Some}
 use Rattle.febe_data.specs.LimitsView.{LimitsView}
 use Rattle.febe_data.specs.Plain.{PlainRequest, PlainReply, PlainEntry}
 use Rattle.world_rules.specs.History.{is_live, entries_of}
 use Rattle.world_rules.specs.Legal.{IsLegal, Exchange}
 use Rattle.green_store.specs.Sessions.{greatest_session, begin_entry, end_entry}
 use Rattle.green_top.specs.Ends.{AllNumbersTaken}
+use Rattle.green_top.specs.Times.{Coming}
 use Rattle.green_top.specs.declared.plays.Beginning.{Beginning}
 use Rattle.green_top.specs.declared.plays.Beginning.TheVariants as beginnings
 
@@ -33,9 +34,9 @@ pub record EndsAt (session : ℕ) (seen after : List PlainEntry) : Type 0 where
   pub others : IsOthers session past
   pub grows : after ≡ (seen ++ past) ++ end_entry (seen ++ past) session ∷ []
 
-module _ {F S : Type 0} (Tells : F → S → Exchange → F → S → Type 0) where
+module _ {F S : Type 0} (Tells : F → S → Coming → Exchange → F → S → Coming → Type 0) where
   -- A request of the session had this reply, by a legal step behind what others had added, and this is told of its exchange.
-  pub record HasReplied (limits : LimitsView) (session : ℕ) (seen : List PlainEntry) (first : F) (second : S) (request : PlainRequest) (reply : PlainReply) (point : ℕ) (after : List PlainEntry) (first' : F) (second' : S) : Type 0 where
+  pub record HasReplied (limits : LimitsView) (session : ℕ) (seen : List PlainEntry) (first : F) (second : S) (coming : Coming) (request : PlainRequest) (reply : PlainReply) (point : ℕ) (after : List PlainEntry) (first' : F) (second' : S) (coming' : Coming) : Type 0 where
     pub past : List PlainEntry
     pub added : List PlainEntry
     pub rose : Bool
@@ -43,51 +44,75 @@ module _ {F S : Type 0} (Tells : F → S → Exchange → F → S → Type 0) wh
     pub legal : IsLegal limits session (seen ++ past) request reply added rose
     pub grows : after ≡ (seen ++ past) ++ added
     pub point_is : point ≡ length after
-    pub told : Tells first second (record { request = request; reply = reply; point = point; added = added; rose = rose }) first' second'
+    pub told : Tells first second coming (record { request = request; reply = reply; point = point; added = added; rose = rose }) first' second' coming'
 
--- From the first and the second to others lead these exchanges, of each of which its step tells, and between them what
--- else was done.
-pub data Chain {F S : Type 0} (Tells : F → S → Exchange → F → S → Type 0) (Tended : F → S → F → S → Type 0) (first : F) (second : S) : List Exchange → F → S → Type 0 where
-  nothing : (exchanges : List Exchange) (first' : F) (second' : S) → exchanges ≡ [] → first' ≡ first → second' ≡ second → Chain Tells Tended first second exchanges first' second'
-  asked : (exchanges before : List Exchange) (exchange : Exchange) (between : F) (between' : S) (first' : F) (second' : S) → exchanges ≡ before ++ exchange ∷ [] → Chain Tells Tended first second before between between'
-      → Tells between between' exchange first' second' → Chain Tells Tended first second exchanges first' second'
-  tended : (exchanges : List Exchange) (between : F) (between' : S) (first' : F) (second' : S) → Chain Tells Tended first second exchanges between between' → Tended between between' first' second'
-      → Chain Tells Tended first second exchanges first' second'
+-- From the first, the second and what a clock was to give lead to others these exchanges, each of which its step tells, and
+-- behind each of them what is then done: it is done behind the last one too where the flag is true.
+pub data Chain {F S : Type 0} (Tells : F → S → Coming → Exchange → F → S → Coming → Type 0) (Tended : F → S → Coming → F → S → Coming → Type 0) (first : F) (second : S) (coming : Coming) : List Exchange → Bool → F → S → Coming → Type 0 where
+  nothing : (exchanges : List Exchange) (done : Bool) (first' : F) (second' : S) (coming' : Coming) → exchanges ≡ [] → done ≡ true → first' ≡ first → second' ≡ second → coming' ≡ coming
+      → Chain Tells Tended first second coming exchanges done first' second' coming'
+  asked : (exchanges before : List Exchange) (exchange : Exchange) (done : Bool) (between : F) (between' : S) (coming_between : Coming) (first' : F) (second' : S) (coming' : Coming) → exchanges ≡ before ++ exchange ∷ [] → done ≡ false
+      → Chain Tells Tended first second coming before true between between' coming_between → Tells between between' coming_between exchange first' second' coming' → Chain Tells Tended first second coming exchanges done first' second' coming'
+  tended : (exchanges : List Exchange) (done : Bool) (between : F) (between' : S) (coming_between : Coming) (first' : F) (second' : S) (coming' : Coming) → done ≡ true → Chain Tells Tended first second coming exchanges false between between' coming_between
+      → Tended between between' coming_between first' second' coming' → Chain Tells Tended first second coming exchanges done first' second' coming'
 
-module _ {F S : Type 0} (seen : F → S → List PlainEntry) (number : F → ℕ) (Begun : F → S → F → S → Type 0) (Tells : F → S → Exchange → F → S → Type 0) (Tended Ended : F → S → F → S → Type 0) where
+module _ {F S : Type 0} (Tells : F → S → Coming → Exchange → F → S → Coming → Type 0) where
+  -- nothing was asked; or one request was, in this exchange
+  abbrev pub AsksOnce : F → S → Coming → List Exchange → F → S → Coming → Type 0
+  AsksOnce first second coming exchanges first' second' coming' =
+      ((exchanges ≡ []) × (first' ≡ first) × (second' ≡ second) × (coming' ≡ coming))
+      ⊎ ((exchange : Exchange) × (exchanges ≡ exchange ∷ []) × Tells first second coming exchange first' second' coming')
+
+module _ {F S : Type 0} (Tells : F → S → Coming → Exchange → F → S → Coming → Type 0) (Tended : F → S → Coming → F → S → Coming → Type 0) where
+  -- such a chain leads there, whether all is done behind the last exchange or not
+  abbrev pub Leads : F → S → Coming → List Exchange → F → S → Coming → Type 0
+  Leads first second coming exchanges first' second' coming' = (done : Bool) × Chain Tells Tended first second coming exchanges done first' second' coming'
+
+  -- and where nothing ends the conversation, all is done
+  abbrev pub LeadsOn : {T : Type 0} → Option T → F → S → Coming → List Exchange → F → S → Coming → Type 0
+  LeadsOn None first second coming exchanges first' second' coming' = Chain Tells Tended first second coming exchanges true first' second' coming'
+  LeadsOn (Some closing) first second coming exchanges first' second' coming' = Leads first second coming exchanges first' second' coming'
+
+module _ {F S : Type 0} (seen : F → S → List PlainEntry) (number : F → ℕ) (Begun : F → S → Coming → F → S → Coming → Type 0) (Tells : F → S → Coming → Exchange → F → S → Coming → Type 0) (Tended Ended : F → S → Coming → F → S → Coming → Type 0) where
   -- Where the session was still live, it was ended; else nothing more was done.
-  abbrev pub IsLast : F → S → F → S → Type 0
-  IsLast first second first' second' =
-      ((is_live (seen first second) (number first) ≡ true) × Ended first second first' second')
-      ⊎ ((is_live (seen first second) (number first) ≡ false) × (first' ≡ first) × (second' ≡ second))
+  abbrev pub IsLast : F → S → Coming → F → S → Coming → Type 0
+  IsLast first second coming first' second' coming' =
+      ((is_live (seen first second) (number first) ≡ true) × Ended first second coming first' second' coming')
+      ⊎ ((is_live (seen first second) (number first) ≡ false) × (first' ≡ first) × (second' ≡ second) × (coming' ≡ coming))
 
   -- a session was played: it began, these exchanges followed, and it was ended where it was still live
-  pub record IsSat (first : F) (second : S) (exchanges : List Exchange) (first' : F) (second' : S) : Type 0 where
+  pub record IsSat (first : F) (second : S) (coming : Coming) (exchanges : List Exchange) (first' : F) (second' : S) (coming' : Coming) : Type 0 where
     pub begun : F
     pub begun' : S
+    pub coming_begun : Coming
     pub left : F
     pub left' : S
-    pub begins : Begun first second begun begun'
+    pub coming_left : Coming
+    pub done : Bool
+    pub begins : Begun first second coming begun begun' coming_begun
     pub numbered : number begun ≢ 0
-    pub chain : Chain Tells Tended begun begun' exchanges left left'
-    pub last : IsLast left left' first' second'
+    pub chain : Chain Tells Tended begun begun' coming_begun exchanges done left left' coming_left
+    pub last : IsLast left left' coming_left first' second' coming'
 
   -- a Begin was made, and no session came of it
-  pub record DidNotBegin (first : F) (second : S) (exchanges : List Exchange) (first' : F) (second' : S) : Type 0 where
+  pub record DidNotBegin (first : F) (second : S) (coming : Coming) (exchanges : List Exchange) (first' : F) (second' : S) (coming' : Coming) : Type 0 where
     pub none_answered : exchanges ≡ []
     pub unnumbered : number first' ≡ 0
-    pub begins : Begun first second first' second'
+    pub begins : Begun first second coming first' second' coming'
 
-  -- no Begin was made, and nothing else
-  pub record IsUntouched (first : F) (second : S) (exchanges : List Exchange) (first' : F) (second' : S) : Type 0 where
+  -- no Begin was made, and nothing else: the clock was not asked
+  pub record IsUntouched (first : F) (second : S) (coming : Coming) (exchanges : List Exchange) (first' : F) (second' : S) (coming' : Coming) : Type 0 where
     pub none_answered : exchanges ≡ []
     pub first_stays : first' ≡ first
     pub second_stays : second' ≡ second
+    pub coming_stays : coming' ≡ coming
 
   -- what was done of a session once it was greeted
-  abbrev pub HasSat : F → S → List Exchange → F → S → Type 0
-  HasSat first second exchanges first' second' = DidNotBegin first second exchanges first' second' ⊎ IsSat first second exchanges first' second'
+  abbrev pub HasSat : F → S → Coming → List Exchange → F → S → Coming → Type 0
+  HasSat first second coming exchanges first' second' coming' =
+      DidNotBegin first second coming exchanges first' second' coming' ⊎ IsSat first second coming exchanges first' second' coming'
 
   -- and in all
-  abbrev pub HasServed : F → S → List Exchange → F → S → Type 0
-  HasServed first second exchanges first' second' = IsUntouched first second exchanges first' second' ⊎ HasSat first second exchanges first' second'
+  abbrev pub HasServed : F → S → Coming → List Exchange → F → S → Coming → Type 0
+  HasServed first second coming exchanges first' second' coming' =
+      IsUntouched first second coming exchanges first' second' coming' ⊎ HasSat first second coming exchanges first' second' coming'

@@ -1,4 +1,4 @@
-use Rattle.edit_log.proofs.Readings.{one_reading}
+use Rattle.edit_log.proofs.Formats.{one_reading}
 use Rattle.edit_log.proofs.laws.one_reading.Goals as goal
 
 pub returns : goal.returns

@@ -2,4 +2,4 @@ use Rattle.edit_log.proofs.Wholes.{shut_whole}
 use Rattle.edit_log.proofs.laws.open_is_whole.Goals as goal
 
 pub returns : goal.returns
-returns g c entries are opened image is = shut_whole entries image.log are (opened.images.each image is)
+returns g c rows are opened image is = shut_whole rows image are (opened.images.each image is)

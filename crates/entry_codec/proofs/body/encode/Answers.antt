@@ -1,7 +1,9 @@
-use Rattle.std.proofs.Common.{arith}
 use Rattle.febe_data.specs.Plain.{plain_entry}
-use Rattle.entry_codec.proofs.Lengths.{entry_short}
+use Rattle.entry_codec.specs.Logged.{made_at_moment}
+use Rattle.entry_codec.proofs.Written.{whole_body}
 use Rattle.entry_codec.proofs.body.encode.Goals as goal
 
-pub overflow_cast-len : goal.overflow_cast-len
-overflow_cast-len c = rw (c.len.ensures, c.in_ok-bytes.ensures) (omega (arith, entry_short (plain_entry c.args.entry.now) c.requires))
+pub returns : goal.returns
+returns c =
+    whole_body (made_at_moment (plain_entry c.args.entry.now) c.args.moment) c.rest_size-rest.result c.in_ok-body.body.items c.append_u64.new.out.items c.append_logged.new.out.items
+    (c.rest_size-rest.ensures.is c.args.moment) c.in_ok-body.ensures c.in_ok-append_u64.ensures c.in_ok-append_logged.ensures

@@ -3,13 +3,13 @@ use Rattle.febe_wire.specs.Sessions.{IsInputOf}
 use Rattle.session_generator.specs.Generated.{generated_requests}
 use Rattle.green_top.specs.declared.session_end.SessionEnd.{SessionEnd}
 use Rattle.green_top.specs.inside.Summing.{IsInnerRun}
-use Rattle.green_top.proofs.Endurings.{endures_nothing}
+use Rattle.green_top.proofs.Endurings.{runs_not}
 use Rattle.green_top.proofs.Generateds.{can_end, inner_run}
 use Rattle.green_top.proofs.generate.serve_input.Goals as goal
 
 pub returns-in_default : goal.returns-in_default
 returns-in_default g c = record {
-  run = ([], inl (record { unnumbered = c.requires.unnumbered; none_answered = refl; no_points = c.new-points.ensures.items; nothing = refl }), inl (c.requires.unnumbered, refl), endures_nothing _ _ _ _ _);
+  run = ([], inl (record { unnumbered = c.requires.unnumbered; none_answered = refl; no_points = c.new-points.ensures.items; nothing = refl }), inl (c.requires.unnumbered, refl), runs_not _ _ _ _ _ _ _ c.requires.unnumbered);
 }
 
 pub outcome_of-outcome-requires : goal.outcome_of-outcome-requires

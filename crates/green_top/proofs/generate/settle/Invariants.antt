@@ -1,11 +1,10 @@
-use Rattle.std.proofs.Common.{◌≡◌, ℕ, []}
-use Rattle.febe_data.specs.LimitsView.{LimitsView}
-use Rattle.green_top.specs.inside.Enduring.{Endures}
+use Rattle.std.proofs.Common.{◌≡◌}
+use Rattle.green_top.specs.inside.Enduring.{Settles}
 use Rattle.green_top.proofs.generate.settle.Given as goal
 
 abbrev pub invariant-loop : goal.invariant-loop
 invariant-loop g l = record {
   number : l.serves.session ≡ l.fn.serves.session;
   history : l.serves.store.history ≡ l.fn.serves.store.history;
-  endures : (limits : LimitsView) (session : ℕ) → Endures limits session [] (g.D.Disk.state l.fn.disk) l.fn.serves.store (g.D.Disk.fault_count l.fn.disk) (g.D.Disk.state l.disk) l.serves.store (g.D.Disk.fault_count l.disk);
+  settles : Settles (g.C.Clock.coming l.fn.clock) (g.C.Clock.coming l.clock) (g.D.Disk.state l.fn.disk) l.fn.serves.store (g.D.Disk.fault_count l.fn.disk) (g.D.Disk.state l.disk) l.serves.store (g.D.Disk.fault_count l.disk);
 }

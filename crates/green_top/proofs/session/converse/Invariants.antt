@@ -1,4 +1,4 @@
-use Rattle.std.specs.Prelude.{◌≡◌, ◌+◌, ◌-◌, List, length}
+use Rattle.std.specs.Prelude.{◌≡◌, ◌+◌, ◌-◌, true, List, length}
 use Rattle.world_rules.specs.Legal.{Exchange}
 use Rattle.green_top.specs.Ends.{most_input}
 use Rattle.green_top.specs.inside.Conversation.{state_by, IsConversing}
@@ -14,7 +14,7 @@ invariant-loop-closing g l = record {
       × IsConversing (g.P.PlaySession.limits l.fn.first) (g.P.PlaySession.number l.fn.first)
       (state_by g.P.PlaySession.seen g.P.PlaySession.faults g.S.Source.left g.S.Source.fault_count g.K.Sink.taken g.K.Sink.fault_count l.fn.first l.fn.second l.fn.source l.fn.sink l.fn.talk)
       (state_by g.P.PlaySession.seen g.P.PlaySession.faults g.S.Source.left g.S.Source.fault_count g.K.Sink.taken g.K.Sink.fault_count l.first l.second l.source l.sink l.talk) exchanges
-      × Chain g.P.PlaySession.tells g.P.PlaySession.tended l.fn.first l.fn.second exchanges l.first l.second;
+      × Chain g.P.PlaySession.tells g.P.PlaySession.tended l.fn.first l.fn.second (g.C.Clock.coming l.fn.clock) exchanges true l.first l.second (g.C.Clock.coming l.clock);
 }
 
 abbrev pub decreases-loop-closing : goal.decreases-loop-closing

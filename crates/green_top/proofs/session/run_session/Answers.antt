@@ -48,12 +48,15 @@ returns-then-over-clause-session g c =
       inr (record {
         begun = c.begin.new.first;
         begun' = c.begin.new.second;
+        coming_begun = g.C.Clock.coming c.begin.new.clock;
         left = c.converse-end.new.first;
         left' = c.converse-end.new.second;
+        coming_left = g.C.Clock.coming c.converse-end.new.clock;
+        done = conv.conversed.2.0;
         begins = begun.begun;
         numbered = is_numbered _ _ _ begun.begins;
-        chain = conv.conversed.2;
-        last = inr (conv.live ∙ dead, refl, refl);
+        chain = conv.conversed.2.1;
+        last = inr (conv.live ∙ dead, refl, refl, refl);
       }),
     )
 
@@ -73,11 +76,14 @@ returns-clause-session g c =
       inr (record {
         begun = c.begin.new.first;
         begun' = c.begin.new.second;
+        coming_begun = g.C.Clock.coming c.begin.new.clock;
         left = c.converse-end.new.first;
         left' = c.converse-end.new.second;
+        coming_left = g.C.Clock.coming c.converse-end.new.clock;
+        done = conv.conversed.2.0;
         begins = begun.begun;
         numbered = is_numbered _ _ _ begun.begins;
-        chain = conv.conversed.2;
+        chain = conv.conversed.2.1;
         last = inl (conv.live ∙ alive, c.end.ensures.ended);
       }),
     )

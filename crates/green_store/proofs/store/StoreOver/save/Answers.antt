@@ -1,8 +1,8 @@
 -- A save of all trees, over a store whose trees stand for its history.
-use Rattle.std.proofs.Common.{◌≡◌, ◌≤◌, ◌∙◌, inl, inr, ℕ, List, Option, length, ap, refl, sym, subst, true, arith}
+use Rattle.std.proofs.Common.{◌≡◌, ◌≤◌, ◌∙◌, ℕ, Option, length, ap, refl, sym, subst, true, arith}
 use Rattle.std.specs.Prelude.{IsTrue, nat_le}
 use Rattle.std.proofs.lemmas.Bool.Decides.{nat_tests}
-use Rattle.febe_data.specs.Plain.{PlainEntry, plain_history}
+use Rattle.febe_data.specs.Plain.{plain_history}
 use Rattle.green_io.specs.Outside.{HasRisen}
 use Rattle.green_io.specs.Disk.{LeavesOnly}
 use Rattle.world_rules.specs.FlatView.{view_of}
@@ -14,7 +14,7 @@ use Rattle.green_flush.specs.Standing.{trees_at}
 use Rattle.paged_world.specs.Standing.{StandFor}
 use Rattle.green_store.specs.declared.step.StepAnswer.TheVariants as answers
 use Rattle.green_store.specs.Durable.{has_risen}
-use Rattle.green_store.specs.Paged.{IsPaged, HasPages, MayLoad, EachLoadsFor}
+use Rattle.green_store.specs.Paged.{IsPaged, HasPages, MayLoad}
 use Rattle.green_store.specs.StoreView.{StoreView}
 use Rattle.green_store.proofs.Paging.{save_leaves, save_keeps, save_loads, saved_load, saved_paged, stopped_paged}
 use Rattle.green_store.proofs.Saving.{made, stopped, put_off}
@@ -31,6 +31,7 @@ save-requires g c =
 abbrev inside : (g : given.Over) → After-save g → StoreView
 inside g c = record {
   history = plain_history c.self.inside.history.items;
+  moments = c.self.inside.moments.items;
   limits = c.self.inside.limits;
   log = c.self.inside.log;
   trees = g.W.Rebalance.condition c.self.inside.world;
@@ -86,6 +87,7 @@ invariant_of-self g c = record {
   greatest_is = c.self.invariant.greatest_is;
   room_kept = c.self.invariant.room_kept;
   regular = c.self.invariant.regular;
+  timed_all = c.self.invariant.timed_all;
   entries = c.self.invariant.entries;
   saved = omega (arith, counted g (goal.at.invariant_of-self g c).After-save);
 }
@@ -94,12 +96,12 @@ pub returns-in-Ok-clause-step : goal.returns-in-Ok-clause-step
 returns-in-Ok-clause-step g c = let here = (goal.at.returns-in-Ok-clause-step g c).After-save in made (inside g here) c.args.self.now c.self.view_is c.requires c.save.new.flush c.counted-kept.result (counted g here)
 
 pub returns-in-Ok-clause-any_moment : goal.returns-in-Ok-clause-any_moment
-returns-in-Ok-clause-any_moment g c pending has = save_leaves (g.D.Disk.state c.args.disk.now) (g.D.Disk.state c.save.new.disk) c.args.self.now pending c.save.ensures.others (c.images_are_kept.ensures pending has)
+returns-in-Ok-clause-any_moment g c moment pending has = save_leaves (g.D.Disk.state c.args.disk.now) (g.D.Disk.state c.save.new.disk) c.args.self.now pending moment c.save.ensures.others (c.images_are_kept.ensures pending has)
 
 pub returns-in-Ok-clause-keeps : goal.returns-in-Ok-clause-keeps
-returns-in-Ok-clause-keeps g c pending has =
+returns-in-Ok-clause-keeps g c moment pending has =
     let here = (goal.at.returns-in-Ok-clause-keeps g c).After-save in
-    save_keeps (g.D.Disk.state c.args.disk.now) (g.D.Disk.state c.save.new.disk) c.args.self.now (done g here) answers.Flushed pending (g.met.D.Disk.is_disk c.save.new.disk) c.save.ensures.others (none_kept g here) (ap (λ (v : StoreView). v.log) c.self.view_is) has
+    save_keeps (g.D.Disk.state c.args.disk.now) (g.D.Disk.state c.save.new.disk) c.args.self.now pending moment (done g here) answers.Flushed (g.met.D.Disk.is_disk c.save.new.disk) c.save.ensures.others (none_kept g here) (ap (λ (v : StoreView). v.moments) c.self.view_is) (ap (λ (v : StoreView). v.log) c.self.view_is) has
 
 pub returns-in-Ok-clause-pages : goal.returns-in-Ok-clause-pages
 returns-in-Ok-clause-pages g c has =
@@ -125,12 +127,12 @@ returns-in-Err-Disk-clause-step g c =
     stopped (inside g here) c.args.self.now c.self.view_is c.requires c.save.new.flush _ (risen (g.D.Disk.fault_count c.args.disk.now) (g.D.Disk.fault_count c.save.new.disk) (rw c.in-Err-Disk.field-0-is at c.in-Err-Disk.ensures.failed))
 
 pub returns-in-Err-Disk-clause-any_moment : goal.returns-in-Err-Disk-clause-any_moment
-returns-in-Err-Disk-clause-any_moment g c pending has = save_leaves (g.D.Disk.state c.args.disk.now) (g.D.Disk.state c.save.new.disk) c.args.self.now pending c.save.ensures.others (c.images_are_kept.ensures pending has)
+returns-in-Err-Disk-clause-any_moment g c moment pending has = save_leaves (g.D.Disk.state c.args.disk.now) (g.D.Disk.state c.save.new.disk) c.args.self.now pending moment c.save.ensures.others (c.images_are_kept.ensures pending has)
 
 pub returns-in-Err-Disk-clause-keeps : goal.returns-in-Err-Disk-clause-keeps
-returns-in-Err-Disk-clause-keeps g c pending has =
+returns-in-Err-Disk-clause-keeps g c moment pending has =
     let here = (goal.at.returns-in-Err-Disk-clause-keeps g c).After-save in
-    save_keeps (g.D.Disk.state c.args.disk.now) (g.D.Disk.state c.save.new.disk) c.args.self.now (failed g here) answers.Disk pending (g.met.D.Disk.is_disk c.save.new.disk) c.save.ensures.others (none_kept g here) (ap (λ (v : StoreView). v.log) c.self.view_is) has
+    save_keeps (g.D.Disk.state c.args.disk.now) (g.D.Disk.state c.save.new.disk) c.args.self.now pending moment (failed g here) answers.Disk (g.met.D.Disk.is_disk c.save.new.disk) c.save.ensures.others (none_kept g here) (ap (λ (v : StoreView). v.moments) c.self.view_is) (ap (λ (v : StoreView). v.log) c.self.view_is) has
 
 pub returns-in-Err-Disk-clause-pages : goal.returns-in-Err-Disk-clause-pages
 returns-in-Err-Disk-clause-pages g c has =
@@ -148,12 +150,12 @@ pub returns-in-Err-Memory-clause-step : goal.returns-in-Err-Memory-clause-step
 returns-in-Err-Memory-clause-step g c = put_off (inside g (goal.at.returns-in-Err-Memory-clause-step g c).After-save) c.args.self.now c.self.view_is c.requires c.save.new.flush
 
 pub returns-in-Err-Memory-clause-any_moment : goal.returns-in-Err-Memory-clause-any_moment
-returns-in-Err-Memory-clause-any_moment g c pending has = save_leaves (g.D.Disk.state c.args.disk.now) (g.D.Disk.state c.save.new.disk) c.args.self.now pending c.save.ensures.others (c.images_are_kept.ensures pending has)
+returns-in-Err-Memory-clause-any_moment g c moment pending has = save_leaves (g.D.Disk.state c.args.disk.now) (g.D.Disk.state c.save.new.disk) c.args.self.now pending moment c.save.ensures.others (c.images_are_kept.ensures pending has)
 
 pub returns-in-Err-Memory-clause-keeps : goal.returns-in-Err-Memory-clause-keeps
-returns-in-Err-Memory-clause-keeps g c pending has =
+returns-in-Err-Memory-clause-keeps g c moment pending has =
     let here = (goal.at.returns-in-Err-Memory-clause-keeps g c).After-save in
-    save_keeps (g.D.Disk.state c.args.disk.now) (g.D.Disk.state c.save.new.disk) c.args.self.now (failed g here) answers.Memory pending (g.met.D.Disk.is_disk c.save.new.disk) c.save.ensures.others (none_kept g here) (ap (λ (v : StoreView). v.log) c.self.view_is) has
+    save_keeps (g.D.Disk.state c.args.disk.now) (g.D.Disk.state c.save.new.disk) c.args.self.now pending moment (failed g here) answers.Memory (g.met.D.Disk.is_disk c.save.new.disk) c.save.ensures.others (none_kept g here) (ap (λ (v : StoreView). v.moments) c.self.view_is) (ap (λ (v : StoreView). v.log) c.self.view_is) has
 
 pub returns-in-Err-Memory-clause-pages : goal.returns-in-Err-Memory-clause-pages
 returns-in-Err-Memory-clause-pages g c has =

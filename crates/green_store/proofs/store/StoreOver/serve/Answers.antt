@@ -1,4 +1,4 @@
-use Rattle.std.proofs.Common.{◌≡◌, ◌∙◌, true, length, ap, sym, subst}
+use Rattle.std.proofs.Common.{◌≡◌, ◌∙◌, true, length, ap, refl, sym, subst}
 use Rattle.febe_data.specs.LimitsView.{LimitsView, AreLimits}
 use Rattle.febe_data.specs.Plain.{plain_request, plain_history, plain_change}
 use Rattle.world_rules.specs.Apply.{world_of}
@@ -13,6 +13,7 @@ use Rattle.green_store.specs.StoreView.{StoreView}
 use Rattle.green_store.proofs.Accepting.{may_be_kept}
 use Rattle.green_store.proofs.Edits.{made_keeps, edit_leaves, kept_keeps}
 use Rattle.green_store.proofs.Legals.{refused_here, answered_here, changed_here, allowed_here, effect_here, edit_here, kept_here}
+use Rattle.green_store.proofs.Moments.{none_comes, made_timed}
 use Rattle.green_store.proofs.Unkept.{made_trees, made_nodes, made_pages}
 use Rattle.green_store.proofs.Paging.{same_grown}
 use Rattle.green_store.proofs.store.StoreOver.serve.Given as given
@@ -59,6 +60,12 @@ returns-in-Refused-clause-steps g c =
     let served = rw c.in-Refused.is at (c.in_ok-refusal.ensures.served view c.self.invariant.world_stands) in
     refused_here c.args.self.now c.self.inside.limits view c.args.session (plain_request c.args.request.now) (has_risen faults faults) c.requires.live (limits_are g here) (world_is g here) c.in-Refused.refusal served
 
+pub returns-in-Refused-clause-moments : goal.returns-in-Refused-clause-moments
+returns-in-Refused-clause-moments g c = none_comes c.args.self.now c.args.self.now c.args.moment refl refl
+
+pub returns-in-Answered-clause-moments : goal.returns-in-Answered-clause-moments
+returns-in-Answered-clause-moments g c = none_comes c.args.self.now c.args.self.now c.args.moment refl refl
+
 pub returns-in-Answered-clause-steps : goal.returns-in-Answered-clause-steps
 returns-in-Answered-clause-steps g c =
     let here = (goal.at.returns-in-Answered-clause-steps g c).In_ok-refusal in
@@ -88,13 +95,13 @@ edit_is g c =
 
 pub returns-in-Changed-clause-any_moment : goal.returns-in-Changed-clause-any_moment
 returns-in-Changed-clause-any_moment g c pending has =
-    edit_leaves c.args.self.now c.make_kept.new.self (g.D.Disk.state c.args.disk.now) (g.D.Disk.state c.make_kept.new.disk) pending c.args.session (plain_request c.args.request.now)
+    edit_leaves c.args.self.now c.make_kept.new.self (g.D.Disk.state c.args.disk.now) (g.D.Disk.state c.make_kept.new.disk) pending c.args.moment c.args.session (plain_request c.args.request.now)
     (entry_after c.args.self.now.history c.args.session (plain_effect c.in-Changed.made)) (edit_is g (goal.at.returns-in-Changed-clause-any_moment g c).After-make_kept) (c.make_kept.ensures.any_moment pending has)
 
 pub returns-in-Changed-clause-keeps : goal.returns-in-Changed-clause-keeps
 returns-in-Changed-clause-keeps g c pending has =
-    kept_keeps c.args.self.now c.make_kept.new.self (g.D.Disk.state c.args.disk.now) (g.D.Disk.state c.make_kept.new.disk) pending c.args.session (plain_request c.args.request.now) c.make_kept.result
-    (entry_after c.args.self.now.history c.args.session (plain_effect c.in-Changed.made)) (edit_is g (goal.at.returns-in-Changed-clause-keeps g c).After-make_kept) (c.make_kept.ensures.keeps pending has)
+    kept_keeps c.args.self.now c.make_kept.new.self (g.D.Disk.state c.args.disk.now) (g.D.Disk.state c.make_kept.new.disk) pending c.args.moment c.args.session (plain_request c.args.request.now)
+    (entry_after c.args.self.now.history c.args.session (plain_effect c.in-Changed.made)) (edit_is g (goal.at.returns-in-Changed-clause-keeps g c).After-make_kept) c.make_kept.result (c.make_kept.ensures.keeps pending has)
 
 pub returns-in-Changed-2-clause-steps : goal.returns-in-Changed-2-clause-steps
 returns-in-Changed-2-clause-steps g c =
@@ -107,8 +114,12 @@ returns-in-Changed-2-clause-steps g c =
 
 pub returns-in-Changed-2-clause-keeps : goal.returns-in-Changed-2-clause-keeps
 returns-in-Changed-2-clause-keeps g c pending has =
-    made_keeps c.args.self.now c.make.new.self (g.D.Disk.state c.args.disk.now) (g.D.Disk.state c.args.disk.now) pending c.args.session (plain_request c.args.request.now) c.make.result
+    made_keeps c.args.self.now c.make.new.self (g.D.Disk.state c.args.disk.now) (g.D.Disk.state c.args.disk.now) pending c.args.moment c.args.session (plain_request c.args.request.now) c.make.result
     (entry_after c.args.self.now.history c.args.session (plain_effect c.in-Changed.made)) (sym c.is_durable.ensures ∙ c.if-is_durable.false) c.make.ensures.ok has
+
+pub returns-in-Changed-2-clause-moments : goal.returns-in-Changed-2-clause-moments
+returns-in-Changed-2-clause-moments g c =
+    made_timed c.args.self.now c.make.new.self c.make.result (entry_after c.args.self.now.history c.args.session (plain_effect c.in-Changed.made)) c.args.moment (sym c.is_durable.ensures ∙ c.if-is_durable.false) c.make.ensures.ok
 
 pub returns-in-Changed-2-clause-trees : goal.returns-in-Changed-2-clause-trees
 returns-in-Changed-2-clause-trees g c same =

@@ -1,13 +1,15 @@
 use Rattle.std.proofs.Common.{true, sym, subst}
+use Rattle.green_io.specs.Disk.{LeavesOnly}
 use Rattle.green_store.specs.declared.step.Step.{Step}
 use Rattle.green_store.specs.declared.step.Step.TheVariants as steps
-use Rattle.green_store.specs.Durable.{has_risen, IsDurableEntryOf, IsRefusedForDisk}
+use Rattle.green_store.specs.Durable.{has_risen, HoldsStep, IsDurableRowOf, IsRefusedForDisk}
 use Rattle.world_rules.specs.History.{durable_entries}
 use Rattle.green_store.specs.Isolated.{IsolatesStep}
 use Rattle.green_store.proofs.Edits.{stays_kept}
 use Rattle.green_store.proofs.Isolations.{steps_isolate}
 use Rattle.green_store.proofs.Paging.{not_tended, not_flushed, flushed_stays, stay_paged, kept_paged, log_leaves, background_base}
-use Rattle.green_store.proofs.Quiet.{begin_is_quiet, end_is_quiet}
+use Rattle.green_store.proofs.Moments.{none_comes}
+use Rattle.green_store.proofs.Quiet.{begin_is_quiet, end_is_quiet, background_is_quiet}
 use Rattle.green_store.proofs.store.StoreOver.step.Goals as goal
 
 -- ---- a session begins
@@ -15,7 +17,12 @@ use Rattle.green_store.proofs.store.StoreOver.step.Goals as goal
 pub returns-in-Begin-clause-keeps : goal.returns-in-Begin-clause-keeps
 returns-in-Begin-clause-keeps g c pending has =
     let quiet = begin_is_quiet c.args.self.now c.begin.new.self c.begin.result true (c.begin.ensures.step true) in
-    stays_kept c.args.self.now c.begin.new.self (g.D.Disk.state c.args.disk.now) (λ entry. IsDurableEntryOf c.args.self.now c.args.step entry × IsRefusedForDisk c.begin.result) pending quiet.none_kept quiet.same_log has
+    stays_kept c.args.self.now c.begin.new.self (g.D.Disk.state c.args.disk.now) (λ row. IsDurableRowOf c.args.self.now c.args.moment c.args.step row × IsRefusedForDisk c.begin.result) pending quiet.none_kept quiet.moments_stay quiet.same_log has
+
+pub returns-in-Begin-clause-moments : goal.returns-in-Begin-clause-moments
+returns-in-Begin-clause-moments g c =
+    let quiet = begin_is_quiet c.args.self.now c.begin.new.self c.begin.result true (c.begin.ensures.step true) in
+    none_comes c.args.self.now c.begin.new.self c.args.moment quiet.none_kept quiet.moments_stay
 
 pub returns-in-Begin-clause-pages : goal.returns-in-Begin-clause-pages
 returns-in-Begin-clause-pages g c has =
@@ -61,7 +68,12 @@ returns-in-Ask-clause-flushed_stays g c =
 pub returns-in-End-clause-keeps : goal.returns-in-End-clause-keeps
 returns-in-End-clause-keeps g c pending has =
     let quiet = end_is_quiet c.args.self.now c.end.new.self c.in-End.session c.end.result true (c.end.ensures.step true) in
-    stays_kept c.args.self.now c.end.new.self (g.D.Disk.state c.args.disk.now) (λ entry. IsDurableEntryOf c.args.self.now c.args.step entry × IsRefusedForDisk c.end.result) pending quiet.none_kept quiet.same_log has
+    stays_kept c.args.self.now c.end.new.self (g.D.Disk.state c.args.disk.now) (λ row. IsDurableRowOf c.args.self.now c.args.moment c.args.step row × IsRefusedForDisk c.end.result) pending quiet.none_kept quiet.moments_stay quiet.same_log has
+
+pub returns-in-End-clause-moments : goal.returns-in-End-clause-moments
+returns-in-End-clause-moments g c =
+    let quiet = end_is_quiet c.args.self.now c.end.new.self c.in-End.session c.end.result true (c.end.ensures.step true) in
+    none_comes c.args.self.now c.end.new.self c.args.moment quiet.none_kept quiet.moments_stay
 
 pub returns-in-End-clause-pages : goal.returns-in-End-clause-pages
 returns-in-End-clause-pages g c has =
@@ -75,6 +87,15 @@ pub returns-in-End-clause-flushed_stays : goal.returns-in-End-clause-flushed_sta
 returns-in-End-clause-flushed_stays g c = flushed_stays c.args.self.now c.end.new.self (steps.End c.in-End.session) c.end.result true (c.end.ensures.step true)
 
 -- ---- trees and pages are put right
+
+pub returns-in-Background-clause-moments : goal.returns-in-Background-clause-moments
+returns-in-Background-clause-moments g c =
+    let quiet = background_is_quiet c.args.self.now c.tend.new.self c.tend.result (has_risen (g.D.Disk.fault_count c.args.disk.now) (g.D.Disk.fault_count c.tend.new.disk)) c.tend.ensures.step in
+    none_comes c.args.self.now c.tend.new.self c.args.moment quiet.none_kept quiet.moments_stay
+
+pub returns-in-Background-clause-any_moment : goal.returns-in-Background-clause-any_moment
+returns-in-Background-clause-any_moment g c pending has =
+    subst (λ (step : Step). LeavesOnly (g.D.Disk.state c.args.disk.now) (g.D.Disk.state c.tend.new.disk) (HoldsStep c.args.self.now pending c.args.moment step)) (sym c.in-Background.is) (c.tend.ensures.any_moment c.args.moment pending has)
 
 pub returns-in-Background-clause-base : goal.returns-in-Background-clause-base
 returns-in-Background-clause-base g c =

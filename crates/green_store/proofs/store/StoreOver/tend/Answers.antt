@@ -1,8 +1,6 @@
 -- First the balancer, then the pages, then nodes that no tree reaches.
-use Rattle.std.proofs.Common.{◌≡◌, ◌<◌, ◌≤◌, ◌∙◌, inl, ℕ, Bool, true, false, Option, Ok, ap, refl, sym, subst, arith}
-use Rattle.std.specs.Prelude.{nat_le}
-use Rattle.std.proofs.lemmas.Bool.Decides.{nat_tests}
-use Rattle.febe_data.specs.Plain.{PlainEntry}
+use Rattle.std.proofs.Common.{◌≡◌, ◌<◌, ◌≤◌, ◌∙◌, ℕ, true, false, Option, ap, sym, subst, arith}
+use Rattle.entry_codec.specs.Logged.{PlainLogged}
 use Rattle.green_io.specs.Disk.{LeavesOnly}
 use Rattle.green_io.proofs.Beside.{untouched_others}
 use Rattle.green_io.proofs.Crash.{none_called}
@@ -12,8 +10,8 @@ use Rattle.green_flush.specs.Loads.{TreesAt}
 use Rattle.green_store.specs.declared.step.Step.TheVariants as steps
 use Rattle.green_store.specs.declared.step.StepAnswer.TheVariants as answers
 use Rattle.green_store.specs.Durable.{has_risen, Keeps, HoldsStep, KeepsStep}
-use Rattle.green_store.specs.inside.{IsSpared, IsBalancing}
-use Rattle.green_store.specs.IsStep.{IsStep, MayFlush, IsBalanced, IsPutOff, OnFlushed, unsaved}
+use Rattle.green_store.specs.inside.{IsSpared}
+use Rattle.green_store.specs.IsStep.{IsStep, OnFlushed, unsaved}
 use Rattle.green_store.specs.Paged.{IsPaged, HasPages, EachLoadsFor, MayLoad}
 use Rattle.green_store.specs.StoreView.{StoreView}
 use Rattle.green_store.proofs.Paging.{background_limits, still_keeps, stay_paged, same_grown}
@@ -31,11 +29,11 @@ pub returns-in_default-clause-limits : goal.returns-in_default-clause-limits
 returns-in_default-clause-limits g c = ap (λ (v : StoreView). v.limits) c.in_default.ensures.1
 
 pub returns-in_default-clause-any_moment : goal.returns-in_default-clause-any_moment
-returns-in_default-clause-any_moment g c pending has = none_called (g.D.Disk.state c.args.disk.now) (HoldsStep c.args.self.now pending steps.Background)
+returns-in_default-clause-any_moment g c moment pending has = none_called (g.D.Disk.state c.args.disk.now) (HoldsStep c.args.self.now pending moment steps.Background)
 
 pub returns-in_default-clause-keeps : goal.returns-in_default-clause-keeps
-returns-in_default-clause-keeps g c pending has =
-    still_keeps (g.D.Disk.state c.args.disk.now) c.args.self.now c.balance.new.self answers.Memory true pending (not_balanced c.args.self.now c.balance.new.self c.in_default.ensures.0 c.in_default.ensures.1) has
+returns-in_default-clause-keeps g c moment pending has =
+    still_keeps (g.D.Disk.state c.args.disk.now) c.args.self.now c.balance.new.self answers.Memory true pending moment (not_balanced c.args.self.now c.balance.new.self c.in_default.ensures.0 c.in_default.ensures.1) has
 
 pub returns-in_default-clause-pages : goal.returns-in_default-clause-pages
 returns-in_default-clause-pages g c has =
@@ -57,11 +55,11 @@ pub returns-then-balanced-clause-limits : goal.returns-then-balanced-clause-limi
 returns-then-balanced-clause-limits g c = (balanced_so c.in-Ok.balanced c.args.self.now c.balance.new.self c.in-Ok.ensures c.if-balanced.true).still.limits
 
 pub returns-then-balanced-clause-any_moment : goal.returns-then-balanced-clause-any_moment
-returns-then-balanced-clause-any_moment g c pending has = none_called (g.D.Disk.state c.args.disk.now) (HoldsStep c.args.self.now pending steps.Background)
+returns-then-balanced-clause-any_moment g c moment pending has = none_called (g.D.Disk.state c.args.disk.now) (HoldsStep c.args.self.now pending moment steps.Background)
 
 pub returns-then-balanced-clause-keeps : goal.returns-then-balanced-clause-keeps
-returns-then-balanced-clause-keeps g c pending has =
-    still_keeps (g.D.Disk.state c.args.disk.now) c.args.self.now c.balance.new.self answers.Balanced true pending (balanced_so c.in-Ok.balanced c.args.self.now c.balance.new.self c.in-Ok.ensures c.if-balanced.true) has
+returns-then-balanced-clause-keeps g c moment pending has =
+    still_keeps (g.D.Disk.state c.args.disk.now) c.args.self.now c.balance.new.self answers.Balanced true pending moment (balanced_so c.in-Ok.balanced c.args.self.now c.balance.new.self c.in-Ok.ensures c.if-balanced.true) has
 
 pub returns-then-balanced-clause-pages : goal.returns-then-balanced-clause-pages
 returns-then-balanced-clause-pages g c has =
@@ -104,13 +102,13 @@ pub returns-then-may_flush-clause-any_moment : goal.returns-then-may_flush-claus
 returns-then-may_flush-clause-any_moment g c =
     let old = g.D.Disk.state c.args.disk.now in
     let new = g.D.Disk.state c.save.new.disk in
-    subst (λ (v : StoreView). (pending : Option PlainEntry) → Keeps old v pending → LeavesOnly old new (HoldsStep v pending steps.Background)) (same g (goal.at.returns-then-may_flush-clause-any_moment g c).After-may_flush) c.save.ensures.any_moment
+    subst (λ (v : StoreView). (moment : ℕ) (pending : Option PlainLogged) → Keeps old v pending → LeavesOnly old new (HoldsStep v pending moment steps.Background)) (same g (goal.at.returns-then-may_flush-clause-any_moment g c).After-may_flush) c.save.ensures.any_moment
 
 pub returns-then-may_flush-clause-keeps : goal.returns-then-may_flush-clause-keeps
 returns-then-may_flush-clause-keeps g c =
     let old = g.D.Disk.state c.args.disk.now in
     let new = g.D.Disk.state c.save.new.disk in
-    subst (λ (v : StoreView). (pending : Option PlainEntry) → Keeps old v pending → KeepsStep v pending steps.Background c.save.new.self c.save.result new) (same g (goal.at.returns-then-may_flush-clause-keeps g c).After-may_flush) c.save.ensures.keeps
+    subst (λ (v : StoreView). (moment : ℕ) (pending : Option PlainLogged) → Keeps old v pending → KeepsStep v pending moment steps.Background c.save.new.self c.save.result new) (same g (goal.at.returns-then-may_flush-clause-keeps g c).After-may_flush) c.save.ensures.keeps
 
 pub returns-then-may_flush-clause-pages : goal.returns-then-may_flush-clause-pages
 returns-then-may_flush-clause-pages g c =
@@ -154,12 +152,12 @@ returns-clause-limits g c =
     background_limits c.balance.new.self c.sweep.new.self c.sweep.result true (c.sweep.ensures true) ∙ ap (λ (v : StoreView). v.limits) (same g (goal.at.returns-clause-limits g c).After-may_flush)
 
 pub returns-clause-any_moment : goal.returns-clause-any_moment
-returns-clause-any_moment g c pending has = none_called (g.D.Disk.state c.args.disk.now) (HoldsStep c.args.self.now pending steps.Background)
+returns-clause-any_moment g c moment pending has = none_called (g.D.Disk.state c.args.disk.now) (HoldsStep c.args.self.now pending moment steps.Background)
 
 pub returns-clause-keeps : goal.returns-clause-keeps
-returns-clause-keeps g c pending has =
+returns-clause-keeps g c moment pending has =
     let is = same g (goal.at.returns-clause-keeps g c).After-may_flush in
-    still_keeps (g.D.Disk.state c.args.disk.now) c.args.self.now c.sweep.new.self c.sweep.result true pending (subst (λ (v : StoreView). IsStep v steps.Background c.sweep.new.self c.sweep.result true) is (c.sweep.ensures true)) has
+    still_keeps (g.D.Disk.state c.args.disk.now) c.args.self.now c.sweep.new.self c.sweep.result true pending moment (subst (λ (v : StoreView). IsStep v steps.Background c.sweep.new.self c.sweep.result true) is (c.sweep.ensures true)) has
 
 pub returns-clause-pages : goal.returns-clause-pages
 returns-clause-pages g c has =
