@@ -2,6 +2,7 @@
 
 from __future__ import annotations
 
+import os
 import socket
 import tempfile
 import unittest
@@ -29,7 +30,8 @@ from corktarn import (
     text_span,
 )
 from corktarn import replies, requests
-from tests.program import HAS_SERVER, program
+from tests import before
+from tests.program import HAS_SERVER, program, run
 from tests.serving import serving
 
 _ACCOUNT = Tumbler.parse("1.1.0.1")
@@ -248,6 +250,13 @@ class OverAPipe(_Sessions):
         self.assertTrue(str(caught.exception).startswith("green_batch: usage:"))
 
     def test_a_folder_of_before(self) -> None:
+        before.write_to(self.folder)
+        for _ in range(2):
+            ran = run([self.folder], before.ASKED)
+            self.assertEqual((ran.output, ran.status), (before.TOLD, 0))
+        self.assertEqual(os.path.getsize(f"{self.folder}/log"), 0)
+
+    def test_a_log_of_before(self) -> None:
         with open(f"{self.folder}/log", "wb") as log:
             log.write(_BEFORE)
         for _ in range(2):

@@ -1,7 +1,8 @@
 //! An open log, to which bodies are appended in the second area.
 ghost use Rattle.std.specs.Prelude.{◌≡◌, ◌≢◌, ◌≤◌, List, [], ◌∷◌, ◌++◌, IsTrue};
 ghost use Rattle.entry_codec.specs.Logged.{PlainLogged};
-ghost use Rattle.green_io.specs.Areas.{is_logged};
+ghost use Rattle.green_io.specs.Areas.{is_same};
+ghost use Rattle.green_io.specs.declared.disk.Area.TheVariants.{Second};
 ghost use Rattle.green_io.specs.Disk.{LeavesOnly, LeavesBut};
 ghost use Rattle.green_io.specs.Outside.{HasRisen};
 ghost use Rattle.edit_log.specs.Answers.{OnDone, OnFailed};
@@ -71,7 +72,7 @@ impl EditLog {
         ensures any_moment { (rows : List PlainLogged) (row : PlainLogged) → IsAppendable rows row bytes.now.items → IsOpen (D.state disk.old) self.old rows → LeavesOnly (D.state disk.old) (D.state disk.new) (HoldsEither rows row) }
         ensures done { (rows : List PlainLogged) (row : PlainLogged) → IsAppendable rows row bytes.now.items → IsOpen (D.state disk.old) self.old rows → OnDone result (IsOpen (D.state disk.new) self.new (rows ++ row ∷ [])) }
         ensures pending { (rows : List PlainLogged) (row : PlainLogged) → IsAppendable rows row bytes.now.items → IsOpen (D.state disk.old) self.old rows → OnFailed result (IsPending (D.state disk.new) self.new rows row) }
-        ensures others { LeavesBut is_logged (D.state disk.old) (D.state disk.new) }
+        ensures others { LeavesBut (is_same Second) (D.state disk.old) (D.state disk.new) }
         ensures never_falls { D.fault_count disk.old ≤ D.fault_count disk.new }
         ensures failed { OnFailed result (HasRisen (D.fault_count disk.old) (D.fault_count disk.new)) }
     {
@@ -102,7 +103,7 @@ impl EditLog {
         ensures any_moment { (rows : List PlainLogged) (row : PlainLogged) → IsMendable rows row → IsPending (D.state disk.old) self.old rows row → LeavesOnly (D.state disk.old) (D.state disk.new) (HoldsEither rows row) }
         ensures done { (rows : List PlainLogged) (row : PlainLogged) → IsMendable rows row → IsPending (D.state disk.old) self.old rows row → OnDone result (IsOpen (D.state disk.new) self.new rows) }
         ensures pending { (rows : List PlainLogged) (row : PlainLogged) → IsMendable rows row → IsPending (D.state disk.old) self.old rows row → OnFailed result (IsPending (D.state disk.new) self.new rows row) }
-        ensures others { LeavesBut is_logged (D.state disk.old) (D.state disk.new) }
+        ensures others { LeavesBut (is_same Second) (D.state disk.old) (D.state disk.new) }
         ensures never_falls { D.fault_count disk.old ≤ D.fault_count disk.new }
         ensures failed { OnFailed result (HasRisen (D.fault_count disk.old) (D.fault_count disk.new)) }
     {

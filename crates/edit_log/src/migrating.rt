@@ -1,4 +1,7 @@
 //! Moving a log of before into the second area, which stays closed until all its entries stand there.
+//!
+//! A move that a crash or a failure cuts short leaves nothing to be mended. Either the second area is closed, whatever stands
+//! behind its gate, and the next opening moves the log anew; or it is open, and has all entries.
 ghost use Rattle.std.specs.Prelude.{◌≡◌, ◌≤◌, ◌+◌, [], ◌∷◌, ◌++◌, length, IfOk, OnOk, OnErr};
 ghost use Rattle.std.specs.List.{AllByRecursion};
 ghost use Rattle.entry_codec.specs.Bodies.{HasBody};
@@ -37,8 +40,8 @@ fn is_shut<D: Disk>(disk: &mut D) -> Result<bool, DiskFailed>
     }
 }
 
-/// Empties the second area, which is closed, and writes a gate 0 there. Empty, it stays closed whatever byte a crash leaves
-/// of that gate.
+/// Empties the second area, which is closed, and writes a gate 0 there. With nothing behind it the area stays closed
+/// whatever byte a crash leaves of that gate.
 fn shut_anew<D: Disk>(disk: &mut D) -> Result<(), DiskFailed>
     ensures any_moment { (log : _) → ImagesHave (D.state disk.old) (Beside log IsEnd) → LeavesOnly (D.state disk.old) (D.state disk.new) (Beside log IsEnd) }
     ensures shut { (log : _) → ImagesHave (D.state disk.old) (Beside log IsEnd) → OnOk result (ImagesHave (D.state disk.new) (Beside log BeginsShut)) }
@@ -90,8 +93,8 @@ fn gated_body(alloc: Global, row: &Logged) -> Result<Text, Memory>
     Ok(bytes)
 }
 
-/// Writes one entry with its gate at `at`, where the bytes end that were written, and answers how many bytes these are.
-/// They are not synced.
+/// Writes one entry with its gate at `at`, where the entries before it end, and answers how many bytes these are. They
+/// are not synced.
 fn write_row<D: Disk>(alloc: Global, disk: &mut D, at: u64, row: &Logged) -> Result<u64, LogFault>
     requires { HasBody New (plain_logged row.now) }
     ensures count { IfOk result (λ count. count ≡ length (body_of New (plain_logged row.now)) + 1) }
@@ -131,8 +134,8 @@ fn write_rows<D: Disk>(alloc: Global, disk: &mut D, rows: &[Logged]) -> Result<u
     Ok(at)
 }
 
-/// The third step: all these entries stand behind the gate, and a last gate 0 behind them, at the place that it answers. One sync
-/// makes them stable, since the area is closed until then.
+/// The third step: all these entries stand behind the gate, and a last gate 0 behind them, at the place that it answers.
+/// One sync makes them stable, since the area is closed until then.
 fn write_log<D: Disk>(alloc: Global, disk: &mut D, rows: &[Logged]) -> Result<u64, LogFault>
     requires spelled { AllByRecursion (HasBody New) (plain_log rows.now) }
     requires few { length rows.now ≤ most_entries }
@@ -161,10 +164,11 @@ fn open_front<D: Disk>(disk: &mut D) -> Result<(), DiskFailed>
     write_and_sync(disk, Area::Second, 0, &[1])
 }
 
-/// Moves these entries, which were read from the log of before, into the second area, which is closed. Both areas are stable.
+/// Moves these entries, which were read from the log of before, into the second area, which is closed. Both are stable. It
+/// answers where the end gate stands.
 ///
-/// It stays closed until all of them stand in it and are stable, so a crash leaves the log of before to be read, or all of the new one. The
-/// log of before it does not touch. Where memory runs out the second area is closed. It answers where the end gate stands.
+/// The second area stays closed until all of them stand in it and are stable, so a crash leaves the log of before to be read,
+/// or all of the new one. The log of before is not touched. Where memory runs out the second area is closed.
 pub(crate) fn migrate<D: Disk>(
     alloc: Global,
     disk: &mut D,

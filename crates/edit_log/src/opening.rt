@@ -31,7 +31,7 @@ pub enum LogFault {
     /// The gate at this place is open, more bytes come behind it, and they begin with no body, or it would be one
     /// too many.
     Damaged {
-        /// The gate's offset in its area: the second where that is open, and else the log of before.
+        /// The gate's offset in the area that was read: the second where that is open, and else that of the log of before.
         at: u64,
     },
     /// The disk failed.
@@ -170,12 +170,14 @@ impl EditLog {
     ///
     /// Where the second area is open, the log in it is read, and the gate at its end is closed where that is not a byte 0.
     /// Else the log of before is read, and moves into the second area, each entry with the moment 0. Then the area of the
-    /// log of before is emptied. A crash at any moment leaves a whole log with the entries that were read, in the one area
-    /// or in the other.
+    /// log of before is emptied.
     ///
-    /// It reads the bytes once, in time linear in their number; of a second area that is closed, one byte. Whether the
-    /// entries fit one after another it does not ask. A log that is damaged is left as it was. Where memory runs out the log
-    /// stays where it was found, and where it was on its way a part of it may lie in the second area, which is closed.
+    /// A crash at any moment leaves a whole log with the entries that were read, in the one area or in the other; or with one
+    /// more, where a torn gate at the end of an open second area hid it. A log that is damaged is left as it was. Where memory
+    /// runs out the log stays where it was read, and some of it may stand in the second area, which is closed then.
+    ///
+    /// It reads the bytes of one log, once, in time linear in their number, and of a second area that is closed no more than
+    /// its first byte. Whether the entries fit one after another it does not ask.
     pub fn open<D: Disk>(alloc: Global, disk: &mut D) -> Result<(EditLog, List<Logged>), LogFault>
         ensures any_moment { (rows : _) → AsRead (D.state disk.old).reads (HoldsWhole rows) → LeavesOnly (D.state disk.old) (D.state disk.new) (HoldsAsRead rows (D.state disk.old).reads) }
         ensures entries { IfOk result (λ opened. WhereTold (D.state disk.old).reads (ReadsIn opened.0.read (plain_log opened.1.items))) }

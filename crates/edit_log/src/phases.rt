@@ -1,6 +1,6 @@
 //! The writes of a log in the second area, each of which is synced before the next begins.
 ghost use Rattle.std.specs.Prelude.{◌≡◌, ◌<◌, ◌≤◌, ◌^◌, ℕ, List, [], ◌∷◌, ◌++◌, length, OnOk, OnErr};
-ghost use Rattle.green_io.specs.Areas.{is_logged};
+ghost use Rattle.green_io.specs.Areas.{is_same};
 ghost use Rattle.green_io.specs.Disk.{Changes, LeavesOnly, LeavesBut};
 ghost use Rattle.green_io.specs.Outside.{HasRisen};
 ghost use Rattle.edit_log.specs.Images.{IsShut, IsAjar, SecondImages, InSecond};
@@ -13,7 +13,7 @@ pub(crate) fn stage<D: Disk>(disk: &mut D, end: u64, bytes: &[u8]) -> Result<(),
     ensures any_moment { (front body : List ℕ) → bytes.now ≡ body ++ (0 ∷ []) → length front < 2 ^ 63 → SecondImages (D.state disk.old) end front (IsShut front) → LeavesOnly (D.state disk.old) (D.state disk.new) (InSecond (IsShut front)) }
     ensures staged { (front body : List ℕ) → bytes.now ≡ body ++ (0 ∷ []) → length front < 2 ^ 63 → SecondImages (D.state disk.old) end front (IsShut front) → OnOk result (SecondImages (D.state disk.new) end front (IsAjar front body)) }
     ensures shut { (front body : List ℕ) → bytes.now ≡ body ++ (0 ∷ []) → length front < 2 ^ 63 → SecondImages (D.state disk.old) end front (IsShut front) → OnErr result (SecondImages (D.state disk.new) end front (IsShut front)) }
-    ensures others { LeavesBut is_logged (D.state disk.old) (D.state disk.new) }
+    ensures others { LeavesBut (is_same Area.Second) (D.state disk.old) (D.state disk.new) }
     ensures never_falls { D.fault_count disk.old ≤ D.fault_count disk.new }
     ensures failed { OnErr result (HasRisen (D.fault_count disk.old) (D.fault_count disk.new)) }
 {
@@ -25,7 +25,7 @@ pub(crate) fn open_gate<D: Disk>(disk: &mut D, end: u64) -> Result<(), DiskFaile
     ensures any_moment { (front body : List ℕ) → SecondImages (D.state disk.old) end front (IsAjar front body) → LeavesOnly (D.state disk.old) (D.state disk.new) (InSecond (IsAjar front body)) }
     ensures opened { (front body : List ℕ) → SecondImages (D.state disk.old) end front (IsAjar front body) → OnOk result (SecondImages (D.state disk.new) (length (front ++ (1 ∷ body))) (front ++ (1 ∷ body)) (IsShut (front ++ (1 ∷ body)))) }
     ensures ajar { (front body : List ℕ) → SecondImages (D.state disk.old) end front (IsAjar front body) → OnErr result (SecondImages (D.state disk.new) end front (IsAjar front body)) }
-    ensures others { LeavesBut is_logged (D.state disk.old) (D.state disk.new) }
+    ensures others { LeavesBut (is_same Area.Second) (D.state disk.old) (D.state disk.new) }
     ensures never_falls { D.fault_count disk.old ≤ D.fault_count disk.new }
     ensures failed { OnErr result (HasRisen (D.fault_count disk.old) (D.fault_count disk.new)) }
 {
@@ -37,7 +37,7 @@ pub(crate) fn close_gate<D: Disk>(disk: &mut D, end: u64) -> Result<(), DiskFail
     ensures any_moment { (front body : List ℕ) → SecondImages (D.state disk.old) end front (IsAjar front body) → LeavesOnly (D.state disk.old) (D.state disk.new) (InSecond (IsAjar front body)) }
     ensures closed { (front body : List ℕ) → SecondImages (D.state disk.old) end front (IsAjar front body) → OnOk result (SecondImages (D.state disk.new) end front (IsShut front)) }
     ensures ajar { (front body : List ℕ) → SecondImages (D.state disk.old) end front (IsAjar front body) → OnErr result (SecondImages (D.state disk.new) end front (IsAjar front body)) }
-    ensures others { LeavesBut is_logged (D.state disk.old) (D.state disk.new) }
+    ensures others { LeavesBut (is_same Area.Second) (D.state disk.old) (D.state disk.new) }
     ensures never_falls { D.fault_count disk.old ≤ D.fault_count disk.new }
     ensures failed { OnErr result (HasRisen (D.fault_count disk.old) (D.fault_count disk.new)) }
 {
@@ -60,7 +60,7 @@ pub(crate) fn close_end<D: Disk>(disk: &mut D, at: u64, end: &[u8]) -> Result<()
     ensures any_moment { (front : List ℕ) → SecondImages (D.state disk.old) at front (IsThat (front ++ end.now)) → LeavesOnly (D.state disk.old) (D.state disk.new) (InSecond (HasTornGate front end.now)) }
     ensures closed { (front : List ℕ) → SecondImages (D.state disk.old) at front (IsThat (front ++ end.now)) → OnOk result (SecondImages (D.state disk.new) at front (IsShut front)) }
     ensures reads { (front : List ℕ) → at ≡ length front → OnOk result (Changes Area.Second (ClosesEnd front end.now) (D.state disk.old).reads (D.state disk.new).reads) }
-    ensures others { LeavesBut is_logged (D.state disk.old) (D.state disk.new) }
+    ensures others { LeavesBut (is_same Area.Second) (D.state disk.old) (D.state disk.new) }
     ensures never_falls { D.fault_count disk.old ≤ D.fault_count disk.new }
     ensures failed { OnErr result (HasRisen (D.fault_count disk.old) (D.fault_count disk.new)) }
 {

@@ -1,12 +1,11 @@
 -- Entries that are told again, and trees that the world goes on from behind some of them.
-use Rattle.std.proofs.Common.{◌≡◌, ◌∙◌, ◌⊎◌, inl, inr, ℕ, ◌+◌, ◌<◌, ◌≤◌, Bool, true, false, List, [], ◌∷◌, ◌++◌, length, take, take_all, not, Option, None, Some, Result, Ok, Err, refl, sym, ap, subst, arith}
+use Rattle.std.proofs.Common.{◌≡◌, ◌∙◌, inl, inr, ℕ, ◌+◌, ◌<◌, ◌≤◌, Bool, true, false, List, [], ◌∷◌, ◌++◌, length, take, take_all, not, Option, None, Some, Result, Ok, Err, refl, sym, ap, subst, arith}
 use Rattle.std.specs.Prelude.{◌↔◌, IsTrue, IfOk}
 use Rattle.std.proofs.lemmas.List.{take-map, length-map}
 use Rattle.febe_data.specs.declared.entry.Entry.{Entry}
 use Rattle.febe_data.specs.Plain.{PlainEntry, plain_entry, plain_history}
 use Rattle.enfilade_core.specs.Exchange.{Grows}
 use Rattle.enfilade_core.specs.Rows.{Shape}
-use Rattle.world_rules.specs.World.{World}
 use Rattle.world_rules.specs.Apply.{world_of}
 use Rattle.world_rules.specs.FlatView.{FlatView, view_of, after_entry}
 use Rattle.world_rules.proofs.Folded.{folds_to_world}
@@ -25,8 +24,8 @@ use Rattle.green_store.specs.declared.opening.Retold.{Retold}
 use Rattle.green_store.specs.declared.opening.Retold.TheVariants as retold
 use Rattle.green_store.specs.declared.opening.Rebuilt.{Rebuilt}
 use Rattle.green_store.specs.declared.opening.Rebuilt.TheVariants as rebuilt
-use Rattle.green_store.specs.Opening.{IsUnfitFrom, StandAt, IsFlushedAt}
-use Rattle.green_store.specs.Replayed.{AreTold, IsRetold, IsRebuilt, AreTreesAt, GoesOn, IsAfresh, MayHaveGoneOn, came_to, IsSameOrRenewed}
+use Rattle.green_store.specs.Opening.{IsUnfitFrom, IsFlushedAt}
+use Rattle.green_store.specs.Replayed.{AreTold, IsRetold, IsRebuilt, AreTreesAt, MayHaveGoneOn, came_to, IsSameOrRenewed}
 use Rattle.green_store.specs.StoreView.{StoreView}
 use Rattle.green_store.specs.IsStore.{IsStore}
 use Rattle.green_store.specs.Sessions.{greatest_session}

@@ -3,7 +3,8 @@ use Rattle.std.proofs.Common.{inl, inr, ℕ, Bool, Option, None, Some, refl}
 use Rattle.std.specs.Prelude.{IsSome}
 use Rattle.entry_codec.specs.Logged.{PlainLogged}
 use Rattle.green_io.specs.declared.disk.Area.{Area}
-use Rattle.green_io.specs.Areas.{Areas, is_logged}
+use Rattle.green_io.specs.declared.disk.Area.TheVariants.{Second}
+use Rattle.green_io.specs.Areas.{Areas, is_same}
 use Rattle.green_io.specs.Disk.{DiskState, ReadsAsBut, LeavesBut}
 use Rattle.page_journal.specs.Images.{is_paged}
 use Rattle.green_store.specs.declared.step.Step.{Step}
@@ -21,11 +22,11 @@ told_before touched None None beside told = told
 told_before touched None (Some areas) beside told = absurd beside
 told_before touched (Some areas) new beside told = refl
 
-told : (step : Step) (old new : DiskState) → UnlessTended step (LeavesBut is_logged old new) → OnTended step (LeavesBut is_paged old new) → IsSome new.reads → IsSome old.reads
+told : (step : Step) (old new : DiskState) → UnlessTended step (LeavesBut (is_same Second) old new) → OnTended step (LeavesBut is_paged old new) → IsSome new.reads → IsSome old.reads
 told steps.Background old new others log is = told_before is_paged old.reads new.reads log.reads is
-told steps.Begin old new others log is = told_before is_logged old.reads new.reads others.reads is
-told (steps.Ask session request) old new others log is = told_before is_logged old.reads new.reads others.reads is
-told (steps.End session) old new others log is = told_before is_logged old.reads new.reads others.reads is
+told steps.Begin old new others log is = told_before (is_same Second) old.reads new.reads others.reads is
+told (steps.Ask session request) old new others log is = told_before (is_same Second) old.reads new.reads others.reads is
+told (steps.End session) old new others log is = told_before (is_same Second) old.reads new.reads others.reads is
 
 kept_by : (before after : StoreView) (pending : Option PlainLogged) (moment : ℕ) (step : Step) (answer : StepAnswer) (disk : DiskState) → KeepsStep before pending moment step after answer disk
     → (now : Option PlainLogged) × Keeps disk after now
@@ -34,7 +35,7 @@ kept_by before after pending moment step answer disk (inr stays) = (Some stays.r
 
 pub stays_one_disk : (before after : StoreView) (moment : ℕ) (step : Step) (answer : StepAnswer) (old new : DiskState) → IsOneDisk old before
     → ((pending : Option PlainLogged) → Keeps old before pending → KeepsStep before pending moment step after answer new) → (HasPages old before → HasPages new after)
-    → UnlessTended step (LeavesBut is_logged old new) → OnTended step (LeavesBut is_paged old new) → IsOneDisk new after
+    → UnlessTended step (LeavesBut (is_same Second) old new) → OnTended step (LeavesBut is_paged old new) → IsOneDisk new after
 stays_one_disk before after moment step answer old new one keeps pages others log is =
     let was = one (told step old new others log is) in
     let now = kept_by before after was.pending moment step answer new (keeps was.pending was.keeps) in

@@ -1,5 +1,5 @@
 -- Opening a disk: what the opening of the log and then that of the pages come to together.
-use Rattle.std.proofs.Common.{◌≡◌, ◌∙◌, ◌⊎◌, inl, inr, ℕ, ◌+◌, ◌-◌, ◌^◌, ◌≤◌, min, Bool, true, false, List, [], ◌∷◌, ◌++◌, length, take, Option, None, Some, Result, Ok, Err, refl, sym, ap, subst, arith}
+use Rattle.std.proofs.Common.{◌≡◌, ◌∙◌, inl, inr, ℕ, ◌-◌, ◌≤◌, Bool, true, false, List, [], length, take, Option, None, Some, Result, Ok, Err, refl, sym, ap, subst, arith}
 use Rattle.std.specs.Prelude.{IfOk, IsSome}
 use Rattle.std.specs.List.{AllByRecursion}
 use Rattle.std.specs.Result.{IsErr, IsErrAnd}
@@ -8,7 +8,7 @@ use Rattle.entry_codec.specs.Bodies.{HasBody}
 use Rattle.entry_codec.specs.Laws.{OldHasNew}
 use Rattle.entry_codec.specs.Logged.{PlainLogged, entries_of, moments_of, timed}
 use Rattle.entry_codec.specs.declared.format.LogFormat.{LogFormat}
-use Rattle.entry_codec.specs.declared.format.LogFormat.TheVariants.{Old, New}
+use Rattle.entry_codec.specs.declared.format.LogFormat.TheVariants.{Old}
 use Rattle.green_io.specs.declared.disk.Area.{Area}
 use Rattle.green_io.specs.declared.disk.Area.TheVariants.{Log, Home, Journal, Second}
 use Rattle.green_io.specs.Areas.{Areas, is_logged, IsSameBut}
@@ -26,7 +26,7 @@ use Rattle.edit_log.specs.Images.{AreEntries, IsOpen, IsShut, InSecond, AsRead, 
 use Rattle.edit_log.specs.Laws.{EachHasOneReading}
 use Rattle.edit_log.specs.Log.{most_entries, IsEnd, IsWhole}
 use Rattle.edit_log.specs.LogView.{LogView}
-use Rattle.edit_log.specs.Second.{front_of, HoldsWhole, ReadsIn, IsDamaged, IsSecondAfter, IsMoved, BothTold, IsAsFound}
+use Rattle.edit_log.specs.Second.{front_of, HoldsWhole, ReadsIn, IsSecondAfter, IsMoved, BothTold, IsAsFound}
 use Rattle.page_journal.specs.declared.page_fault.PageFault.{PageFault}
 use Rattle.page_journal.specs.declared.page_fault.PageFault.TheVariants as page_faults
 use Rattle.page_journal.specs.Answers.{OnDiskFault}
@@ -41,7 +41,7 @@ use Rattle.paged_world.specs.Standing.{MayGoOn}
 use Rattle.green_store.specs.declared.opening.OpenFault.{OpenFault}
 use Rattle.green_store.specs.declared.opening.OpenFault.TheVariants.{Damaged, Disk, Memory}
 use Rattle.green_store.specs.Durable.{Keeps}
-use Rattle.green_store.specs.Opening.{ReadsRows, IsOpenedFrom, IsUnfitFrom, IsDamagedLog, IsAsBefore, ReadsAsBefore, LeavesMisspelled, OnDamagedLog, OnDiskFailed, UnlessDiskFailed, OpensAs, IsFlushedAt, IsFlushedFrom, fault_of, fault_of_pages, gate_place, opened_with}
+use Rattle.green_store.specs.Opening.{ReadsRows, IsOpenedFrom, IsUnfitFrom, IsDamagedLog, ReadsAsBefore, LeavesMisspelled, OnDamagedLog, OnDiskFailed, UnlessDiskFailed, OpensAs, IsFlushedAt, IsFlushedFrom, fault_of, fault_of_pages, gate_place, opened_with}
 use Rattle.green_store.specs.Paged.{HasPages}
 use Rattle.green_store.specs.Replayed.{AreTreesAt, IsSameOrRenewed}
 use Rattle.green_store.specs.StoreView.{StoreView}

@@ -4,6 +4,7 @@ use Rattle.febe_data.specs.declared.refusal.Refusal.TheVariants.{Memory}
 use Rattle.febe_data.specs.Plain.{PlainRequest, plain_request, PlainReply, plain_reply, refused}
 use Rattle.febe_data.specs.Validity.{IsRequest, IsReply}
 use Rattle.world_rules.specs.History.{is_live, durable_entries}
+use Rattle.world_rules.specs.Queries.{is_query}
 use Rattle.tree_world.specs.Condition.{StaysInShape}
 use Rattle.tree_world.specs.Nodes.{AllGrown}
 use Rattle.green_flush.specs.Standing.{IsRenewed}
@@ -173,6 +174,11 @@ IsStep before step after answer rose = ⊥
 abbrev pub UnlessAsked : Step → Type 0 → Type 0
 UnlessAsked (steps.Ask session request) fact = Unit {0}
 UnlessAsked other fact = fact
+
+-- this holds if a session makes a query
+abbrev pub OnQuery : Step → Type 0 → Type 0
+OnQuery (steps.Ask session request) fact = is_query (plain_request request) ≡ true → fact
+OnQuery other fact = Unit {0}
 
 -- this holds unless a step has let go of nodes
 abbrev pub UnlessSwept : StepAnswer → Type 0 → Type 0

@@ -1,7 +1,8 @@
 //! A store and its disk as one value, which sessions share behind a lock.
 ghost use Rattle.std.specs.Prelude.{◌≡◌, ◌≤◌, ◌<◌, length, Option};
 ghost use Rattle.entry_codec.specs.Logged.{PlainLogged};
-ghost use Rattle.green_io.specs.Areas.{is_logged};
+ghost use Rattle.green_io.specs.Areas.{is_same};
+ghost use Rattle.green_io.specs.declared.disk.Area.TheVariants.{Second};
 ghost use Rattle.green_io.specs.Disk.{LeavesOnly, LeavesBut};
 ghost use Rattle.history_lock.specs.Histories.{Grows};
 ghost use Rattle.green_store.specs.Durable.{has_risen, Keeps, HoldsStep, KeepsStep};
@@ -11,7 +12,7 @@ ghost use Rattle.world_rules.specs.History.{durable_entries};
 ghost use Rattle.page_journal.specs.Images.{is_paged};
 ghost use Rattle.green_flush.specs.Loads.{TreesAt};
 ghost use Rattle.green_store.specs.Paged.{IsPaged, HasPages, EachLoadsFor, MayLoad};
-ghost use Rattle.green_store.specs.IsStep.{IsStep, UnlessAsked, UnlessSwept, UnlessFlushed, OnFlushed, UnlessTended, OnTended, unsaved};
+ghost use Rattle.green_store.specs.IsStep.{IsStep, UnlessAsked, OnQuery, UnlessSwept, UnlessFlushed, OnFlushed, UnlessTended, OnTended, unsaved};
 ghost use Rattle.green_store.specs.Isolated.{IsolatesStep};
 ghost use Rattle.green_store.specs.Marks.{owner_of, numbers_of, marks_of};
 ghost use Rattle.green_store.specs.TimedStep.{IsTimedStep};
@@ -102,12 +103,13 @@ impl<D: Disk> Housed<D> {
         ensures keeps { (pending : Option PlainLogged) → Keeps (D.state self.old.disk) self.old.store pending → KeepsStep self.old.store pending moment step self.new.store result (D.state self.new.disk) }
         ensures pages_any_moment { (was now : Option TreesAt) → IsPaged (D.state self.old.disk) self.old.store was now → LeavesOnly (D.state self.old.disk) (D.state self.new.disk) (MayLoad was now (durable_entries self.old.store.history)) }
         ensures flushed { OnFlushed result (HasPages (D.state self.old.disk) self.old.store → EachLoadsFor (durable_entries self.new.store.history) (D.state self.new.disk)) }
-        ensures others { UnlessTended step (LeavesBut is_logged (D.state self.old.disk) (D.state self.new.disk)) }
+        ensures others { UnlessTended step (LeavesBut (is_same Second) (D.state self.old.disk) (D.state self.new.disk)) }
         ensures log { OnTended step (LeavesBut is_paged (D.state self.old.disk) (D.state self.new.disk)) }
         ensures never_falls { D.fault_count self.old.disk ≤ D.fault_count self.new.disk }
         ensures base { UnlessSwept result (self.new.store.base ≡ self.old.store.base) }
         ensures flushed_stays { UnlessFlushed result (self.new.store.flushed ≡ self.old.store.flushed) }
         ensures untouched { UnlessAsked step (UnlessTended step (self.new.disk ≡ self.old.disk)) }
+        ensures query { OnQuery step (self.new.disk ≡ self.old.disk) }
         ensures left_alone { OnTended step (unsaved self.old.store < self.old.store.limits.flush → self.new.disk ≡ self.old.disk) }
     {
         self.last = moment;
@@ -186,7 +188,7 @@ impl<D: Disk> Kept for Housed<D> {
         ensures any_moment { (pending : Option PlainLogged) → Keeps (D.state self.old.disk) self.old.store pending → LeavesOnly (D.state self.old.disk) (D.state self.new.disk) (HoldsStep self.old.store pending job.moment (step_for number job.job)) }
         ensures keeps { (pending : Option PlainLogged) → Keeps (D.state self.old.disk) self.old.store pending → KeepsStep self.old.store pending job.moment (step_for number job.job) self.new.store result.answer (D.state self.new.disk) }
         ensures pages_any_moment { (was now : Option TreesAt) → IsPaged (D.state self.old.disk) self.old.store was now → LeavesOnly (D.state self.old.disk) (D.state self.new.disk) (MayLoad was now (durable_entries self.old.store.history)) }
-        ensures others { UnlessTended (step_for number job.job) (LeavesBut is_logged (D.state self.old.disk) (D.state self.new.disk)) }
+        ensures others { UnlessTended (step_for number job.job) (LeavesBut (is_same Second) (D.state self.old.disk) (D.state self.new.disk)) }
         ensures log { OnTended (step_for number job.job) (LeavesBut is_paged (D.state self.old.disk) (D.state self.new.disk)) }
         ensures never_falls { D.fault_count self.old.disk ≤ D.fault_count self.new.disk }
     {

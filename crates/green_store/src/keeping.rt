@@ -5,7 +5,8 @@ ghost use Rattle.entry_codec.specs.Bodies.{HasBody};
 ghost use Rattle.entry_codec.specs.Format.{body_of};
 ghost use Rattle.entry_codec.specs.Logged.{PlainLogged, made_at_moment};
 ghost use Rattle.entry_codec.specs.declared.format.LogFormat.TheVariants.{New};
-ghost use Rattle.green_io.specs.Areas.{is_logged};
+ghost use Rattle.green_io.specs.Areas.{is_same};
+ghost use Rattle.green_io.specs.declared.disk.Area.TheVariants.{Second};
 ghost use Rattle.green_io.specs.Disk.{LeavesOnly, LeavesBut};
 ghost use Rattle.green_io.specs.Outside.{HasRisen};
 ghost use Rattle.edit_log.specs.Answers.{OnDone, OnFailed};
@@ -72,7 +73,7 @@ pub(crate) fn keep<D: Disk>(log: &mut EditLog, disk: &mut D, bytes: &Text) -> Ap
     ensures any_moment { (rows : List PlainLogged) (pending : Option PlainLogged) (row : PlainLogged) → IsAppendable rows row bytes.now.items → LogHas (D.state disk.old) log.old rows pending → LeavesOnly (D.state disk.old) (D.state disk.new) (HoldsWith rows (λ other. IsThat pending other ⊎ (other ≡ row))) }
     ensures done { (rows : List PlainLogged) (pending : Option PlainLogged) (row : PlainLogged) → IsAppendable rows row bytes.now.items → LogHas (D.state disk.old) log.old rows pending → OnDone result (LogHas (D.state disk.new) log.new (rows ++ row ∷ []) None) }
     ensures pending { (rows : List PlainLogged) (pending : Option PlainLogged) (row : PlainLogged) → IsAppendable rows row bytes.now.items → LogHas (D.state disk.old) log.old rows pending → OnFailed result (PendsOneOf (D.state disk.new) log.new rows (λ other. IsThat pending other ⊎ (other ≡ row))) }
-    ensures others { LeavesBut is_logged (D.state disk.old) (D.state disk.new) }
+    ensures others { LeavesBut (is_same Second) (D.state disk.old) (D.state disk.new) }
     ensures never_falls { D.fault_count disk.old ≤ D.fault_count disk.new }
     ensures failed { OnFailed result (HasRisen (D.fault_count disk.old) (D.fault_count disk.new)) }
 {

@@ -58,7 +58,8 @@ impl<W: OnPages> Model for StoreOver<W> {
 impl<W: OnPages + Drop> StoreOver<W> {
     ghost use Rattle.febe_data.specs.Plain.{plain_history};
     ghost use Rattle.entry_codec.specs.Logged.{PlainLogged};
-    ghost use Rattle.green_io.specs.Areas.{is_logged};
+    ghost use Rattle.green_io.specs.Areas.{is_same};
+    ghost use Rattle.green_io.specs.declared.disk.Area.TheVariants.{Second};
     ghost use Rattle.green_io.specs.Disk.{LeavesOnly, LeavesBut};
     ghost use Rattle.world_rules.specs.Apply.{world_of};
     ghost use Rattle.world_rules.specs.FlatView.{view_of};
@@ -67,7 +68,7 @@ impl<W: OnPages + Drop> StoreOver<W> {
     ghost use Rattle.green_store.specs.Durable.{has_risen, Keeps, HoldsStep, KeepsStep};
     ghost use Rattle.page_journal.specs.Images.{is_paged};
     ghost use Rattle.green_flush.specs.Loads.{TreesAt};
-    ghost use Rattle.green_store.specs.IsStep.{IsStep, UnlessAsked, UnlessSwept, UnlessFlushed, OnFlushed, UnlessTended, OnTended, unsaved};
+    ghost use Rattle.green_store.specs.IsStep.{IsStep, UnlessAsked, OnQuery, UnlessSwept, UnlessFlushed, OnFlushed, UnlessTended, OnTended, unsaved};
     ghost use Rattle.green_store.specs.Isolated.{IsolatesStep};
     ghost use Rattle.green_store.specs.TimedStep.{IsTimedStep};
     ghost use Rattle.green_store.specs.Paged.{IsPaged, HasPages, EachLoadsFor, MayLoad};
@@ -82,7 +83,7 @@ impl<W: OnPages + Drop> StoreOver<W> {
     ///
     /// An edit builds its reply, its trees and its record first, then mends the log where an edit is pending, appends, and
     /// stands. What was appended is never refused. It is logged with the moment, which comes behind those of the entries kept before
-    /// it. Steps that make no kept change leave the disk and the moments alone.
+    /// it. A step that keeps nothing leaves the moments alone; and the disk too, unless the disk failed an edit, or pages were due.
     ///
     /// A background step makes one step of the balancer where a tree allows one. Only where none does, it writes all trees to
     /// pages, if so many kept entries stand behind those that the pages stand for as the limits say. Only where neither is to be
@@ -104,12 +105,13 @@ impl<W: OnPages + Drop> StoreOver<W> {
         ensures pages { HasPages (D.state disk.old) self.old → HasPages (D.state disk.new) self.new }
         ensures pages_any_moment { (was now : Option TreesAt) → IsPaged (D.state disk.old) self.old was now → LeavesOnly (D.state disk.old) (D.state disk.new) (MayLoad was now (durable_entries self.old.history)) }
         ensures flushed { OnFlushed result (HasPages (D.state disk.old) self.old → EachLoadsFor (durable_entries self.new.history) (D.state disk.new)) }
-        ensures others { UnlessTended step (LeavesBut is_logged (D.state disk.old) (D.state disk.new)) }
+        ensures others { UnlessTended step (LeavesBut (is_same Second) (D.state disk.old) (D.state disk.new)) }
         ensures log { OnTended step (LeavesBut is_paged (D.state disk.old) (D.state disk.new)) }
         ensures never_falls { D.fault_count disk.old ≤ D.fault_count disk.new }
         ensures base { UnlessSwept result (self.new.base ≡ self.old.base) }
         ensures flushed_stays { UnlessFlushed result (self.new.flushed ≡ self.old.flushed) }
         ensures untouched { UnlessAsked step (UnlessTended step (disk.new ≡ disk.old)) }
+        ensures query { OnQuery step (disk.new ≡ disk.old) }
         ensures left_alone { OnTended step (unsaved self.old < self.old.limits.flush → disk.new ≡ disk.old) }
     {
         match step {
@@ -239,13 +241,15 @@ impl<W: OnPages + Drop> StoreOver<W> {
     ghost use Rattle.febe_data.specs.Plain.{plain_request, plain_reply, plain_change};
     ghost use Rattle.entry_codec.specs.Logged.{PlainLogged, made_at_moment};
     ghost use Rattle.febe_data.specs.Validity.{IsRequest, IsReply};
-    ghost use Rattle.green_io.specs.Areas.{is_logged};
+    ghost use Rattle.green_io.specs.Areas.{is_same};
+    ghost use Rattle.green_io.specs.declared.disk.Area.TheVariants.{Second};
     ghost use Rattle.green_io.specs.Disk.{LeavesOnly, LeavesBut};
     ghost use Rattle.world_rules.specs.Apply.{world_of};
     ghost use Rattle.world_rules.specs.History.{is_live, is_durable, durable_entries};
     ghost use Rattle.world_rules.specs.Legal.{entry_after};
     ghost use Rattle.world_rules.specs.Placed.{IsPlaced};
     ghost use Rattle.world_rules.specs.PlainEffect.{plain_effect};
+    ghost use Rattle.world_rules.specs.Queries.{is_query};
     ghost use Rattle.green_store.specs.Durable.{has_risen, kept_rows, Keeps, HoldsWith, IsThat, HoldsRequest, KeepsRequest, HoldsStep, KeepsStep};
     ghost use Rattle.green_store.specs.inside.{MayBeKept, IsKeptOrTakenBack, KeepsEdit, IsBalancing, IsSpared};
     ghost use Rattle.green_store.specs.Sessions.{greatest_session, begin_entry, end_entry};
@@ -258,7 +262,7 @@ impl<W: OnPages + Drop> StoreOver<W> {
     ghost use Rattle.green_flush.specs.Loads.{TreesAt};
     ghost use Rattle.page_journal.specs.Images.{is_paged};
     ghost use Rattle.tree_world.specs.Nodes.{AllGrown};
-    ghost use Rattle.std.specs.Prelude.{ℕ, nat_le};
+    ghost use Rattle.std.specs.Prelude.{ℕ, nat_le, true};
 
     fn begin(&mut self, alloc: Global) -> StepAnswer
         ensures step { (rose : Bool) → IsStep self.old Step.Begin self.new result rose }
@@ -288,7 +292,8 @@ impl<W: OnPages + Drop> StoreOver<W> {
         ensures moments { IsTimedStep self.old moment self.new }
         ensures any_moment { (pending : Option PlainLogged) → Keeps (D.state disk.old) self.old pending → LeavesOnly (D.state disk.old) (D.state disk.new) (HoldsStep self.old pending moment (Step.Ask session request.now)) }
         ensures keeps { (pending : Option PlainLogged) → Keeps (D.state disk.old) self.old pending → KeepsStep self.old pending moment (Step.Ask session request.now) self.new result (D.state disk.new) }
-        ensures others { LeavesBut is_logged (D.state disk.old) (D.state disk.new) }
+        ensures others { LeavesBut (is_same Second) (D.state disk.old) (D.state disk.new) }
+        ensures query { is_query (plain_request request.now) ≡ true → disk.new ≡ disk.old }
         ensures never_falls { D.fault_count disk.old ≤ D.fault_count disk.new }
     {
         if !self.is_live(session) {
@@ -459,7 +464,8 @@ impl<W: OnPages + Drop> StoreOver<W> {
         ensures pages { PagesStandStill self.old self.new }
         ensures any_moment { (pending : Option PlainLogged) → Keeps (D.state disk.old) self.old pending → LeavesOnly (D.state disk.old) (D.state disk.new) (HoldsRequest self.old pending moment session (plain_request request.now)) }
         ensures keeps { (pending : Option PlainLogged) → Keeps (D.state disk.old) self.old pending → KeepsRequest self.old pending moment session (plain_request request.now) self.new (plain_reply result) (D.state disk.new) }
-        ensures others { LeavesBut is_logged (D.state disk.old) (D.state disk.new) }
+        ensures others { LeavesBut (is_same Second) (D.state disk.old) (D.state disk.new) }
+        ensures query { is_query (plain_request request.now) ≡ true → disk.new ≡ disk.old }
         ensures never_falls { D.fault_count disk.old ≤ D.fault_count disk.new }
     {
         if let Request::Quit = request {
@@ -498,7 +504,8 @@ impl<W: OnPages + Drop> StoreOver<W> {
         ensures pages { PagesStandStill self.old self.new }
         ensures any_moment { (pending : Option PlainLogged) → Keeps (D.state disk.old) self.old pending → LeavesOnly (D.state disk.old) (D.state disk.new) (HoldsRequest self.old pending moment session (plain_request request.now)) }
         ensures keeps { (pending : Option PlainLogged) → Keeps (D.state disk.old) self.old pending → IfOk result (λ reply. KeepsRequest self.old pending moment session (plain_request request.now) self.new (plain_reply reply) (D.state disk.new)) }
-        ensures others { LeavesBut is_logged (D.state disk.old) (D.state disk.new) }
+        ensures others { LeavesBut (is_same Second) (D.state disk.old) (D.state disk.new) }
+        ensures query { is_query (plain_request request.now) ≡ true → disk.new ≡ disk.old }
         ensures never_falls { D.fault_count disk.old ≤ D.fault_count disk.new }
         ensures err { OnErr result (StandsStill self.old self.new) }
         ensures untouched { OnErr result (disk.new ≡ disk.old) }
@@ -563,7 +570,7 @@ impl<W: OnPages + Drop> StoreOver<W> {
         ensures pages { PagesStandStill self.old self.new }
         ensures any_moment { (pending : Option PlainLogged) → Keeps (D.state disk.old) self.old pending → LeavesOnly (D.state disk.old) (D.state disk.new) (HoldsWith (kept_rows self.old) (λ other. IsThat pending other ⊎ (other ≡ made_at_moment (entry_after self.old.history session (plain_effect made)) moment))) }
         ensures keeps { (pending : Option PlainLogged) → Keeps (D.state disk.old) self.old pending → IfOk result (λ reply. KeepsEdit self.old pending (made_at_moment (entry_after self.old.history session (plain_effect made)) moment) self.new (plain_reply reply) (D.state disk.new)) }
-        ensures others { LeavesBut is_logged (D.state disk.old) (D.state disk.new) }
+        ensures others { LeavesBut (is_same Second) (D.state disk.old) (D.state disk.new) }
         ensures never_falls { D.fault_count disk.old ≤ D.fault_count disk.new }
         ensures err { OnErr result (StandsStill self.old self.new) }
         ensures untouched { OnErr result (disk.new ≡ disk.old) }

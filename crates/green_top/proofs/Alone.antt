@@ -18,11 +18,12 @@ use Rattle.green_store.specs.declared.step.StepAnswer.{StepAnswer}
 use Rattle.green_store.specs.declared.step.StepAnswer.TheVariants as answers
 use Rattle.green_store.proofs.Places.{placed_push, placed_goes_on}
 use Rattle.green_top.specs.declared.beside.Serves.{Serves}
+use Rattle.green_top.specs.declared.session_end.SessionEnd.{SessionEnd}
 use Rattle.green_top.specs.Outcome.{HasServedNext, HasServedAlone}
 use Rattle.green_top.specs.Transcript.{RisesWithin}
 use Rattle.green_top.specs.Times.{Coming, GivenBy, RunStep, begin_step, ask_step, tend_step, end_step, TimedStep, at_moment, steps_in, moments_in, exchanges_of, IsEndStep, AreStepsOf, AreTends}
 use Rattle.green_top.specs.inside.Enduring.{Endures, RunsThrough, Settles}
-use Rattle.green_top.specs.inside.Play.{Chain, nothing, asked, tended, IsLast, IsSat, DidNotBegin, IsUntouched, HasServed}
+use Rattle.green_top.specs.inside.Play.{Chain, nothing, asked, tended, IsDoneAt, IsLast, IsSat, DidNotBegin, IsUntouched, HasServed}
 use Rattle.green_top.specs.inside.Stored.{number_in, HasBegunIn, HasAskedIn, HasTendedIn, HasEndedIn}
 use Rattle.green_top.proofs.Endurings.{endures_nothing, endures_both, endures_begin, endures_ask, endures_background, endures_end, background_is_still}
 use Rattle.green_top.proofs.Liveness.{none_above, live_own}
@@ -229,10 +230,10 @@ module _ {D : Type 0} (state : D → DiskState) (faults : D → ℕ) where
   abbrev number : Serves → ℕ
   number serves = serves.session
 
-  abbrev Given : Serves → D → Coming → List Exchange → Serves → D → Coming → Type 0
-  Given first second coming exchanges first' second' coming' =
+  abbrev Given : SessionEnd → Serves → D → Coming → List Exchange → Serves → D → Coming → Type 0
+  Given end first second coming exchanges first' second' coming' =
       HasServedAlone first.store.history first'.session first'.store.history exchanges (faults second) (faults second')
-      × RunsThrough first.store.limits (greatest_session first.store.history + 1) first'.session exchanges [] coming coming' (state second) first.store (faults second) (state second') first'.store (faults second')
+      × RunsThrough end first.store.limits (greatest_session first.store.history + 1) first'.session exchanges [] coming coming' (state second) first.store (faults second) (state second') first'.store (faults second')
 
   module _ (first : Serves) (second : D) (coming : Coming) (placed : AllPlaced empty_world first.store.history) (exchanges : List Exchange) (begun : Serves) (begun' : D) (coming_begun : Coming) (b : HasBegunIn state faults first second coming begun begun' coming_begun)
       (numbered : begun.session ≢ 0) where
@@ -250,7 +251,7 @@ module _ {D : Type 0} (state : D → DiskState) (faults : D → ℕ) where
         let t = b.stepped.made in
         endures_begin first.store.limits (greatest_session first.store.history + 1) first.store begun.store (state second) (state begun') (faults second) (faults begun') b.stepped.moment b.answer (has_risen (faults second) (faults begun')) t.never_falls t.is_step t.is_timed t.any_moment t.keeps
 
-    module _ (done : Bool) (left : Serves) (left' : D) (coming_left : Coming) (w : Follows first.store.limits (greatest_session first.store.history + 1) begun begun' coming_begun exchanges done left left' coming_left) where
+    module _ (end : SessionEnd) (done : Bool) (is_done_at : IsDoneAt end done) (left : Serves) (left' : D) (coming_left : Coming) (w : Follows first.store.limits (greatest_session first.store.history + 1) begun begun' coming_begun exchanges done left left' coming_left) where
       so_far : Endures first.store.limits (greatest_session first.store.history + 1) (at_moment b.stepped.moment begin_step ∷ w.steps) (state second) first.store (faults second) (state left') left.store (faults left')
       so_far =
           endures_both first.store.limits (greatest_session first.store.history + 1) (at_moment b.stepped.moment begin_step ∷ []) w.steps (state second) (state begun') (state left') first.store begun.store left.store (faults second) (faults begun') (faults left') begin_endures w.endures
@@ -285,16 +286,17 @@ module _ {D : Type 0} (state : D → DiskState) (faults : D → ℕ) where
             rises = rises_wider exchanges (faults second) (faults begun') (faults left') (faults last') b.stepped.made.never_falls rises w.rises;
           }
 
-      are_steps : (mine : ℕ) (ending : List RunStep) → IsEndStep mine (begin_entry mine ∷ flat_map adds exchanges) ending → AreStepsOf mine exchanges [] (begin_step ∷ (steps_in w.steps ++ ending))
-      are_steps mine ending is = inr (record {
+      are_steps : (mine : ℕ) (ending : List RunStep) → mine ≡ greatest_session first.store.history + 1 → IsEndStep mine (begin_entry mine ∷ flat_map adds exchanges) ending → AreStepsOf end mine exchanges [] (begin_step ∷ (steps_in w.steps ++ ending))
+      are_steps mine ending same is = inr (record {
+        numbered = λ none. absurd (omega (arith, none, same));
         turns = steps_in w.steps;
         ending = ending;
-        are_turns = are_turns done exchanges (steps_in w.steps) w.turns;
+        are_turns = are_turns end done exchanges (steps_in w.steps) is_done_at w.turns;
         is_ending = is;
         parts = ap (λ (xs : List RunStep). begin_step ∷ (steps_in w.steps ++ xs)) (sym (append-nil ending));
       })
 
-      ended : (last : Serves) (last' : D) (coming' : Coming) → is_live left.store.history left.session ≡ true → HasEndedIn state faults left left' coming_left last last' coming' → Given first second coming exchanges last last' coming'
+      ended : (last : Serves) (last' : D) (coming' : Coming) → is_live left.store.history left.session ≡ true → HasEndedIn state faults left left' coming_left last last' coming' → Given end first second coming exchanges last last' coming'
       ended last last' coming' live told =
           let n : ℕ = greatest_session first.store.history + 1 in
           let t = told.stepped.made in
@@ -303,8 +305,8 @@ module _ {D : Type 0} (state : D → DiskState) (faults : D → ℕ) where
             inr (served last last' c.more told.number_stays c.grows (subst (λ (k : ℕ). IsOwn k c.more) w.number_is c.own) c.placed t.never_falls),
             record {
               steps = (at_moment b.stepped.moment begin_step ∷ w.steps) ++ one ∷ [];
-              steps_are = subst (λ (xs : List RunStep). AreStepsOf last.session exchanges [] (begin_step ∷ xs)) (sym (steps_both w.steps (one ∷ [])))
-                  (are_steps last.session (end_step ∷ []) (inl (own_lives last.session true (told.number_stays ∙ w.number_is) live, refl)));
+              steps_are = subst (λ (xs : List RunStep). AreStepsOf end last.session exchanges [] (begin_step ∷ xs)) (sym (steps_both w.steps (one ∷ [])))
+                  (are_steps last.session (end_step ∷ []) (told.number_stays ∙ w.number_is) (inl (own_lives last.session true (told.number_stays ∙ w.number_is) live, refl)));
               exchanges_are = w.exchanges_are ∙ sym (exchanges_both w.steps (one ∷ []) ∙ append-nil (exchanges_of w.steps));
               given = given_push (at_moment b.stepped.moment begin_step ∷ w.steps) told.stepped.moment end_step coming coming_left coming' so_far_given told.stepped.next;
               endures = endures_both first.store.limits n (at_moment b.stepped.moment begin_step ∷ w.steps) (one ∷ []) (state second) (state left') (state last') first.store left.store last.store (faults second) (faults left') (faults last') so_far
@@ -312,67 +314,67 @@ module _ {D : Type 0} (state : D → DiskState) (faults : D → ℕ) where
             },
           )
 
-      over : is_live left.store.history left.session ≡ false → Given first second coming exchanges left left' coming_left
+      over : is_live left.store.history left.session ≡ false → Given end first second coming exchanges left left' coming_left
       over dead = (
         inr (served left left' [] refl (sym (append-nil left.store.history)) refl w.placed (omega arith)),
         record {
           steps = at_moment b.stepped.moment begin_step ∷ w.steps;
-          steps_are = subst (λ (xs : List RunStep). AreStepsOf left.session exchanges [] (begin_step ∷ xs)) (append-nil (steps_in w.steps)) (are_steps left.session [] (inr (own_lives left.session false w.number_is dead, refl)));
+          steps_are = subst (λ (xs : List RunStep). AreStepsOf end left.session exchanges [] (begin_step ∷ xs)) (append-nil (steps_in w.steps)) (are_steps left.session [] w.number_is (inr (own_lives left.session false w.number_is dead, refl)));
           exchanges_are = w.exchanges_are;
           given = so_far_given;
           endures = so_far;
         },
       )
 
-      closed : (last : Serves) (last' : D) (coming' : Coming) → IsLast seen number (HasBegunIn state faults) (HasAskedIn state faults) (HasTendedIn state faults) (HasEndedIn state faults) left left' coming_left last last' coming' → Given first second coming exchanges last last' coming'
+      closed : (last : Serves) (last' : D) (coming' : Coming) → IsLast seen number (HasBegunIn state faults) (HasAskedIn state faults) (HasTendedIn state faults) (HasEndedIn state faults) left left' coming_left last last' coming' → Given end first second coming exchanges last last' coming'
       closed last last' coming' (inl e) = ended last last' coming' e.0 e.1
       closed last last' coming' (inr o) =
-          subst (λ (x : Serves). Given first second coming exchanges x last' coming') (sym o.1)
-          (subst (λ (x : D). Given first second coming exchanges left x coming') (sym o.2) (subst (λ (x : Coming). Given first second coming exchanges left left' x) (sym o.3) (over o.0)))
+          subst (λ (x : Serves). Given end first second coming exchanges x last' coming') (sym o.1)
+          (subst (λ (x : D). Given end first second coming exchanges left x coming') (sym o.2) (subst (λ (x : Coming). Given end first second coming exchanges left left' x) (sym o.3) (over o.0)))
 
     begun_follows : (done : Bool) (left : Serves) (left' : D) (coming_left : Coming) → Chain (HasAskedIn state faults) (HasTendedIn state faults) begun begun' coming_begun exchanges done left left' coming_left
         → Follows first.store.limits (greatest_session first.store.history + 1) begun begun' coming_begun exchanges done left left' coming_left
     begun_follows done left left' coming_left chain =
         follows first.store.limits (greatest_session first.store.history + 1) begun begun' coming_begun opens.number_is b.stepped.made.limits_stay begun_placed exchanges done left left' coming_left chain
 
-  module _ (first : Serves) (second : D) (coming : Coming) (placed : AllPlaced empty_world first.store.history) (unnumbered : first.session ≡ 0) (exchanges : List Exchange) (last : Serves) (last' : D) (coming' : Coming) where
-    untouched : IsUntouched seen number (HasBegunIn state faults) (HasAskedIn state faults) (HasTendedIn state faults) (HasEndedIn state faults) first second coming exchanges last last' coming' → Given first second coming exchanges last last' coming'
+  module _ (first : Serves) (second : D) (coming : Coming) (placed : AllPlaced empty_world first.store.history) (unnumbered : first.session ≡ 0) (end : SessionEnd) (exchanges : List Exchange) (last : Serves) (last' : D) (coming' : Coming) where
+    untouched : IsUntouched seen number (HasBegunIn state faults) (HasAskedIn state faults) (HasTendedIn state faults) (HasEndedIn state faults) end first second coming exchanges last last' coming' → Given end first second coming exchanges last last' coming'
     untouched u =
-        subst (λ (x : List Exchange). Given first second coming x last last' coming') (sym u.none_answered)
-        (subst (λ (x : Serves). Given first second coming [] x last' coming') (sym u.first_stays)
-        (subst (λ (x : D). Given first second coming [] first x coming') (sym u.second_stays)
-        (subst (λ (x : Coming). Given first second coming [] first second x) (sym u.coming_stays) (
+        subst (λ (x : List Exchange). Given end first second coming x last last' coming') (sym u.none_answered)
+        (subst (λ (x : Serves). Given end first second coming [] x last' coming') (sym u.first_stays)
+        (subst (λ (x : D). Given end first second coming [] first x coming') (sym u.second_stays)
+        (subst (λ (x : Coming). Given end first second coming [] first second x) (sym u.coming_stays) (
           inl (unnumbered, refl),
           record {
             steps = [];
-            steps_are = inl (unnumbered, inl refl);
+            steps_are = inl (unnumbered, u.no_step);
             exchanges_are = refl;
             given = given_none coming;
             endures = endures_nothing first.store.limits (greatest_session first.store.history + 1) (state second) first.store (faults second);
           },
         ))))
 
-    not_begun : DidNotBegin seen number (HasBegunIn state faults) (HasAskedIn state faults) (HasTendedIn state faults) (HasEndedIn state faults) first second coming exchanges last last' coming' → Given first second coming exchanges last last' coming'
+    not_begun : DidNotBegin seen number (HasBegunIn state faults) (HasAskedIn state faults) (HasTendedIn state faults) (HasEndedIn state faults) end first second coming exchanges last last' coming' → Given end first second coming exchanges last last' coming'
     not_begun d =
         let b = d.begins in
         let t = b.stepped.made in
-        subst (λ (x : List Exchange). Given first second coming x last last' coming') (sym d.none_answered) (
+        subst (λ (x : List Exchange). Given end first second coming x last last' coming') (sym d.none_answered) (
           inl (d.unnumbered, begins_none first.store last.store b.answer (has_risen (faults second) (faults last')) last.session t.is_step b.number_is d.unnumbered),
           record {
             steps = at_moment b.stepped.moment begin_step ∷ [];
-            steps_are = inl (d.unnumbered, inr refl);
+            steps_are = inl (d.unnumbered, d.only_begin);
             exchanges_are = refl;
             given = given_one b.stepped.moment coming coming' b.stepped.next;
             endures = endures_begin first.store.limits (greatest_session first.store.history + 1) first.store last.store (state second) (state last') (faults second) (faults last') b.stepped.moment b.answer (has_risen (faults second) (faults last')) t.never_falls t.is_step t.is_timed t.any_moment t.keeps;
           },
         )
 
-    sat : IsSat seen number (HasBegunIn state faults) (HasAskedIn state faults) (HasTendedIn state faults) (HasEndedIn state faults) first second coming exchanges last last' coming' → Given first second coming exchanges last last' coming'
+    sat : IsSat seen number (HasBegunIn state faults) (HasAskedIn state faults) (HasTendedIn state faults) (HasEndedIn state faults) end first second coming exchanges last last' coming' → Given end first second coming exchanges last last' coming'
     sat s =
-        closed first second coming placed exchanges s.begun s.begun' s.coming_begun s.begins s.numbered s.done s.left s.left' s.coming_left
+        closed first second coming placed exchanges s.begun s.begun' s.coming_begun s.begins s.numbered end s.done s.is_done_at s.left s.left' s.coming_left
         (begun_follows first second coming placed exchanges s.begun s.begun' s.coming_begun s.begins s.numbered s.done s.left s.left' s.coming_left s.chain) last last' coming' s.last
 
-    pub served_alone : HasServed seen number (HasBegunIn state faults) (HasAskedIn state faults) (HasTendedIn state faults) (HasEndedIn state faults) first second coming exchanges last last' coming' → Given first second coming exchanges last last' coming'
+    pub served_alone : HasServed seen number (HasBegunIn state faults) (HasAskedIn state faults) (HasTendedIn state faults) (HasEndedIn state faults) end first second coming exchanges last last' coming' → Given end first second coming exchanges last last' coming'
     served_alone (inl u) = untouched u
     served_alone (inr (inl d)) = not_begun d
     served_alone (inr (inr s)) = sat s

@@ -31,7 +31,7 @@ use Rattle.green_top.specs.GeneratedRun.{SinkFailed, CouldNotBegin, IsSummedSess
 use Rattle.green_top.specs.Outcome.{NoSession, IsRun, HasServedAlone}
 use Rattle.green_top.specs.declared.words.Form.{Form}
 use Rattle.green_top.specs.declared.words.Form.TheVariants as forms
-use Rattle.green_top.specs.inside.Forms.{limits_of, IsForm, IsFormRun, IsGenerated, IsBehind}
+use Rattle.green_top.specs.inside.Forms.{limits_of, own_end, IsForm, IsFormRun, IsGenerated, IsBehind}
 use Rattle.green_top.proofs.EndedSessions.{run_from, alone_from}
 use Rattle.green_top.specs.Words.{AreWords, AreGenerateWords, AreNoWords, HasLimits}
 use Rattle.green_top.specs.Times.{RunStep, TimedStep, steps_in, moments_kept, AreStepsOf, AreTends}
@@ -210,7 +210,7 @@ generated_from start session before after m history reported exchanges points en
 pub batch_of : (words : List (List ℕ)) (form : Form) (reads left : Option Areas) (before after : IoState) (m : ℕ) (report : Report) (status : ℕ) (opened : List PlainEntry) (moments : List ℕ) (session : ℕ) (history : List PlainEntry) (steps : List TimedStep) (behind : List RunStep)
     (exchanges : List Exchange) (end : SessionEnd) → IsForm words form → IsOpenedFrom reads opened moments → status ≡ status_of end → report.place ≡ place_of end → report.opened ≡ length opened → before.disk_faults ≤ m → plain_history report.history.items ≡ history
     → IsFormRun form session (with_disk_faults before m) after history exchanges report.points.items report.bytes_read end → HasServedAlone opened session history exchanges m after.disk_faults
-    → IsBehind form behind → AreStepsOf session exchanges behind (steps_in steps) → AreMoments moments steps report → IsBatch words reads left before after report steps exchanges status
+    → IsBehind form behind → AreStepsOf (own_end form end) session exchanges behind (steps_in steps) → AreMoments moments steps report → IsBatch words reads left before after report steps exchanges status
 batch_of words (forms.Session limits) reads left before after m report status opened moments session history steps behind exchanges end form from status-is place-is opened-is le is run alone none steps-are are-moments = inr (inl (record {
   limits = limits;
   opened = opened;
@@ -224,7 +224,7 @@ batch_of words (forms.Session limits) reads left before after m report status op
   opened_is = opened-is;
   run = run_from limits session before after m history (plain_history report.history.items) exchanges report.points.items report.bytes_read end le is run;
   alone = alone_from opened session history (plain_history report.history.items) exchanges before.disk_faults m after.disk_faults le is alone;
-  steps_are = subst (λ (xs : List RunStep). AreStepsOf session exchanges xs (steps_in steps)) none steps-are;
+  steps_are = subst (λ (xs : List RunStep). AreStepsOf end session exchanges xs (steps_in steps)) none steps-are;
   are_moments = are-moments;
 }))
 batch_of words (forms.Generate start) reads left before after m report status opened moments session history steps behind exchanges end form from status-is place-is opened-is le is run alone tends steps-are are-moments = inr (inr (record {

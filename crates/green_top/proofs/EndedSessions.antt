@@ -21,6 +21,7 @@ use Rattle.green_top.specs.inside.Next.{NextIs}
 use Rattle.green_top.specs.IoState.{IoState, io_state, with_disk_faults, Moves}
 use Rattle.green_top.specs.Requests.{IsNotGreeted}
 use Rattle.green_top.specs.Ends.{most_input, Cause, NeverBegan}
+use Rattle.green_top.specs.Times.{WithoutSession}
 use Rattle.green_top.specs.Transcript.{IsEnding, Transcript}
 use Rattle.green_top.specs.inside.Opening.{Begins}
 use Rattle.green_top.specs.Outcome.{IsOver, Leaves, IsRun, HasServedAlone}
@@ -255,6 +256,18 @@ module _ (limits : LimitsView) (session : ℕ) (unnumbered : session ≡ 0) (lef
       (waiting_is_open t.read [] (with_piece fresh_feed t.read) feed (given take_answers.Budget t) tt t.comes.0, enough)
       (no_greeting take_answers.Budget t (waits_none t.read t.comes.0))
   run_of_none h points n ends.NoNumber none is t = absurd t
+
+-- at an end that came before the greeting no step was made
+pub no_step : (before after : ReadState) (end : SessionEnd) → NextIs (IsTaken before after) (Err end) → WithoutSession end []
+no_step before after ends.Quit next = refl
+no_step before after ends.End next = refl
+no_step before after (ends.Malformed at) next = refl
+no_step before after (ends.Truncated at) next = refl
+no_step before after ends.ReadFault next = refl
+no_step before after ends.WriteFault next = refl
+no_step before after ends.Memory next = inl refl
+no_step before after ends.Budget next = refl
+no_step before after ends.NoNumber next = absurd next
 
 -- ---- the same, from what the code begins with
 

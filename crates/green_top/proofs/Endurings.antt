@@ -1,6 +1,6 @@
 -- What steps of a session leave on a disk, one after another.
 use Rattle.std.proofs.Common.{◌≡◌, ◌≢◌, ℕ, ◌+◌, ◌≤◌, Bool, true, List, [], ◌∷◌, ◌++◌, length, Option, None, Some, ap, ◌∙◌, refl, sym, subst, inl, inr, ◌⊎◌, arith, append_assoc}
-use Rattle.std.specs.Prelude.{MatchOption}
+use Rattle.std.specs.Prelude.{MatchOption, Err}
 use Rattle.std.proofs.lemmas.List.{append-nil, length-append}
 use Rattle.std.proofs.lemmas.List.Elements.{filter-append}
 use Rattle.febe_data.specs.declared.refusal.Refusal.{Refusal}
@@ -34,10 +34,14 @@ use Rattle.green_store.specs.StoreView.{StoreView, with_one, StandsStill}
 use Rattle.green_store.specs.TimedStep.{IsTimedStep}
 use Rattle.febe_data.specs.declared.request.Request.{Request}
 use Rattle.green_top.specs.Crash.{IsFront, MakesDurableEntry, HoldsFront, WasMade, IsRefusedExchange}
-use Rattle.green_top.specs.Times.{Coming, RunStep, begin_step, ask_step, tend_step, end_step, TimedStep, at_moment, steps_in, exchanges_of, moments_kept, kept_in, AreStepsOf}
+use Rattle.green_top.specs.Times.{Coming, RunStep, begin_step, ask_step, tend_step, end_step, TimedStep, at_moment, steps_in, exchanges_of, moments_kept, kept_in, CutsShort, AreStepsOf}
+use Rattle.green_top.specs.declared.session_end.SessionEnd.{SessionEnd}
+use Rattle.green_top.specs.declared.session_end.SessionEnd.TheVariants as ends
+use Rattle.green_top.specs.GeneratedRun.{inner_end}
+use Rattle.green_top.specs.inside.Summing.{outcome_of}
 use Rattle.green_top.specs.inside.Enduring.{IsMade, StandsOn, HasMoments, Endures, RunsThrough, Settles}
 use Rattle.green_top.proofs.Timings.{given_none}
-use Rattle.green_top.proofs.RunSteps.{steps_both, exchanges_both, kept_both, given_more, steps_behind, at_this, moments_come, for_each_come, timed_more, front_kept}
+use Rattle.green_top.proofs.RunSteps.{steps_both, exchanges_both, kept_both, given_more, steps_behind, unsummed_steps, at_this, moments_come, for_each_come, timed_more, front_kept}
 
 -- what is said of a history that has grown
 
@@ -333,8 +337,8 @@ endures_ask session request reply point before after disk disk' m n moment rises
 
 -- ---- a session, and what was done behind it
 
--- no session was served
-pub runs_not : (limits : LimitsView) (next session : ℕ) (coming : Coming) (disk : DiskState) (store : StoreView) (faults : ℕ) → session ≡ 0 → RunsThrough limits next session [] [] coming coming disk store faults disk store faults
+-- no session was served, for want of memory
+pub runs_not : (limits : LimitsView) (next session : ℕ) (coming : Coming) (disk : DiskState) (store : StoreView) (faults : ℕ) → session ≡ 0 → RunsThrough ends.Memory limits next session [] [] coming coming disk store faults disk store faults
 runs_not limits next session coming disk store faults unnumbered = record {
   steps = [];
   steps_are = inl (unnumbered, inl refl);
@@ -343,13 +347,29 @@ runs_not limits next session coming disk store faults unnumbered = record {
   endures = endures_nothing limits next disk store faults;
 }
 
--- one was, and then trees and pages were put right
-pub runs_on : (limits : LimitsView) (next session session' : ℕ) (exchanges : List Exchange) (coming between coming' : Coming) (a b c : DiskState) (s t u : StoreView) (k m n : ℕ) → session' ≡ session → session ≢ 0 → RunsThrough limits next session exchanges [] coming between a s k b t m
-    → (settles : Settles between coming' b t m c u n) → RunsThrough limits next session' exchanges (steps_in settles.steps) coming coming' a s k c u n
-runs_on limits next session session' exchanges coming between coming' a b c s t u k m n same numbered runs settles = record {
+-- the end is told as another that is the same
+pub runs_as : (end told : SessionEnd) (limits : LimitsView) (next session : ℕ) (exchanges : List Exchange) (behind : List RunStep) (coming coming' : Coming) (a b : DiskState) (s t : StoreView) (m n : ℕ) → told ≡ end → RunsThrough end limits next session exchanges behind coming coming' a s m b t n
+    → RunsThrough told limits next session exchanges behind coming coming' a s m b t n
+runs_as end told limits next session exchanges behind coming coming' a b s t m n same runs = subst (λ (e : SessionEnd). RunsThrough e limits next session exchanges behind coming coming' a s m b t n) (sym same) runs
+
+-- one was, and there is no summary of it
+pub runs_unsummed : (end told : SessionEnd) (limits : LimitsView) (next session : ℕ) (exchanges : List Exchange) (coming coming' : Coming) (a b : DiskState) (s t : StoreView) (m n : ℕ) → outcome_of end ≡ Err told → RunsThrough end limits next session exchanges [] coming coming' a s m b t n
+    → RunsThrough (inner_end told) limits next session exchanges [] coming coming' a s m b t n
+runs_unsummed end told limits next session exchanges coming coming' a b s t m n is runs = record {
+  steps = runs.steps;
+  steps_are = unsummed_steps told session exchanges (steps_in runs.steps) end is runs.steps_are;
+  exchanges_are = runs.exchanges_are;
+  given = runs.given;
+  endures = runs.endures;
+}
+
+-- one was whose replies were all written, and then trees and pages were put right
+pub runs_on : (end told : SessionEnd) → ¬ CutsShort end → (limits : LimitsView) (next session session' : ℕ) (exchanges : List Exchange) (coming between coming' : Coming) (a b c : DiskState) (s t u : StoreView) (k m n : ℕ) → session' ≡ session → session ≢ 0 → RunsThrough end limits next session exchanges [] coming between a s k b t m
+    → (settles : Settles between coming' b t m c u n) → RunsThrough told limits next session' exchanges (steps_in settles.steps) coming coming' a s k c u n
+runs_on end told whole limits next session session' exchanges coming between coming' a b c s t u k m n same numbered runs settles = record {
   steps = runs.steps ++ settles.steps;
-  steps_are = subst (λ (x : ℕ). AreStepsOf x exchanges (steps_in settles.steps) (steps_in (runs.steps ++ settles.steps))) (sym same)
-      (subst (λ (xs : List RunStep). AreStepsOf session exchanges (steps_in settles.steps) xs) (sym (steps_both runs.steps settles.steps)) (steps_behind session exchanges (steps_in runs.steps) (steps_in settles.steps) numbered runs.steps_are));
+  steps_are = subst (λ (x : ℕ). AreStepsOf told x exchanges (steps_in settles.steps) (steps_in (runs.steps ++ settles.steps))) (sym same)
+      (subst (λ (xs : List RunStep). AreStepsOf told session exchanges (steps_in settles.steps) xs) (sym (steps_both runs.steps settles.steps)) (steps_behind end told session exchanges (steps_in runs.steps) (steps_in settles.steps) whole numbered runs.steps_are));
   exchanges_are = runs.exchanges_are ∙ sym (exchanges_both runs.steps settles.steps ∙ ap (λ (es : List Exchange). exchanges_of runs.steps ++ es) settles.none_asked ∙ append-nil (exchanges_of runs.steps));
   given = given_more runs.steps settles.steps coming between coming' runs.given settles.given;
   endures = endures_both limits next runs.steps settles.steps a b c s t u k m n runs.endures (settles.endures limits next);

@@ -1,5 +1,6 @@
 -- The steps of a run: which they are, and the moments of the kept entries that they make.
 use Rattle.std.proofs.Common.{◌≡◌, ◌≢◌, ℕ, ◌+◌, ◌≤◌, Bool, true, false, List, [], ◌∷◌, ◌++◌, length, map, refl, ap, ◌∙◌, sym, subst, inl, inr, arith, append_assoc}
+use Rattle.std.specs.Prelude.{Result, Ok, Err}
 use Rattle.std.specs.List.{flat_map}
 use Rattle.std.proofs.lemmas.List.{append-nil, length-append, length-map, map-append}
 use Rattle.std.proofs.lemmas.List.Concat.{flat_map-append}
@@ -12,7 +13,12 @@ use Rattle.world_rules.specs.Legal.{Exchange}
 use Rattle.green_store.specs.StoreView.{StoreView}
 use Rattle.green_store.specs.TimedStep.{IsTimedStep}
 use Rattle.green_top.specs.Crash.{IsFront}
-use Rattle.green_top.specs.Times.{Coming, GivenBy, RunStep, begin_step, ask_step, tend_step, TimedStep, at_moment, steps_in, moments_in, exchange_in, exchanges_of, moments_of_step, moments_kept, turns_of, AreTurns, IsEndStep, AreSessionSteps, AreStepsOf, AreTends}
+use Rattle.green_top.specs.Times.{Coming, GivenBy, RunStep, begin_step, ask_step, tend_step, TimedStep, at_moment, steps_in, moments_in, exchange_in, exchanges_of, moments_of_step, moments_kept, turns_of, CutsShort, AreTurns, IsEndStep, AreSessionSteps, WithoutSession, AreStepsOf, AreTends}
+use Rattle.green_top.specs.declared.session_end.SessionEnd.{SessionEnd}
+use Rattle.green_top.specs.declared.session_end.SessionEnd.TheVariants as ends
+use Rattle.green_top.specs.GeneratedRun.{inner_end}
+use Rattle.green_top.specs.inside.Play.{IsDoneAt}
+use Rattle.green_top.specs.inside.Summing.{outcome_of}
 use Rattle.green_top.specs.inside.Enduring.{HasMoments}
 use Rattle.green_top.proofs.Timings.{given_one, given_both}
 
@@ -49,9 +55,9 @@ abbrev pub TurnsBy : Bool → List Exchange → List RunStep → Type 0
 TurnsBy true exchanges steps = steps ≡ turns_of exchanges
 TurnsBy false exchanges steps = steps ++ tend_step ∷ [] ≡ turns_of exchanges
 
-pub are_turns : (done : Bool) (exchanges : List Exchange) (steps : List RunStep) → TurnsBy done exchanges steps → AreTurns exchanges steps
-are_turns true exchanges steps turns = inl turns
-are_turns false exchanges steps turns = inr turns
+pub are_turns : (end : SessionEnd) (done : Bool) (exchanges : List Exchange) (steps : List RunStep) → IsDoneAt end done → TurnsBy done exchanges steps → AreTurns end exchanges steps
+are_turns end true exchanges steps is turns = inl turns
+are_turns end false exchanges steps is turns = inr (is, turns)
 
 abbrev turn : Exchange → List RunStep
 turn e = ask_step e ∷ tend_step ∷ []
@@ -64,16 +70,70 @@ pub tends_push : (steps : List RunStep) → AreTends steps → AreTends (steps +
 tends_push [] all = (refl, tt)
 tends_push (x ∷ steps) all = (all.0, tends_push steps all.1)
 
--- a session that began, and then what was done behind it
-pub steps_behind : (session : ℕ) (exchanges : List Exchange) (steps behind : List RunStep) → session ≢ 0 → AreStepsOf session exchanges [] steps → AreStepsOf session exchanges behind (steps ++ behind)
-steps_behind session exchanges steps behind numbered (inl none) = absurd (numbered none.0)
-steps_behind session exchanges steps behind numbered (inr s) = inr (record {
+-- where each reply was written all turns are over, whatever the end is then said to be
+turns_over : (end told : SessionEnd) (exchanges : List Exchange) (steps : List RunStep) → ¬ CutsShort end → AreTurns end exchanges steps → AreTurns told exchanges steps
+turns_over end told exchanges steps whole (inl turns) = inl turns
+turns_over end told exchanges steps whole (inr cut) = absurd (whole cut.0)
+
+-- a session that began and whose replies were all written, and then what was done behind it
+pub steps_behind : (end told : SessionEnd) (session : ℕ) (exchanges : List Exchange) (steps behind : List RunStep) → ¬ CutsShort end → session ≢ 0 → AreStepsOf end session exchanges [] steps → AreStepsOf told session exchanges behind (steps ++ behind)
+steps_behind end told session exchanges steps behind whole numbered (inl none) = absurd (numbered none.0)
+steps_behind end told session exchanges steps behind whole numbered (inr s) = inr (record {
+  numbered = s.numbered;
   turns = s.turns;
   ending = s.ending;
-  are_turns = s.are_turns;
+  are_turns = turns_over end told exchanges s.turns whole s.are_turns;
   is_ending = s.is_ending;
   parts = ap (λ (xs : List RunStep). xs ++ behind) (s.parts ∙ ap (λ (xs : List RunStep). begin_step ∷ (s.turns ++ xs)) (append-nil s.ending)) ∙ ap (λ (xs : List RunStep). begin_step ∷ xs) (append_assoc s.turns s.ending behind);
 })
+
+-- ---- a session whose output comes into memory
+
+abbrev IsDone : Result (Unit {0}) SessionEnd → Type 0
+IsDone (Ok done) = Unit {0}
+IsDone (Err end) = ⊥
+
+abbrev end_in : Result (Unit {0}) SessionEnd → SessionEnd
+end_in (Ok done) = ends.Quit
+end_in (Err end) = end
+
+-- where a summary is to be written each reply was
+pub all_written : (end : SessionEnd) (done : Unit {0}) → outcome_of end ≡ Ok done → ¬ CutsShort end
+all_written ends.Quit done is cut = cut
+all_written ends.End done is cut = cut
+all_written (ends.Malformed at) done is cut = cut
+all_written (ends.Truncated at) done is cut = cut
+all_written ends.ReadFault done is cut = cut
+all_written ends.WriteFault done is cut = subst IsDone (sym is) tt
+all_written ends.Memory done is cut = subst IsDone (sym is) tt
+all_written ends.Budget done is cut = cut
+all_written ends.NoNumber done is cut = cut
+
+turns_cut : (end : SessionEnd) (exchanges : List Exchange) (steps : List RunStep) → AreTurns end exchanges steps → AreTurns ends.Memory exchanges steps
+turns_cut end exchanges steps (inl turns) = inl turns
+turns_cut end exchanges steps (inr cut) = inr (tt, cut.1)
+
+-- the steps of a session whose end is told as another
+module _ (told : SessionEnd) (session : ℕ) (exchanges : List Exchange) (steps : List RunStep) where
+  told_so : (it : SessionEnd) → told ≡ it → AreStepsOf (inner_end it) session exchanges [] steps → AreStepsOf (inner_end told) session exchanges [] steps
+  told_so it same steps_are = subst (λ (x : SessionEnd). AreStepsOf (inner_end x) session exchanges [] steps) (sym same) steps_are
+
+  as_memory : (end : SessionEnd) → (WithoutSession end steps → steps ≡ []) → told ≡ ends.Memory → AreStepsOf end session exchanges [] steps → AreStepsOf (inner_end told) session exchanges [] steps
+  as_memory end none same (inl w) = told_so ends.Memory same (inl (w.0, inl (none w.1)))
+  as_memory end none same (inr s) =
+      told_so ends.Memory same (inr (record { numbered = s.numbered; turns = s.turns; ending = s.ending; are_turns = turns_cut end exchanges s.turns s.are_turns; is_ending = s.is_ending; parts = s.parts }))
+
+  -- where there is no summary, the steps are those of the end that is told in its place
+  pub unsummed_steps : (end : SessionEnd) → outcome_of end ≡ Err told → AreStepsOf end session exchanges [] steps → AreStepsOf (inner_end told) session exchanges [] steps
+  unsummed_steps ends.Quit is steps_are = absurd (subst IsDone is tt)
+  unsummed_steps ends.End is steps_are = absurd (subst IsDone is tt)
+  unsummed_steps (ends.Malformed at) is steps_are = as_memory (ends.Malformed at) (λ none. none) (sym (ap end_in is)) steps_are
+  unsummed_steps (ends.Truncated at) is steps_are = as_memory (ends.Truncated at) (λ none. none) (sym (ap end_in is)) steps_are
+  unsummed_steps ends.ReadFault is steps_are = as_memory ends.ReadFault (λ none. none) (sym (ap end_in is)) steps_are
+  unsummed_steps ends.WriteFault is steps_are = as_memory ends.WriteFault (λ none. none) (sym (ap end_in is)) steps_are
+  unsummed_steps ends.Memory is steps_are = told_so ends.Memory (sym (ap end_in is)) steps_are
+  unsummed_steps ends.Budget is steps_are = as_memory ends.Budget (λ none. none) (sym (ap end_in is)) steps_are
+  unsummed_steps ends.NoNumber is steps_are = told_so ends.NoNumber (sym (ap end_in is)) steps_are
 
 -- ---- the moments of kept entries
 

@@ -11,6 +11,7 @@ use Rattle.world_rules.specs.History.{is_live, entries_of}
 use Rattle.world_rules.specs.Legal.{Exchange}
 use Rattle.green_store.specs.Sessions.{begin_entry}
 use Rattle.green_top.specs.Served.{told_by_act, told_by_exchange, moment_of, AreEnds, HasPlayedSession, HasSatActs}
+use Rattle.green_top.specs.declared.session_end.SessionEnd.{SessionEnd}
 use Rattle.green_top.specs.Times.{Coming, GivenBy}
 use Rattle.green_top.specs.inside.Behind.{GainsAct, HasBegunBehind, HasAskedBehind, HasEndedBehind}
 use Rattle.green_top.specs.inside.Play.{Chain, nothing, asked, tended, IsSat, HasServed}
@@ -125,12 +126,12 @@ module _ {F S : Type 0} (know : F → View PlainEntry) where
       subst (λ (c : Coming). HasAskedAll (know first) coming exchanges (know first') c) (sym left.1)
       (subst (λ (f : F). HasAskedAll (know first) coming exchanges (know f) coming_between) (sym left.0) (chain_asks first second coming exchanges false between between' coming_between chain))
 
-  abbrev HasSatBehind : F → S → Coming → List Exchange → F → S → Coming → Type 0
-  HasSatBehind first second coming exchanges first' second' coming' = IsSat (λ f s. (know f).seen) (λ f. (know f).number) BeginsSo AsksSo TendsSo EndsSo first second coming exchanges first' second' coming'
+  abbrev HasSatBehind : SessionEnd → F → S → Coming → List Exchange → F → S → Coming → Type 0
+  HasSatBehind end first second coming exchanges first' second' coming' = IsSat (λ f s. (know f).seen) (λ f. (know f).number) BeginsSo AsksSo TendsSo EndsSo end first second coming exchanges first' second' coming'
 
-  sat_acts : (first : F) (second : S) (coming : Coming) (exchanges : List Exchange) (first' : F) (second' : S) (coming' : Coming) → HasSatBehind first second coming exchanges first' second' coming'
+  sat_acts : (end : SessionEnd) (first : F) (second : S) (coming : Coming) (exchanges : List Exchange) (first' : F) (second' : S) (coming' : Coming) → HasSatBehind end first second coming exchanges first' second' coming'
       → HasPlayedSession exchanges (know first) (know first') coming coming' × GoesOn (know first) (know first')
-  sat_acts first second coming exchanges first' second' coming' sat =
+  sat_acts end first second coming exchanges first' second' coming' sat =
       let begun : HasBegunBehind (know first) coming (know sat.begun) sat.coming_begun = sat.begins in
       let all = chain_asks sat.begun sat.begun' sat.coming_begun exchanges sat.done sat.left sat.left' sat.coming_left sat.chain in
       let gone = goes_on_further (know first) (know sat.begun) (know sat.left) (gains_on (know first) (know sat.begun) coming sat.coming_begun begun.act begun.gains) all.goes_on in
@@ -149,14 +150,14 @@ module _ {F S : Type 0} (know : F → View PlainEntry) where
             )
       ]
 
-  pub served_acts : (first : F) (second : S) (coming : Coming) (exchanges : List Exchange) (first' : F) (second' : S) (coming' : Coming)
+  pub served_acts : (end : SessionEnd) (first : F) (second : S) (coming : Coming) (exchanges : List Exchange) (first' : F) (second' : S) (coming' : Coming)
       → HasServed (λ f s. (know f).seen) (λ f. (know f).number) (λ f s c f' s' c'. HasBegunBehind (know f) c (know f') c') (λ f s c e f' s' c'. HasAskedBehind (know f) c e (know f') c') (λ f s c f' s' c'. (f' ≡ f) × (c' ≡ c))
-      (λ f s c f' s' c'. HasEndedBehind (know f) c (know f') c') first second coming exchanges first' second' coming'
+      (λ f s c f' s' c'. HasEndedBehind (know f) c (know f') c') end first second coming exchanges first' second' coming'
       → HasSatActs exchanges (know first) (know first') coming coming' × GoesOn (know first) (know first')
-  served_acts first second coming exchanges first' second' coming' (inl none) =
+  served_acts end first second coming exchanges first' second' coming' (inl none) =
       (inl (record { none_answered = none.none_answered; stays = ap know none.first_stays; not_asked = none.coming_stays }), stays_on (know first) (know first') (ap know none.first_stays))
-  served_acts first second coming exchanges first' second' coming' (inr (inl one)) = (
+  served_acts end first second coming exchanges first' second' coming' (inr (inl one)) = (
     inr (inl (record { none_answered = one.none_answered; unnumbered = one.unnumbered; begin = one.begins.act; acts_are = one.begins.gains.acts_are; timed = timed_one (know first) (know first') coming coming' one.begins.act one.begins.gains })),
     gains_on (know first) (know first') coming coming' one.begins.act one.begins.gains,
   )
-  served_acts first second coming exchanges first' second' coming' (inr (inr sat)) = let both = sat_acts first second coming exchanges first' second' coming' sat in (inr (inr both.0), both.1)
+  served_acts end first second coming exchanges first' second' coming' (inr (inr sat)) = let both = sat_acts end first second coming exchanges first' second' coming' sat in (inr (inr both.0), both.1)

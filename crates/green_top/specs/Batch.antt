@@ -14,7 +14,7 @@ use Rattle.green_store.specs.Opening.{IsOpenedFrom, IsDamagedLog, LeavesMisspell
 use Rattle.green_top.specs.declared.report.Report.{Report}
 use Rattle.green_top.specs.declared.session_end.SessionEnd.{SessionEnd}
 use Rattle.green_top.specs.declared.session_end.SessionEnd.TheVariants as ends
-use Rattle.green_top.specs.GeneratedRun.{IsGeneratedRun}
+use Rattle.green_top.specs.GeneratedRun.{IsGeneratedRun, inner_end}
 use Rattle.green_top.specs.IoState.{IoState, with_disk_faults}
 use Rattle.green_top.specs.Outcome.{IsRun, HasServedAlone}
 use Rattle.green_top.specs.Times.{RunStep, TimedStep, steps_in, moments_kept, AreStepsOf, AreTends}
@@ -106,7 +106,7 @@ pub record Opened (words : List (List ℕ)) (reads : Option Areas) (before after
   pub opened_is : report.opened ≡ length opened
   pub run : IsRun limits session before after (plain_history report.history.items) exchanges report.points.items report.bytes_read end
   pub alone : HasServedAlone opened session (plain_history report.history.items) exchanges before.disk_faults after.disk_faults
-  pub steps_are : AreStepsOf session exchanges [] (steps_in steps)
+  pub steps_are : AreStepsOf end session exchanges [] (steps_in steps)
   pub are_moments : AreMoments moments steps report
 
 -- A back end opened so under the standard limits, and the session that the words' start generates, which it served alone, ended so.
@@ -127,7 +127,7 @@ pub record OpenedGenerated (words : List (List ℕ)) (reads : Option Areas) (bef
   pub run : IsGeneratedRun start session before after (plain_history report.history.items) exchanges report.points.items end
   pub alone : HasServedAlone opened session (plain_history report.history.items) exchanges before.disk_faults after.disk_faults
   pub put_right : AreTends behind
-  pub steps_are : AreStepsOf session exchanges behind (steps_in steps)
+  pub steps_are : AreStepsOf (inner_end end) session exchanges behind (steps_in steps)
   pub are_moments : AreMoments moments steps report
 
 -- A call from this source, sink and disk to those left the report, made these steps, answered requests in these exchanges, and then

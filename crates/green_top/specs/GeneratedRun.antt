@@ -28,6 +28,11 @@ AnsweredAndSummed ends.WriteFault all answered summary written = (answered ≡ a
 AnsweredAndSummed ends.Memory all answered summary written = AreFirstOf answered all × (written ≡ [])
 AnsweredAndSummed other all answered summary written = ⊥
 
+-- How the session itself ended in a run that ended so: a sink that failed took the summary, when all replies were there.
+abbrev pub inner_end : SessionEnd → SessionEnd
+inner_end ends.WriteFault = ends.Quit
+inner_end other = other
+
 -- the sink failed where the session ended so for that
 abbrev pub SinkFailed : SessionEnd → IoState → IoState → Type 0
 SinkFailed ends.WriteFault before after = HasRisen before.sink_faults after.sink_faults

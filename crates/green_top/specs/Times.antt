@@ -1,10 +1,12 @@
 -- The steps of a run, and the moments that a clock gave for them.
-use Rattle.std.specs.Prelude.{◌≡◌, ◌⊎◌, ℕ, ◌+◌, ◌<◌, true, false, List, [], ◌∷◌, ◌++◌, length, map, slice_index, Option, None, Some}
+use Rattle.std.specs.Prelude.{◌≡◌, ◌≢◌, ◌⊎◌, ℕ, ◌+◌, ◌<◌, true, false, List, [], ◌∷◌, ◌++◌, length, map, slice_index, Option, None, Some}
 use Rattle.std.specs.List.{flat_map, AllByRecursion}
 use Rattle.febe_data.specs.Plain.{PlainEntry}
 use Rattle.world_rules.specs.History.{durable_entries, is_live}
 use Rattle.world_rules.specs.Legal.{Exchange}
 use Rattle.green_store.specs.Sessions.{begin_entry}
+use Rattle.green_top.specs.declared.session_end.SessionEnd.{SessionEnd}
+use Rattle.green_top.specs.declared.session_end.SessionEnd.TheVariants as ends
 
 -- the answers that a clock has still to give, of which 0 has the next, where it tells them
 abbrev pub Coming : Type 0
@@ -73,26 +75,39 @@ moments_kept steps = flat_map moments_of_step steps
 abbrev pub turns_of : List Exchange → List RunStep
 turns_of exchanges = flat_map (λ (e : Exchange). ask_step e ∷ tend_step ∷ []) exchanges
 
--- But nothing is put right behind a reply that could not be written, which is the last.
-abbrev pub AreTurns : List Exchange → List RunStep → Type 0
-AreTurns exchanges steps = (steps ≡ turns_of exchanges) ⊎ (steps ++ tend_step ∷ [] ≡ turns_of exchanges)
+-- A session that ended so may have had a last reply that could not be written: the sink failed, or there was no memory to spell it.
+abbrev pub CutsShort : SessionEnd → Type 0
+CutsShort ends.WriteFault = Unit {0}
+CutsShort ends.Memory = Unit {0}
+CutsShort other = ⊥
+
+-- But behind a last reply that could not be written nothing is put right.
+abbrev pub AreTurns : SessionEnd → List Exchange → List RunStep → Type 0
+AreTurns end exchanges steps = (steps ≡ turns_of exchanges) ⊎ (CutsShort end × (steps ++ tend_step ∷ [] ≡ turns_of exchanges))
 
 -- There is an End where the session's own entries leave it live.
 abbrev pub IsEndStep : ℕ → List PlainEntry → List RunStep → Type 0
 IsEndStep session own steps = ((is_live own session ≡ true) × (steps ≡ end_step ∷ [])) ⊎ ((is_live own session ≡ false) × (steps ≡ []))
 
--- A session's steps: its Begin, those for its exchanges, and its End; and what was done behind it.
-pub record AreSessionSteps (session : ℕ) (exchanges : List Exchange) (behind steps : List RunStep) : Type 0 where
+-- The steps of a session that ended so: its Begin, those for its exchanges, and its End; and what was done behind it.
+pub record AreSessionSteps (end : SessionEnd) (session : ℕ) (exchanges : List Exchange) (behind steps : List RunStep) : Type 0 where
+  pub numbered : session ≢ 0
   pub turns : List RunStep
   pub ending : List RunStep
-  pub are_turns : AreTurns exchanges turns
+  pub are_turns : AreTurns end exchanges turns
   pub is_ending : IsEndStep session (begin_entry session ∷ flat_map (λ (e : Exchange). e.added) exchanges) ending
   pub parts : steps ≡ begin_step ∷ (turns ++ (ending ++ behind))
 
--- No session came of it, and nothing was done, or a Begin alone; or these are the steps of a session and those behind it.
-abbrev pub AreStepsOf : (session : ℕ) → List Exchange → (behind steps : List RunStep) → Type 0
-AreStepsOf session exchanges behind steps =
-    ((session ≡ 0) × ((steps ≡ []) ⊎ (steps ≡ begin_step ∷ []))) ⊎ AreSessionSteps session exchanges behind steps
+-- The steps where no session came of it, and the end was this: a Begin alone, where each number was taken; nothing or a Begin alone,
+-- for want of memory; and nothing at any other end.
+abbrev pub WithoutSession : SessionEnd → List RunStep → Type 0
+WithoutSession ends.NoNumber steps = steps ≡ begin_step ∷ []
+WithoutSession ends.Memory steps = (steps ≡ []) ⊎ (steps ≡ begin_step ∷ [])
+WithoutSession other steps = steps ≡ []
+
+-- No session came of it; or these are the steps of a session that ended so, and those behind it.
+abbrev pub AreStepsOf : SessionEnd → (session : ℕ) → List Exchange → (behind steps : List RunStep) → Type 0
+AreStepsOf end session exchanges behind steps = ((session ≡ 0) × WithoutSession end steps) ⊎ AreSessionSteps end session exchanges behind steps
 
 -- trees and pages were put right, step by step, and nothing else was done
 abbrev pub AreTends : List RunStep → Type 0

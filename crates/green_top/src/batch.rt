@@ -14,7 +14,7 @@ ghost use Rattle.green_top.specs.Times.{RunStep};
 ghost use Rattle.green_top.specs.Words.{AreNoWords, AreGenerateWords};
 ghost use Rattle.green_top.specs.inside.Conversation.{io_by};
 ghost use Rattle.green_top.specs.inside.Enduring.{RunsThrough};
-ghost use Rattle.green_top.specs.inside.Forms.{limits_of, IsFormRun, IsGenerated, IsBehind};
+ghost use Rattle.green_top.specs.inside.Forms.{limits_of, own_end, IsFormRun, IsGenerated, IsBehind};
 
 use crate::beside::{Serves, serve_beside};
 use crate::generate::serve_generated;
@@ -69,7 +69,7 @@ fn serve_form<C: Clock, S: Source, K: Sink, D: Disk>(
         serves.new.store.history exchanges result.points.items result.bytes_read result.end
         × HasServedAlone serves.old.store.history serves.new.session serves.new.store.history exchanges (D.fault_count disk.old) (D.fault_count disk.new)
         × (behind : List RunStep) × IsBehind form.now behind
-        × RunsThrough serves.old.store.limits (greatest_session serves.old.store.history + 1) serves.new.session exchanges behind (C.coming clock.old) (C.coming clock.new) (D.state disk.old) serves.old.store (D.fault_count disk.old) (D.state disk.new) serves.new.store (D.fault_count disk.new) }
+        × RunsThrough (own_end form.now result.end) serves.old.store.limits (greatest_session serves.old.store.history + 1) serves.new.session exchanges behind (C.coming clock.old) (C.coming clock.new) (D.state disk.old) serves.old.store (D.fault_count disk.old) (D.state disk.new) serves.new.store (D.fault_count disk.new) }
     ensures source { IsGenerated form.now → source.new ≡ source.old }
 {
     match form {
@@ -84,11 +84,14 @@ fn serve_form<C: Clock, S: Source, K: Sink, D: Disk>(
 /// The words are the program's name and a folder, and perhaps `--limits` with the greatest numbers of kept entries and
 /// of content bytes and the number of entries between pages, each in decimal. Or behind the folder stands `--generate` with a
 /// number, from which the session's 2,010 requests are made: the source is left alone, and in place of the replies a summary of
-/// seven lines is written once the session is over. The number is the status that the program ends with: 0 where a quit was answered or the input ended between requests, 2 where the words are wrong, 3 where the
-/// input is malformed and 4 where it is cut off, both with the place, 5 and 6 where the source or the sink failed, 7 where the
-/// disk failed while the log was opened, 8 where the log is damaged, with the place, 9 for want of memory, 10 where as many
-/// bytes were read as a session may give and another read was needed, and 11 where no session number is left. Replies to
-/// whole requests in front of what ends a session are written, and a session that began has its End.
+/// seven lines is written once the session is over.
+///
+/// The number is the status that the program ends with: 0 where a quit was answered or the input ended between requests, 2
+/// where the words are wrong, 3 where the input is malformed and 4 where it is cut off, both with the place, 5 and 6 where the
+/// source or the sink failed, 7 where the disk failed while the log was opened, 8 where the log is damaged, with the place, 9
+/// for want of memory, 10 where as many bytes were read as a session may give and another read was needed, and 11 where no
+/// session number is left. Replies to whole requests in front of what ends a session are written, and a session that began has
+/// its End.
 ///
 /// An edit is in the log before its reply is written. Once opened, a disk that fails ends no run: the edit is refused, and a
 /// crash, or the end of the run, may leave it in the log or not.

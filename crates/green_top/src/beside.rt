@@ -137,7 +137,7 @@ pub(crate) fn serve_beside<C: Clock, S: Source, K: Sink, D: Disk>(
         × IsRun serves.old.store.limits serves.new.session (io_by S.left S.fault_count K.taken K.fault_count source.old sink.old (D.fault_count disk.old)) (io_by S.left S.fault_count K.taken K.fault_count source.new sink.new (D.fault_count disk.new))
         serves.new.store.history exchanges result.points.items result.bytes_read result.end
         × HasServedAlone serves.old.store.history serves.new.session serves.new.store.history exchanges (D.fault_count disk.old) (D.fault_count disk.new)
-        × RunsThrough serves.old.store.limits (greatest_session serves.old.store.history + 1) serves.new.session exchanges [] (C.coming clock.old) (C.coming clock.new) (D.state disk.old) serves.old.store (D.fault_count disk.old) (D.state disk.new) serves.new.store (D.fault_count disk.new) }
+        × RunsThrough result.end serves.old.store.limits (greatest_session serves.old.store.history + 1) serves.new.session exchanges [] (C.coming clock.old) (C.coming clock.new) (D.state disk.old) serves.old.store (D.fault_count disk.old) (D.state disk.new) serves.new.store (D.fault_count disk.new) }
 {
     let player = Beside::<D> { over: PhantomData };
     serve(alloc, &player, serves, disk, clock, source, sink)

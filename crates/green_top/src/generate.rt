@@ -9,7 +9,7 @@ ghost use Rattle.green_store.specs.Sessions.{greatest_session};
 ghost use Rattle.session_generator.specs.Generated.{generated_requests};
 ghost use Rattle.green_top.specs.IoState.{io_state};
 ghost use Rattle.green_top.specs.Outcome.{HasServedAlone};
-ghost use Rattle.green_top.specs.GeneratedRun.{IsGeneratedRun};
+ghost use Rattle.green_top.specs.GeneratedRun.{IsGeneratedRun, inner_end};
 ghost use Rattle.green_top.specs.Times.{RunStep, AreTends};
 ghost use Rattle.green_top.specs.inside.Enduring.{RunsThrough, Settles};
 ghost use Rattle.green_top.specs.Summary.{summary_of};
@@ -82,7 +82,8 @@ fn serve_input<C: Clock, D: Disk>(
     requires none_yet { output.old.taken ≡ [] }
     ensures run { (exchanges : _) × IsInnerRun start serves.new.session result.outcome serves.new.store.history exchanges result.points.items output.new.taken
         × HasServedAlone serves.old.store.history serves.new.session serves.new.store.history exchanges (D.fault_count disk.old) (D.fault_count disk.new)
-        × RunsThrough serves.old.store.limits (greatest_session serves.old.store.history + 1) serves.new.session exchanges [] (C.coming clock.old) (C.coming clock.new) (D.state disk.old) serves.old.store (D.fault_count disk.old) (D.state disk.new) serves.new.store (D.fault_count disk.new) }
+        × (end : _) × (result.outcome ≡ outcome_of end)
+        × RunsThrough end serves.old.store.limits (greatest_session serves.old.store.history + 1) serves.new.session exchanges [] (C.coming clock.old) (C.coming clock.new) (D.state disk.old) serves.old.store (D.fault_count disk.old) (D.state disk.new) serves.new.store (D.fault_count disk.new) }
 {
     let Ok(input) = input_of(alloc, start) else {
         let outcome = Err(SessionEnd::Memory);
@@ -154,7 +155,7 @@ pub(crate) fn serve_generated<C: Clock, K: Sink, D: Disk>(
         serves.new.store.history exchanges result.points.items result.end)
         × HasServedAlone serves.old.store.history serves.new.session serves.new.store.history exchanges (D.fault_count disk.old) (D.fault_count disk.new)
         × (behind : ListOf RunStep) × AreTends behind
-        × RunsThrough serves.old.store.limits (greatest_session serves.old.store.history + 1) serves.new.session exchanges behind (C.coming clock.old) (C.coming clock.new) (D.state disk.old) serves.old.store (D.fault_count disk.old) (D.state disk.new) serves.new.store (D.fault_count disk.new) }
+        × RunsThrough (inner_end result.end) serves.old.store.limits (greatest_session serves.old.store.history + 1) serves.new.session exchanges behind (C.coming clock.old) (C.coming clock.new) (D.state disk.old) serves.old.store (D.fault_count disk.old) (D.state disk.new) serves.new.store (D.fault_count disk.new) }
     ensures nothing_read { result.bytes_read ≡ 0 }
 {
     let mut output = KeptSink::new(alloc);

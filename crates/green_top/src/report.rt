@@ -17,7 +17,7 @@ pub struct Report {
     pub points: List<u64>,
     /// How many bytes the source gave.
     pub bytes_read: u64,
-    /// The offset in the input that the status names; 0 where it names none.
+    /// The offset that the status names, in the input or in the area of a damaged log; 0 where it names none.
     pub place: u64,
 }
 

@@ -45,7 +45,7 @@ fn converse<P: PlaySession, C: Clock, S: Source, K: Sink>(
     ensures number { P.number first.new ≡ P.number first.old }
     ensures conversed { let state = state_by P.seen P.faults S.left S.fault_count K.taken K.fault_count in
         (exchanges : _) × IsConversed (P.limits first.old) (P.number first.old) (state first.old second.old source.old sink.old talk.old) (state first.new second.new source.new sink.new talk.new) exchanges result.end
-        × Leads P.tells P.tended first.old second.old (C.coming clock.old) exchanges first.new second.new (C.coming clock.new) }
+        × Leads P.tells P.tended result.end first.old second.old (C.coming clock.old) exchanges first.new second.new (C.coming clock.new) }
     ensures live { is_live (P.seen first.new second.new) (P.number first.new) ≡ result.live }
 {
     match put_bytes(sink, b"P0~") {
@@ -82,7 +82,7 @@ fn run_session<P: PlaySession, C: Clock, S: Source, K: Sink>(
     ensures ready { P.ready player.now first.new second.new }
     ensures session { let state = state_by P.seen P.faults S.left S.fault_count K.taken K.fault_count in
         (exchanges : _) × IsSession (P.limits first.old) (P.number first.new) (state first.old second.old source.old sink.old talk.old) (state first.new second.new source.new sink.new talk.new) exchanges result
-        × HasSat P.seen P.number P.begun P.tells P.tended P.ended first.old second.old (C.coming clock.old) exchanges first.new second.new (C.coming clock.new) }
+        × HasSat P.seen P.number P.begun P.tells P.tended P.ended result first.old second.old (C.coming clock.old) exchanges first.new second.new (C.coming clock.new) }
 {
     match player.begin(alloc, first, second, clock) {
         Beginning::Begun => {}
@@ -114,7 +114,7 @@ pub(crate) fn serve<P: PlaySession, C: Clock, S: Source, K: Sink>(
     ensures ready { P.ready player.now first.new second.new }
     ensures run { let io = io_by S.left S.fault_count K.taken K.fault_count in
         (exchanges : _) × IsRun (P.limits first.old) (P.number first.new) (io source.old sink.old (P.faults first.old second.old)) (io source.new sink.new (P.faults first.new second.new)) (P.seen first.new second.new) exchanges result.points.items result.bytes_read result.end
-        × HasServed P.seen P.number P.begun P.tells P.tended P.ended first.old second.old (C.coming clock.old) exchanges first.new second.new (C.coming clock.new) }
+        × HasServed P.seen P.number P.begun P.tells P.tended P.ended result.end first.old second.old (C.coming clock.old) exchanges first.new second.new (C.coming clock.new) }
 {
     let mut feed = Feed::new(alloc);
     let mut turns = Turns::new(MOST_INPUT);

@@ -35,7 +35,7 @@ sees_back session left right same = record {
 -- ---- a step
 
 -- a query has no effect
-query_none : (world : World) (session : ℕ) (request : PlainRequest) → is_query request ≡ true → effect world session request ≡ None
+pub query_none : (world : World) (session : ℕ) (request : PlainRequest) → is_query request ≡ true → effect world session request ≡ None
 query_none world session (span_set document) query = refl
 query_none world session (whole_span document) query = refl
 query_none world session (retrieve specs) query = refl

@@ -26,8 +26,8 @@ pub record ImagesHave (disk : DiskState) (fact : Areas → Type 0) : Type 0 wher
   pub told : IsSome disk.reads
   pub each : (image : Areas) → images_now disk image → fact image
 
--- These bytes were written behind the closed gate of the second area, and are not synced: they are read there, and an image has any
--- bytes in their place.
+-- These bytes were written behind the closed gate of the second area, and are not synced: they are read there, and an
+-- image has any bytes in their place.
 pub record IsWriting (disk : DiskState) (log written : List ℕ) : Type 0 where
   pub reads : AsRead disk.reads (InSecond (IsThat (0 ∷ written)))
   pub images : ImagesHave disk (Beside log BeginsShut)
@@ -36,7 +36,8 @@ pub record IsWriting (disk : DiskState) (log written : List ℕ) : Type 0 where
 abbrev pub IsEmptied : List ℕ → List ℕ → Type 0
 IsEmptied old new = new ≡ []
 
--- What opening makes of what the disk reads up to its last step: the log is in the second area, and that of before as it was.
+-- What opening makes of what the disk reads up to its last step: the log is in the second area, and the area of before is
+-- as it was.
 pub record IsMovedBeside (read : LogFormat) (rows : List PlainLogged) (old new : Areas) : Type 0 where
   pub log : new.log ≡ old.log
   pub second : IsSecondAfter read rows old.second new.second

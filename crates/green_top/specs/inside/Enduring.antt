@@ -9,6 +9,7 @@ use Rattle.world_rules.specs.Legal.{Exchange}
 use Rattle.green_store.specs.Durable.{Keeps}
 use Rattle.green_store.specs.StoreView.{StoreView}
 use Rattle.green_top.specs.Crash.{HoldsFront, WasMade}
+use Rattle.green_top.specs.declared.session_end.SessionEnd.{SessionEnd}
 use Rattle.green_top.specs.Times.{Coming, GivenBy, RunStep, TimedStep, steps_in, moments_in, exchanges_of, moments_kept, AreStepsOf, AreTends}
 
 -- no edit is pending; or one that a request of these steps made, and that was refused when the disk failed
@@ -40,10 +41,10 @@ pub record Endures (limits : LimitsView) (session : ℕ) (steps : List TimedStep
   pub stands : (earlier : List TimedStep) (least faults_before : ℕ) → least ≤ length store.history → StandsOn limits session earlier least faults_before disk store faults
       → StandsOn limits session (earlier ++ steps) least faults_before after_disk after after_faults
 
--- A session was served in these exchanges, by its steps and those behind it, each at its own answer of the clock.
-pub record RunsThrough (limits : LimitsView) (next session : ℕ) (exchanges : List Exchange) (behind : List RunStep) (coming coming' : Coming) (disk : DiskState) (store : StoreView) (faults : ℕ) (after_disk : DiskState) (after : StoreView) (after_faults : ℕ) : Type 0 where
+-- A session was served in these exchanges up to this end, by its steps and those behind it, each at its own answer of the clock.
+pub record RunsThrough (end : SessionEnd) (limits : LimitsView) (next session : ℕ) (exchanges : List Exchange) (behind : List RunStep) (coming coming' : Coming) (disk : DiskState) (store : StoreView) (faults : ℕ) (after_disk : DiskState) (after : StoreView) (after_faults : ℕ) : Type 0 where
   pub steps : List TimedStep
-  pub steps_are : AreStepsOf session exchanges behind (steps_in steps)
+  pub steps_are : AreStepsOf end session exchanges behind (steps_in steps)
   pub exchanges_are : exchanges ≡ exchanges_of steps
   pub given : GivenBy (moments_in steps) coming coming'
   pub endures : Endures limits next steps disk store faults after_disk after after_faults

@@ -6,7 +6,7 @@ use Rattle.green_top.specs.declared.words.Form.TheVariants as forms
 use Rattle.febe_data.specs.Plain.{PlainEntry}
 use Rattle.world_rules.specs.Legal.{Exchange}
 use Rattle.green_top.specs.declared.session_end.SessionEnd.{SessionEnd}
-use Rattle.green_top.specs.GeneratedRun.{IsGeneratedRun}
+use Rattle.green_top.specs.GeneratedRun.{IsGeneratedRun, inner_end}
 use Rattle.green_top.specs.IoState.{IoState}
 use Rattle.green_top.specs.Outcome.{IsRun}
 use Rattle.green_top.specs.Times.{RunStep, AreTends}
@@ -31,6 +31,11 @@ IsFormRun (forms.Generate start) session before after history exchanges points b
 abbrev pub IsGenerated : Form → Type 0
 IsGenerated (forms.Session limits) = ⊥
 IsGenerated (forms.Generate start) = Unit {0}
+
+-- how the session itself ended, in a run of this form that ended so
+abbrev pub own_end : Form → SessionEnd → SessionEnd
+own_end (forms.Session limits) end = end
+own_end (forms.Generate start) end = inner_end end
 
 -- what is done behind the session: nothing; or, behind one that was generated, trees and pages are put right
 abbrev pub IsBehind : Form → List RunStep → Type 0

@@ -6,7 +6,9 @@ use Rattle.world_rules.specs.History.{is_live, entries_of}
 use Rattle.world_rules.specs.Legal.{IsLegal, Exchange}
 use Rattle.green_store.specs.Sessions.{greatest_session, begin_entry, end_entry}
 use Rattle.green_top.specs.Ends.{AllNumbersTaken}
-use Rattle.green_top.specs.Times.{Coming}
+use Rattle.green_top.specs.Times.{Coming, begin_step, CutsShort, WithoutSession}
+use Rattle.green_top.specs.declared.exchange.Closing.{Closing}
+use Rattle.green_top.specs.declared.session_end.SessionEnd.{SessionEnd}
 use Rattle.green_top.specs.declared.plays.Beginning.{Beginning}
 use Rattle.green_top.specs.declared.plays.Beginning.TheVariants as beginnings
 
@@ -63,15 +65,20 @@ module _ {F S : Type 0} (Tells : F → S → Coming → Exchange → F → S →
       ((exchanges ≡ []) × (first' ≡ first) × (second' ≡ second) × (coming' ≡ coming))
       ⊎ ((exchange : Exchange) × (exchanges ≡ exchange ∷ []) × Tells first second coming exchange first' second' coming')
 
+-- all is done behind the last exchange of a session that ended so, or its reply could not be written
+abbrev pub IsDoneAt : SessionEnd → (done : Bool) → Type 0
+IsDoneAt end true = Unit {0}
+IsDoneAt end false = CutsShort end
+
 module _ {F S : Type 0} (Tells : F → S → Coming → Exchange → F → S → Coming → Type 0) (Tended : F → S → Coming → F → S → Coming → Type 0) where
-  -- such a chain leads there, whether all is done behind the last exchange or not
-  abbrev pub Leads : F → S → Coming → List Exchange → F → S → Coming → Type 0
-  Leads first second coming exchanges first' second' coming' = (done : Bool) × Chain Tells Tended first second coming exchanges done first' second' coming'
+  -- such a chain leads to this end, and all is done behind the last exchange, unless its reply could not be written
+  abbrev pub Leads : SessionEnd → F → S → Coming → List Exchange → F → S → Coming → Type 0
+  Leads end first second coming exchanges first' second' coming' = (done : Bool) × IsDoneAt end done × Chain Tells Tended first second coming exchanges done first' second' coming'
 
   -- and where nothing ends the conversation, all is done
-  abbrev pub LeadsOn : {T : Type 0} → Option T → F → S → Coming → List Exchange → F → S → Coming → Type 0
+  abbrev pub LeadsOn : Option Closing → F → S → Coming → List Exchange → F → S → Coming → Type 0
   LeadsOn None first second coming exchanges first' second' coming' = Chain Tells Tended first second coming exchanges true first' second' coming'
-  LeadsOn (Some closing) first second coming exchanges first' second' coming' = Leads first second coming exchanges first' second' coming'
+  LeadsOn (Some closing) first second coming exchanges first' second' coming' = Leads closing.end first second coming exchanges first' second' coming'
 
 module _ {F S : Type 0} (seen : F → S → List PlainEntry) (number : F → ℕ) (Begun : F → S → Coming → F → S → Coming → Type 0) (Tells : F → S → Coming → Exchange → F → S → Coming → Type 0) (Tended Ended : F → S → Coming → F → S → Coming → Type 0) where
   -- Where the session was still live, it was ended; else nothing more was done.
@@ -80,8 +87,8 @@ module _ {F S : Type 0} (seen : F → S → List PlainEntry) (number : F → ℕ
       ((is_live (seen first second) (number first) ≡ true) × Ended first second coming first' second' coming')
       ⊎ ((is_live (seen first second) (number first) ≡ false) × (first' ≡ first) × (second' ≡ second) × (coming' ≡ coming))
 
-  -- a session was played: it began, these exchanges followed, and it was ended where it was still live
-  pub record IsSat (first : F) (second : S) (coming : Coming) (exchanges : List Exchange) (first' : F) (second' : S) (coming' : Coming) : Type 0 where
+  -- a session was played up to this end: it began, these exchanges followed, and it was ended where it was still live
+  pub record IsSat (end : SessionEnd) (first : F) (second : S) (coming : Coming) (exchanges : List Exchange) (first' : F) (second' : S) (coming' : Coming) : Type 0 where
     pub begun : F
     pub begun' : S
     pub coming_begun : Coming
@@ -89,30 +96,33 @@ module _ {F S : Type 0} (seen : F → S → List PlainEntry) (number : F → ℕ
     pub left' : S
     pub coming_left : Coming
     pub done : Bool
+    pub is_done_at : IsDoneAt end done
     pub begins : Begun first second coming begun begun' coming_begun
     pub numbered : number begun ≢ 0
     pub chain : Chain Tells Tended begun begun' coming_begun exchanges done left left' coming_left
     pub last : IsLast left left' coming_left first' second' coming'
 
-  -- a Begin was made, and no session came of it
-  pub record DidNotBegin (first : F) (second : S) (coming : Coming) (exchanges : List Exchange) (first' : F) (second' : S) (coming' : Coming) : Type 0 where
+  -- a Begin was made, and no session came of it, for a reason that this end tells
+  pub record DidNotBegin (end : SessionEnd) (first : F) (second : S) (coming : Coming) (exchanges : List Exchange) (first' : F) (second' : S) (coming' : Coming) : Type 0 where
     pub none_answered : exchanges ≡ []
     pub unnumbered : number first' ≡ 0
+    pub only_begin : WithoutSession end (begin_step ∷ [])
     pub begins : Begun first second coming first' second' coming'
 
-  -- no Begin was made, and nothing else: the clock was not asked
-  pub record IsUntouched (first : F) (second : S) (coming : Coming) (exchanges : List Exchange) (first' : F) (second' : S) (coming' : Coming) : Type 0 where
+  -- no Begin was made before this end, and nothing else: the clock was not asked
+  pub record IsUntouched (end : SessionEnd) (first : F) (second : S) (coming : Coming) (exchanges : List Exchange) (first' : F) (second' : S) (coming' : Coming) : Type 0 where
     pub none_answered : exchanges ≡ []
+    pub no_step : WithoutSession end []
     pub first_stays : first' ≡ first
     pub second_stays : second' ≡ second
     pub coming_stays : coming' ≡ coming
 
-  -- what was done of a session once it was greeted
-  abbrev pub HasSat : F → S → Coming → List Exchange → F → S → Coming → Type 0
-  HasSat first second coming exchanges first' second' coming' =
-      DidNotBegin first second coming exchanges first' second' coming' ⊎ IsSat first second coming exchanges first' second' coming'
+  -- what was done of a session that ended so, once it was greeted
+  abbrev pub HasSat : SessionEnd → F → S → Coming → List Exchange → F → S → Coming → Type 0
+  HasSat end first second coming exchanges first' second' coming' =
+      DidNotBegin end first second coming exchanges first' second' coming' ⊎ IsSat end first second coming exchanges first' second' coming'
 
   -- and in all
-  abbrev pub HasServed : F → S → Coming → List Exchange → F → S → Coming → Type 0
-  HasServed first second coming exchanges first' second' coming' =
-      IsUntouched first second coming exchanges first' second' coming' ⊎ HasSat first second coming exchanges first' second' coming'
+  abbrev pub HasServed : SessionEnd → F → S → Coming → List Exchange → F → S → Coming → Type 0
+  HasServed end first second coming exchanges first' second' coming' =
+      IsUntouched end first second coming exchanges first' second' coming' ⊎ HasSat end first second coming exchanges first' second' coming'

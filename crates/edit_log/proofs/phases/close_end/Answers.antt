@@ -1,8 +1,8 @@
 -- A gate that is 0 stays as it is; another may have any byte until it is written.
-use Rattle.std.proofs.Common.{[], ◌∷◌, ◌++◌, refl, sym, ◌∙◌, subst}
+use Rattle.std.proofs.Common.{[], ◌∷◌, ◌++◌, sym, ◌∙◌, subst}
 use Rattle.green_io.specs.declared.disk.Area.TheVariants as area
-use Rattle.green_io.specs.Areas.{is_logged}
-use Rattle.green_io.proofs.Beside.{untouched_others, area_others}
+use Rattle.green_io.specs.Areas.{is_same}
+use Rattle.green_io.proofs.Beside.{untouched_others}
 use Rattle.green_io.specs.Disk.{Torn, Written}
 use Rattle.edit_log.specs.Images.{IsShut}
 use Rattle.edit_log.specs.inside.Ends.{IsThat, HasTornGate}
@@ -38,7 +38,4 @@ returns-clause-reads g c front at =
     written_reads c.write_and_sync.result front c.args.end.now c.args.at (g.D.Disk.state c.args.disk.now).reads (g.D.Disk.state c.write_and_sync.new.disk).reads at c.write_and_sync.ensures.written
 
 pub returns-then-is_closed-clause-others : goal.returns-then-is_closed-clause-others
-returns-then-is_closed-clause-others g c = untouched_others is_logged (g.D.Disk.state c.args.disk.now)
-
-pub returns-clause-others : goal.returns-clause-others
-returns-clause-others g c = area_others area.Second is_logged _ _ refl c.write_and_sync.ensures.others
+returns-then-is_closed-clause-others g c = untouched_others (is_same area.Second) (g.D.Disk.state c.args.disk.now)

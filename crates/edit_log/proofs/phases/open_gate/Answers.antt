@@ -1,9 +1,6 @@
 -- The gate may have any byte until it is written, and then it is 1, and the body behind it is in the log.
 use Rattle.std.proofs.Common.{[], ◌∷◌, ◌++◌, refl, subst}
-use Rattle.green_io.specs.declared.disk.Area.TheVariants as area
-use Rattle.green_io.specs.Areas.{is_logged}
 use Rattle.green_io.specs.Disk.{Torn, Written}
-use Rattle.green_io.proofs.Beside.{area_others}
 use Rattle.edit_log.specs.Images.{IsShut, IsAjar}
 use Rattle.edit_log.proofs.Answering.{on_ok, on_err}
 use Rattle.edit_log.proofs.Parts.{torn_ajar, written_open}
@@ -25,6 +22,3 @@ returns-clause-opened g c front body images =
 pub returns-clause-ajar : goal.returns-clause-ajar
 returns-clause-ajar g c front body images =
     on_err _ _ (kept_images _ _ _ front (IsAjar front body) (g.met.D.Disk.is_disk c.write_and_sync.new.disk) images c.write_and_sync.ensures.told (returns-clause-any_moment g c front body images))
-
-pub returns-clause-others : goal.returns-clause-others
-returns-clause-others g c = area_others area.Second is_logged _ _ refl c.write_and_sync.ensures.others

@@ -1,9 +1,6 @@
 -- The byte 0 stays in front of what is written, and is where the body is then found.
 use Rattle.std.proofs.Common.{◌≡◌, ◌+◌, length, refl, subst, arith}
-use Rattle.green_io.specs.declared.disk.Area.TheVariants as area
-use Rattle.green_io.specs.Areas.{is_logged}
 use Rattle.green_io.specs.Disk.{Torn, Written}
-use Rattle.green_io.proofs.Beside.{area_others}
 use Rattle.edit_log.specs.Images.{IsShut, IsAjar}
 use Rattle.edit_log.proofs.Answering.{on_ok, on_err}
 use Rattle.edit_log.proofs.Parts.{torn_shut, written_ajar}
@@ -27,6 +24,3 @@ returns-clause-staged g c front body parts small images =
 pub returns-clause-shut : goal.returns-clause-shut
 returns-clause-shut g c front body parts small images =
     on_err _ _ (kept_images _ _ _ front (IsShut front) (g.met.D.Disk.is_disk c.write_and_sync.new.disk) images c.write_and_sync.ensures.told (returns-clause-any_moment g c front body parts small images))
-
-pub returns-clause-others : goal.returns-clause-others
-returns-clause-others g c = area_others area.Second is_logged _ _ refl c.write_and_sync.ensures.others

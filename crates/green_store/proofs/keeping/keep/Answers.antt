@@ -1,5 +1,6 @@
 use Rattle.std.proofs.Common.{◌≡◌, ap}
-use Rattle.green_io.specs.Areas.{is_logged}
+use Rattle.green_io.specs.declared.disk.Area.TheVariants.{Second}
+use Rattle.green_io.specs.Areas.{is_same}
 use Rattle.green_io.proofs.Beside.{then_others}
 use Rattle.edit_log.specs.declared.pending.Pending.TheVariants.{Nothing}
 use Rattle.green_store.proofs.Mended.{mend_leaves, mend_opens, append_leaves, append_pends, not_gated, on_failed}
@@ -38,4 +39,4 @@ returns-clause-pending g c rows pending row may has =
 
 pub returns-clause-others : goal.returns-clause-others
 returns-clause-others g c =
-    then_others is_logged (g.D.Disk.state c.args.disk.now) (g.D.Disk.state c.mend.new.disk) (g.D.Disk.state c.append.new.disk) (g.met.D.Disk.is_disk c.mend.new.disk) c.mend.ensures.others c.append.ensures.others
+    then_others (is_same Second) (g.D.Disk.state c.args.disk.now) (g.D.Disk.state c.mend.new.disk) (g.D.Disk.state c.append.new.disk) (g.met.D.Disk.is_disk c.mend.new.disk) c.mend.ensures.others c.append.ensures.others

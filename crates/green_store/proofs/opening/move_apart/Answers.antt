@@ -1,5 +1,5 @@
 -- The entry of the next row goes behind those before it, and so does its moment.
-use Rattle.std.proofs.Common.{◌+◌, ◌<◌, length, arith}
+use Rattle.std.proofs.Common.{◌<◌, length, arith}
 use Rattle.green_store.proofs.Rows.{entry_moved, moment_moved, rest_stays}
 use Rattle.green_store.proofs.opening.move_apart.Goals as goal
 

@@ -22,7 +22,7 @@ returns-in-NoNumber-clause-session g c =
     let none = c.in-NoNumber.ensures in (
       [],
       did_not_begin _ _ ends.NoNumber _ _ _ c.requires.greeted c.requires.no_points none.begins.0 none.never_falls (none.begins.1, (c.args.talk.now.feed.held ++ [], append_assoc greeting c.args.talk.now.feed.held [])) tt,
-      inl (record { none_answered = refl; unnumbered = none.begins.0; begins = none.begun }),
+      inl (record { none_answered = refl; unnumbered = none.begins.0; only_begin = refl; begins = none.begun }),
     )
 
 pub returns-in-Memory-clause-session : goal.returns-in-Memory-clause-session
@@ -30,7 +30,7 @@ returns-in-Memory-clause-session g c =
     let none = c.in-Memory.ensures in (
       [],
       did_not_begin _ _ ends.Memory _ _ _ c.requires.greeted c.requires.no_points none.begins none.never_falls tt tt,
-      inl (record { none_answered = refl; unnumbered = none.begins; begins = none.begun }),
+      inl (record { none_answered = refl; unnumbered = none.begins; only_begin = inr refl; begins = none.begun }),
     )
 
 pub returns-then-over-clause-session : goal.returns-then-over-clause-session
@@ -53,9 +53,10 @@ returns-then-over-clause-session g c =
         left' = c.converse-end.new.second;
         coming_left = g.C.Clock.coming c.converse-end.new.clock;
         done = conv.conversed.2.0;
+        is_done_at = conv.conversed.2.1;
         begins = begun.begun;
         numbered = is_numbered _ _ _ begun.begins;
-        chain = conv.conversed.2.1;
+        chain = conv.conversed.2.2;
         last = inr (conv.live ∙ dead, refl, refl, refl);
       }),
     )
@@ -81,9 +82,10 @@ returns-clause-session g c =
         left' = c.converse-end.new.second;
         coming_left = g.C.Clock.coming c.converse-end.new.clock;
         done = conv.conversed.2.0;
+        is_done_at = conv.conversed.2.1;
         begins = begun.begun;
         numbered = is_numbered _ _ _ begun.begins;
-        chain = conv.conversed.2.1;
+        chain = conv.conversed.2.2;
         last = inl (conv.live ∙ alive, c.end.ensures.ended);
       }),
     )

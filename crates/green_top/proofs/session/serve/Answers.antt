@@ -1,9 +1,9 @@
 use Rattle.std.proofs.Common.{[], inl, inr, refl}
-use Rattle.green_top.proofs.EndedSessions.{greets, runs, runs_nothing}
+use Rattle.green_top.proofs.EndedSessions.{greets, runs, runs_nothing, no_step}
 use Rattle.green_top.proofs.session.serve.Goals as goal
 
 pub returns-in-Err-clause-run : goal.returns-in-Err-clause-run
-returns-in-Err-clause-run g c = ([], runs_nothing _ _ c.requires.unnumbered _ _ _ _ _ _ _ _ _ _ _ c.new-feed.ensures c.new-turns.ensures _ _ _ c.in-Err.end c.new-points.ensures.items c.taken-bytes_read.ensures c.in-Err.ensures.next, inl (record { none_answered = refl; first_stays = refl; second_stays = refl; coming_stays = refl }))
+returns-in-Err-clause-run g c = ([], runs_nothing _ _ c.requires.unnumbered _ _ _ _ _ _ _ _ _ _ _ c.new-feed.ensures c.new-turns.ensures _ _ _ c.in-Err.end c.new-points.ensures.items c.taken-bytes_read.ensures c.in-Err.ensures.next, inl (record { none_answered = refl; no_step = no_step _ _ c.in-Err.end c.in-Err.ensures.next; first_stays = refl; second_stays = refl; coming_stays = refl }))
 
 pub returns-clause-run : goal.returns-clause-run
 returns-clause-run g c =

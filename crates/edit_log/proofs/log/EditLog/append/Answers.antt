@@ -1,6 +1,7 @@
 -- While the body is written the log has what it had; from then on, whatever byte the gate is, with the body or without.
 use Rattle.std.proofs.Common.{refl, sym, ◌∙◌, subst}
-use Rattle.green_io.specs.Areas.{is_logged}
+use Rattle.green_io.specs.declared.disk.Area.TheVariants as area
+use Rattle.green_io.specs.Areas.{is_same}
 use Rattle.green_io.proofs.Beside.{then_others}
 use Rattle.edit_log.specs.Images.{IsOpen, IsAppendable}
 use Rattle.edit_log.specs.Second.{front_of}
@@ -68,8 +69,8 @@ returns-clause-done g c rows row appendable opened =
 
 pub returns-in_default-open_gate-clause-others : goal.returns-in_default-open_gate-clause-others
 returns-in_default-open_gate-clause-others g c =
-    then_others is_logged _ _ _ (g.met.D.Disk.is_disk c.stage.new.disk) c.in-Ok.ensures.others c.in_default-open_gate.ensures.others
+    then_others (is_same area.Second) _ _ _ (g.met.D.Disk.is_disk c.stage.new.disk) c.in-Ok.ensures.others c.in_default-open_gate.ensures.others
 
 pub returns-clause-others : goal.returns-clause-others
 returns-clause-others g c =
-    then_others is_logged _ _ _ (g.met.D.Disk.is_disk c.stage.new.disk) c.in-Ok.ensures.others c.in-Ok-open_gate.ensures.others
+    then_others (is_same area.Second) _ _ _ (g.met.D.Disk.is_disk c.stage.new.disk) c.in-Ok.ensures.others c.in-Ok-open_gate.ensures.others

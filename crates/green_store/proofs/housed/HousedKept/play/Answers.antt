@@ -3,7 +3,8 @@ use Rattle.world_rules.specs.History.{is_live, durable_entries}
 use Rattle.green_store.specs.Durable.{has_risen}
 use Rattle.green_store.specs.HousedView.{HousedView}
 use Rattle.green_store.specs.IsStep.{IsStep, UnlessTended, OnTended, unsaved}
-use Rattle.green_io.specs.Areas.{is_logged}
+use Rattle.green_io.specs.declared.disk.Area.TheVariants.{Second}
+use Rattle.green_io.specs.Areas.{is_same}
 use Rattle.green_io.specs.Disk.{LeavesOnly, LeavesBut}
 use Rattle.green_io.proofs.Beside.{untouched_others}
 use Rattle.green_io.proofs.Crash.{none_called}
@@ -36,7 +37,7 @@ pub returns-clause-pages_any_moment : goal.returns-clause-pages_any_moment
 returns-clause-pages_any_moment g c = c.step-answer.ensures.pages_any_moment
 
 pub returns-clause-others : goal.returns-clause-others
-returns-clause-others g c = subst (λ s. UnlessTended s (LeavesBut is_logged (g.D.Disk.state c.args.self.now.disk) (g.D.Disk.state c.step-answer.new.self.disk))) c.in-Some.ensures.0 c.step-answer.ensures.others
+returns-clause-others g c = subst (λ s. UnlessTended s (LeavesBut (is_same Second) (g.D.Disk.state c.args.self.now.disk) (g.D.Disk.state c.step-answer.new.self.disk))) c.in-Some.ensures.0 c.step-answer.ensures.others
 
 pub returns-clause-log : goal.returns-clause-log
 returns-clause-log g c = subst (λ s. OnTended s (LeavesBut is_paged (g.D.Disk.state c.args.self.now.disk) (g.D.Disk.state c.step-answer.new.self.disk))) c.in-Some.ensures.0 c.step-answer.ensures.log
@@ -52,7 +53,7 @@ returns-in_default-clause-pages_any_moment g c was now paged =
 pub returns-in_default-clause-others : goal.returns-in_default-clause-others
 returns-in_default-clause-others g c =
     let old = g.D.Disk.state c.args.self.now.disk in
-    unless_tended (step_for c.args.number c.args.job.job) (subst (λ (h : HousedView _). LeavesBut is_logged old (g.D.Disk.state h.disk)) (sym c.self.view_is) (untouched_others is_logged old))
+    unless_tended (step_for c.args.number c.args.job.job) (subst (λ (h : HousedView _). LeavesBut (is_same Second) old (g.D.Disk.state h.disk)) (sym c.self.view_is) (untouched_others (is_same Second) old))
 
 pub returns-in_default-clause-log : goal.returns-in_default-clause-log
 returns-in_default-clause-log g c =

@@ -7,6 +7,7 @@ use Rattle.world_rules.specs.History.{durable_entries, is_durable}
 use Rattle.world_rules.specs.Legal.{entry_after}
 use Rattle.world_rules.specs.PlainEffect.{plain_effect}
 use Rattle.world_rules.proofs.Placed.{served_is_placed}
+use Rattle.world_laws.proofs.Isolated.{query_none}
 use Rattle.entry_fits.specs.Laws.{IsRegular}
 use Rattle.green_store.specs.Durable.{has_risen, IsDurableEntry}
 use Rattle.green_store.specs.StoreView.{StoreView}
@@ -136,3 +137,13 @@ returns-in-Changed-2-clause-grown g c =
 pub returns-in-Changed-2-clause-pages : goal.returns-in-Changed-2-clause-pages
 returns-in-Changed-2-clause-pages g c =
     made_pages c.args.self.now c.make.new.self c.make.result (entry_after c.args.self.now.history c.args.session (plain_effect c.in-Changed.made)) c.make.ensures.ok c.make.ensures.err
+
+pub returns-in-Changed-clause-query : goal.returns-in-Changed-clause-query
+returns-in-Changed-clause-query g c query =
+    let here = (goal.at.returns-in-Changed-clause-query g c).In_ok-refusal in
+    let view = view_of (plain_history c.self.inside.history.items) in
+    let request = plain_request c.args.request.now in
+    let served = rw c.in-Changed.is at (c.in_ok-refusal.ensures.served view c.self.invariant.world_stands) in
+    let made = effect_here c.args.self.now c.self.inside.limits view c.args.session request true c.requires.live (limits_are g here) (world_is g here) c.in-Changed.made served in
+    let none = query_none (world_of c.args.self.now.history) c.args.session request query in
+    absurd (cc (none, made))

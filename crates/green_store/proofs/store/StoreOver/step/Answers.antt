@@ -1,5 +1,8 @@
-use Rattle.std.proofs.Common.{true, sym, subst}
+use Rattle.std.proofs.Common.{true, refl, sym, subst}
+use Rattle.green_io.specs.declared.disk.Area.TheVariants.{Second}
+use Rattle.green_io.specs.Areas.{is_logged}
 use Rattle.green_io.specs.Disk.{LeavesOnly}
+use Rattle.green_io.proofs.Beside.{area_others}
 use Rattle.green_store.specs.declared.step.Step.{Step}
 use Rattle.green_store.specs.declared.step.Step.TheVariants as steps
 use Rattle.green_store.specs.Durable.{has_risen, HoldsStep, IsDurableRowOf, IsRefusedForDisk}
@@ -47,11 +50,11 @@ pub returns-in-Ask-clause-pages : goal.returns-in-Ask-clause-pages
 returns-in-Ask-clause-pages g c has =
     let rose = has_risen (g.D.Disk.fault_count c.args.disk.now) (g.D.Disk.fault_count c.ask.new.disk) in
     let keeps = not_tended c.args.self.now c.ask.new.self (steps.Ask c.in-Ask.session c.in-Ask.request) c.ask.result rose c.ask.ensures.step in
-    kept_paged (g.D.Disk.state c.args.disk.now) (g.D.Disk.state c.ask.new.disk) c.args.self.now c.ask.new.self (g.met.D.Disk.is_disk c.ask.new.disk) c.ask.ensures.others keeps has
+    kept_paged (g.D.Disk.state c.args.disk.now) (g.D.Disk.state c.ask.new.disk) c.args.self.now c.ask.new.self (g.met.D.Disk.is_disk c.ask.new.disk) (area_others Second is_logged _ _ refl c.ask.ensures.others) keeps has
 
 pub returns-in-Ask-clause-pages_any_moment : goal.returns-in-Ask-clause-pages_any_moment
 returns-in-Ask-clause-pages_any_moment g c was now paged =
-    log_leaves (g.D.Disk.state c.args.disk.now) (g.D.Disk.state c.ask.new.disk) c.args.self.now was now (durable_entries c.args.self.now.history) c.ask.ensures.others paged
+    log_leaves (g.D.Disk.state c.args.disk.now) (g.D.Disk.state c.ask.new.disk) c.args.self.now was now (durable_entries c.args.self.now.history) (area_others Second is_logged _ _ refl c.ask.ensures.others) paged
 
 pub returns-in-Ask-clause-flushed : goal.returns-in-Ask-clause-flushed
 returns-in-Ask-clause-flushed g c =
