@@ -26,7 +26,7 @@ first_axis w = record { coordinate = λ row. row.first; width = w.first; strict 
 abbrev pub second_axis : {L : Type 0} → Widths L → Axis L
 second_axis w = record { coordinate = λ row. row.second; width = w.second; strict = w.second_strict; origin = λ branch. branch.second; extent = λ branch. branch.second_extent }
 
--- where an axis is strict, the row's width is not zero and has as many places as the row's coordinate
+-- on a strict axis no width is zero, and each is as long as its row's coordinate
 abbrev pub IsProperOn : {L : Type 0} → Axis L → Row L → Type 0
 IsProperOn axis row = IsTrue axis.strict → (axis.width row ≢ []) × (length (axis.width row) ≡ length (axis.coordinate row))
 

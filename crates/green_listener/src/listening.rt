@@ -145,7 +145,7 @@ fn serve_beside_rounds<
 }
 
 /// Serves a listener as [`serve_listener`] does, beside a thread that makes background rounds until the sessions have ended.
-/// Where that thread could not be started, a round follows each session.
+/// If the system gives it no such thread, it makes a round itself behind each session.
 pub fn serve_with_rounds<
     R: Threads + Wait + Clock + MakeClock + Log + Sync,
     D: Disk + Send + Sync,
