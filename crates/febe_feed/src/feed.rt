@@ -21,8 +21,8 @@ pub enum Next {
     Bad { at: u64 },
 }
 
-/// A stream of bytes that comes in pieces: the greeting, and then requests. It does not judge quit: later bytes are
-/// requests to it.
+/// A stream of bytes that comes in pieces: the greeting, and then requests. Quit is a request like any other
+/// here: what follows it is read too.
 ///
 /// Each byte is looked at a bounded number of times, however the stream is cut, and bytes that were given out are let go.
 #[derive(Debug, Drop)]

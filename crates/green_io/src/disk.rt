@@ -47,7 +47,7 @@ pub trait Disk {
         ensures failed { OnErr result (HasRisen (fault_count self.old) (fault_count self.new)) };
 
     /// Reads some bytes of the area from `at` on into the front of `into`, as many as the disk likes to give at once.
-    /// The end comes exactly where `at` is not below the area's length.
+    /// It answers the end where nothing of the area is left from `at` on, and nowhere else.
     fn read(&mut self, area: Area, at: u64, into: &mut [u8]) -> ReadAnswer
         requires { 0 < length into.old }
         ensures within { IsWithin result into.new }
